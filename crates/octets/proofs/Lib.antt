@@ -1,0 +1,5 @@
+pub mod Choice
+pub mod Octet
+pub mod Bits
+pub mod First
+pub mod Splice

@@ -1,0 +1,63 @@
+-- A fact of every octet, by one test that is computed at each of the 256.
+use Prim.Native.Nat.{ℕ, zero, suc, _<_, _+_}
+use mathlib.Core.Path.{_≡_, refl, subst, sym}
+use mathlib.Core.Bool.{Bool, true, false, false≢true, not, _&&_, _||_, Bool·beq}
+use mathlib.Core.List.{List}
+use mathlib.Core.Logic.{⊎-elim}
+use native.Mathlib.Nat.{eq-or-lt-of-le, le-of-suc-le-suc, not-suc-le-zero}
+use lib.Dec.{T, eqb, eqb→eq}
+use lib.ListN.{drop}
+use lib.Seq.{getD-drop}
+use Rattle.octets.specs.Octet.{Octets}
+use Rattle.octets.proofs.Choice.{so}
+
+-- the test passes at every number below n
+abbrev every : (ℕ → Bool) → ℕ → Bool
+every f zero = true
+every f (suc n) = f n && every f n
+
+left : (a b : Bool) → T (a && b) → T a
+left true b t = tt
+left false b t = t
+
+right : (a b : Bool) → T (a && b) → T b
+right true b t = t
+right false b t = absurd t
+
+below : (f : ℕ → Bool) (n : ℕ) → T (every f n) → (k : ℕ) → k < n → T (f k)
+below f zero t k h = absurd (not-suc-le-zero h)
+below f (suc n) t k h =
+    ⊎-elim
+    (λ e. subst (λ (m : ℕ). T (f m)) (sym e) (left (f n) (every f n) t))
+    (λ l. below f n (right (f n) (every f n) t) k l)
+    (eq-or-lt-of-le (le-of-suc-le-suc h))
+
+-- a test that passes at each of the 256: `octet-test f tt b h`
+pub octet-test : (f : ℕ → Bool) → T (every f 256) → (b : ℕ) → b < 256 → T (f b)
+octet-test f t b h = below f 256 t b h
+
+-- two functions agree at every octet: `octet-same f g tt b h`
+pub octet-same : (f g : ℕ → ℕ) → T (every (λ n. eqb (f n) (g n)) 256) → (b : ℕ) → b < 256 → f b ≡ g b
+octet-same f g t b h = eqb→eq (f b) (g b) (octet-test (λ n. eqb (f n) (g n)) t b h)
+
+-- two tests agree at every octet
+pub octet-agree : (f g : ℕ → Bool) → T (every (λ n. Bool·beq (f n) (g n)) 256) → (b : ℕ) → b < 256 → f b ≡ g b
+octet-agree f g t b h = agree (f b) (g b) (octet-test (λ n. Bool·beq (f n) (g n)) t b h)
+  where
+    agree : (x y : Bool) → T (Bool·beq x y) → x ≡ y
+    agree true true t = refl
+    agree true false t = absurd t
+    agree false true t = absurd t
+    agree false false t = refl
+
+-- wherever the one test passes, the other does
+pub octet-where : (f g : ℕ → Bool) → T (every (λ n. not (f n) || g n) 256) → (b : ℕ) → b < 256 → f b ≡ true → g b ≡ true
+octet-where f g t b h e = follows (f b) (g b) (octet-test (λ n. not (f n) || g n) t b h) e
+  where
+    follows : (x y : Bool) → T (not x || y) → x ≡ true → y ≡ true
+    follows true y t e = so y t
+    follows false y t e = absurd (false≢true e)
+
+-- what is left of octets is octets
+pub octets-drop : (s : List ℕ) (n : ℕ) → Octets s → Octets (drop n s)
+octets-drop s n o k = rw getD-drop (o (n + k))

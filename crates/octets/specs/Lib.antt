@@ -1,0 +1,3 @@
+pub mod Octet
+pub mod First
+pub mod Splice
