@@ -54,7 +54,7 @@ impl ProtocolIdentifier {
         ensures { λ r. ⌜ r ≡ octetOf self ⌝ }
     {
         match self {
-            // One octet stands for the whole class: docs/DIFFERENCES.md, 6.
+            // One octet stands for the whole class: docs/DIFFERENCES.md, A6.
             ProtocolIdentifier::Layer3Impl => 0b0001_0000,
             ProtocolIdentifier::X25Plp => 0x01,
             ProtocolIdentifier::CompressedTcpIp => 0x06,
