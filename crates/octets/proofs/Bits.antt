@@ -7,13 +7,19 @@ use native.Mathlib.Numerals.{one-add}
 use native.Mathlib.Omega.{arith}
 use borrow.Author.Tests.{ne-eqb}
 use lib.Dec.{eqb}
-use lib.Bits.{bitAnd, and-high}
+use lib.Bits.{bitAnd, and-high, and-mask}
 use lib.Pow.{pow-pos, shl-shr}
 use Rattle.octets.specs.Octet.{field, bit, flag}
 
 -- `(b & mask) >> low`, the mask a run of `width` ones from bit `low` on: `field-mask b 5 3 : bitAnd b 0xE0 / 32 ≡ field 5 3 b`
 pub field-mask : (b low width : ℕ) → bitAnd b (2 ^ (width + low) - 2 ^ low) / 2 ^ low ≡ field low width b
 field-mask b low width = rw (and-high b width low) (shl-shr (field low width b) low)
+
+-- `b & mask`, the mask the low `width` bits
+pub low-mask : (b width : ℕ) → bitAnd b (2 ^ width - 1) ≡ field 0 width b
+low-mask b width =
+    let whole : b ≡ b / 2 ^ 0 = omega arith in
+    and-mask b width ∙ ap (λ (n : ℕ). n % 2 ^ width) whole
 
 -- `b & mask`, the mask one bit: the bit alone
 pub bit-mask : (b k : ℕ) → bitAnd b (2 ^ k) ≡ flag k (bit k b)

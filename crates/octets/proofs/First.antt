@@ -1,13 +1,15 @@
 -- Laws of the first element that passes: what a search finds, what it goes past, and how a loop comes to it.
 use Prim.Native.Nat.{ℕ, zero, suc, _+_, _≤_, _<_}
 use mathlib.Core.Path.{_≡_, refl, ap, _∙_}
-use mathlib.Core.Bool.{Bool, true, false, cond}
+use mathlib.Core.Bool.{Bool, true, false, cond, not}
 use mathlib.Core.List.{List, [], _∷_, _++_}
 use native.Mathlib.Numerals.{add-one}
 use native.Mathlib.Omega.{arith}
+use lib.Dec.{eqb, eqb·zero-suc, eqb·suc-suc}
 use lib.ListN.{length, getD, drop, drop-of-length-le}
 use lib.Seq.{drop-cons}
 use Rattle.octets.specs.First.{first}
+use Rattle.octets.specs.All.{all}
 use Rattle.octets.proofs.Choice.{by, either}
 
 module _ {A : Type 0} (p : A → Bool) where
@@ -70,3 +72,24 @@ module _ {A : Type 0} (p : A → Bool) where
   first-within [] s h = absurd (omega arith)
   first-within (x ∷ a) s h =
       by (p x) (λ e. rw e) (λ e. let l : suc (first p a) < suc (length a) = rw e at h in rw e (ap suc (first-within a s (omega arith))))
+
+-- a test that passes whatever another passes is met no later
+pub first-sooner : {A : Type 0} (p q : A → Bool) → ((x : A) → p x ≡ true → q x ≡ true) → (s : List A) → first q s ≤ first p s
+unfolding first
+first-sooner p q h [] = omega arith
+first-sooner p q h (x ∷ s) =
+    by (p x) (λ e. rw (h x e) (omega arith))
+    (λ e. rw e (either (λ (n : ℕ). n ≤ suc (first p s)) (q x) (λ _. omega arith) (λ _. omega (arith, first-sooner p q h s))))
+
+-- a search comes to the end exactly where every element fails
+pub first-all : {A : Type 0} (p : A → Bool) (s : List A) → eqb (first p s) (length s) ≡ all (λ x. not (p x)) s
+unfolding first all
+first-all p [] = refl
+first-all p (x ∷ s) =
+    by (p x) (λ e. rw e (eqb·zero-suc (length s))) (λ e. rw e (eqb·suc-suc (first p s) (length s) ∙ first-all p s))
+
+-- two tests that agree on every element find the same
+pub first-same : {A : Type 0} (p q : A → Bool) (s : List A) (d : A) → ((k : ℕ) → k < length s → p (getD s k d) ≡ q (getD s k d)) → first p s ≡ first q s
+unfolding first
+first-same p q [] d f = refl
+first-same p q (x ∷ s) d f = rw (f 0 (omega arith), first-same p q s d (λ k l. f (suc k) (omega arith)))

@@ -3,3 +3,5 @@ pub mod Octet
 pub mod Bits
 pub mod First
 pub mod Splice
+pub mod All
+pub mod Same

@@ -2,8 +2,9 @@
 use Prim.Native.Nat.{ℕ, zero, suc, _<_, _+_}
 use mathlib.Core.Path.{_≡_, refl, subst, sym}
 use mathlib.Core.Bool.{Bool, true, false, false≢true, not, _&&_, _||_, Bool·beq}
-use mathlib.Core.List.{List}
+use mathlib.Core.List.{List, [], _∷_}
 use mathlib.Core.Logic.{⊎-elim}
+use native.Mathlib.Omega.{arith}
 use native.Mathlib.Nat.{eq-or-lt-of-le, le-of-suc-le-suc, not-suc-le-zero}
 use lib.Dec.{T, eqb, eqb→eq}
 use lib.ListN.{drop}
@@ -58,6 +59,32 @@ octet-where f g t b h e = follows (f b) (g b) (octet-test (λ n. not (f n) || g 
     follows true y t e = so y t
     follows false y t e = absurd (false≢true e)
 
+-- the test passes either way
+abbrev pub always : (Bool → Bool) → Bool
+always f = f true && f false
+
+-- a fact of one bit and of four, by a test that is computed at each: `bit-always f tt b`
+pub bit-always : (f : Bool → Bool) → T (always f) → (b : Bool) → T (f b)
+bit-always f t true = left (f true) (f false) t
+bit-always f t false = right (f true) (f false) t
+
+pub bits-always : (f : Bool → Bool → Bool → Bool → Bool) → T (always (λ z. always (λ y. always (λ x. always (f z y x)))))
+    → (z y x w : Bool) → T (f z y x w)
+bits-always f t z y x w =
+    let atz = bit-always (λ z. always (λ y. always (λ x. always (f z y x)))) t z in
+    let aty = bit-always (λ y. always (λ x. always (f z y x))) atz y in
+    bit-always (f z y x) (bit-always (λ x. always (f z y x)) aty x) w
+
 -- what is left of octets is octets
 pub octets-drop : (s : List ℕ) (n : ℕ) → Octets s → Octets (drop n s)
 octets-drop s n o k = rw getD-drop (o (n + k))
+
+-- each element below 256, one by one
+abbrev pub Each : List ℕ → Type 0
+Each [] = Unit {0}
+Each (b ∷ s) = (b < 256) × Each s
+
+pub octets-each : (s : List ℕ) → Each s → Octets s
+octets-each [] h k = omega arith
+octets-each (b ∷ s) h zero = h .0
+octets-each (b ∷ s) h (suc k) = octets-each s (h .1) k

@@ -9,7 +9,7 @@ use native.Mathlib.Numerals.{add-one}
 use native.Mathlib.Omega.{arith}
 use borrow.Author.Tests.{le-leb, lt-leb, leb-true, leb-false}
 use lib.Dec.{leb}
-use lib.ListN.{length, getD, set, take, drop, length-drop, length-append, take-append-drop}
+use lib.ListN.{length, getD, set, take, drop, length-drop, length-append, take-append-drop, drop-of-length-le}
 use lib.Seq.{sets, sets-eq, set-split, take-suc, length-take-le, take-all, take-at, drop-append-add, drop-drop}
 use Rattle.octets.specs.Splice.{splice}
 use Rattle.octets.proofs.Choice.{by}
@@ -80,3 +80,24 @@ module _ {A : Type 0} where
   -- stores at one place after the other
   pub splice-stores : (part l : List A) (at : ℕ) → at + length part ≤ length l → sets l at part ≡ splice l at part
   splice-stores part l at h = sets-eq part l at h ∙ simp append-assoc (sym (splice-in l at part h))
+
+  -- the same, the first part's length given as a number
+  pub splice-then : (l : List A) (at n : ℕ) (a b : List A) → length a ≡ n → at + n + length b ≤ length l
+      → splice (splice l at a) (at + n) b ≡ splice l at (a ++ b)
+  splice-then l at n a b e h = rw (← e) (splice-more l at a b (rw e h))
+
+  -- a part written at the start of `&mut l[at..]`, seen in the whole list
+  pub splice-part : (l : List A) (at : ℕ) (part : List A) → at ≤ length l
+      → take at l ++ (splice (take (length l - at) (drop at l)) 0 part ++ drop (length l - at) (drop at l)) ≡ splice l at part
+  splice-part l at part h =
+      let m : List A = drop at l in
+      let n : length m ≡ length l - at = length-drop at l in
+      let none : drop (length l - at) m ≡ [] = drop-of-length-le m {i = length l - at} (omega arith) in
+      rw (part-from l at, none, append-nil)
+      (by (leb (at + length part) (length l))
+      (λ e. let f : at + length part ≤ length l = leb-true _ _ e in
+      let z : 0 + length part ≡ length part = omega arith in
+      let first : splice m 0 part ≡ part ++ drop (length part) m = splice-in m 0 part (omega arith) ∙ rw z refl in
+      rw (first, drop-drop) (sym (splice-in l at part f)))
+      (λ e. let f : length l < at + length part = leb-false _ _ e in
+      rw (splice-out m 0 part (omega arith), splice-out l at part f) (take-append-drop at l)))

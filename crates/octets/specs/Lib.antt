@@ -1,3 +1,5 @@
 pub mod Octet
 pub mod First
 pub mod Splice
+pub mod All
+pub mod Same

@@ -1,0 +1,233 @@
+-- What writing a group and reading it gives, and the other way round. Upper crates rest on these and look into no group.
+use Prim.Native.Nat.{ℕ, zero, suc, _*_, _/_, _%_, _<_, _≤_}
+use mathlib.Core.Path.{_≡_, refl, _∙_}
+use mathlib.Core.Bool.{Bool, true, false, cond}
+use mathlib.Core.List.{List, [], _∷_}
+use native.Mathlib.Omega.{arith}
+use borrow.Author.Tests.{ltb-true, leb-true, lt-ltb, le-leb, eq-eqb, ne-eqb, eqb-true, eqb-false}
+use lib.Dec.{leb, eqb}
+use lib.ListN.{length, getD}
+use lib.Seq.{set-getD}
+use Rattle.octets.specs.Octet.{Octets, field, bit}
+use Rattle.octets.proofs.All.{all-nil, all-cons, all-at}
+use Rattle.octets.proofs.Choice.{by, both}
+use Rattle.octets.proofs.Octet.{octet-same, octet-where}
+use Rattle.address.specs.declared.Address.{Address}
+use Rattle.address.specs.declared.group.GroupAnswer.the-variants.{Written, NotEncodable}
+use Rattle.address.specs.Address.{low, noCall, encodable, PlainAddress}
+use Rattle.address.specs.Group.{addressOf, markOf, reserved, reservedOctet, withReserved, ssidOctet, groupOf, groupNumberOf, writeGroup}
+
+-- what can be written: characters below 128
+pub plain-character : (a : Address) → PlainAddress a → (k : ℕ) → k < 6 → getD (a .callsign) k 0 < 128
+unfolding encodable
+plain-character a p k h =
+    ltb-true _ 128 (all-at low (a .callsign) 0 k (omega (arith, p .six)) (both (leb (a .ssid) 15) _ (p .writable) .1))
+
+-- and an SSID up to 15
+pub plain-ssid : (a : Address) → PlainAddress a → a .ssid ≤ 15
+unfolding encodable
+plain-ssid a p = leb-true _ 15 (both (leb (a .ssid) 15) _ (p .writable) .0)
+
+-- a list of six is its six elements
+pub six-list : (d : ℕ) (l : List ℕ) → length l ≡ 6 → getD l 0 d ∷ getD l 1 d ∷ getD l 2 d ∷ getD l 3 d ∷ getD l 4 d ∷ getD l 5 d ∷ [] ≡ l
+six-list z (a ∷ b ∷ c ∷ d ∷ e ∷ f ∷ []) h = refl
+six-list z [] h = absurd (omega arith)
+six-list z (a ∷ []) h = absurd (omega arith)
+six-list z (a ∷ b ∷ []) h = absurd (omega arith)
+six-list z (a ∷ b ∷ c ∷ []) h = absurd (omega arith)
+six-list z (a ∷ b ∷ c ∷ d ∷ []) h = absurd (omega arith)
+six-list z (a ∷ b ∷ c ∷ d ∷ e ∷ []) h = absurd (omega arith)
+six-list z (a ∷ b ∷ c ∷ d ∷ e ∷ f ∷ g ∷ l) h = absurd (omega arith)
+
+-- a written group has seven octets
+pub group-length : (a : Address) (m e : Bool) → length (groupOf a m e) ≡ 7
+unfolding groupOf
+group-length a m e = refl
+
+-- the fields of the seventh octet, whatever the SSID
+ssid-back : (m e : Bool) (s : ℕ) → s ≤ 15 → field 1 4 (ssidOctet s m e) ≡ s
+unfolding ssidOctet
+ssid-back true true s h = omega arith
+ssid-back true false s h = omega arith
+ssid-back false true s h = omega arith
+ssid-back false false s h = omega arith
+
+mark-back : (m e : Bool) (s : ℕ) → bit 7 (ssidOctet s m e) ≡ m
+unfolding ssidOctet
+mark-back true true s = eq-eqb (field 7 1 (ssidOctet s true true)) 1 (omega arith)
+mark-back true false s = eq-eqb (field 7 1 (ssidOctet s true false)) 1 (omega arith)
+mark-back false true s = ne-eqb (field 7 1 (ssidOctet s false true)) 1 (λ z. omega arith)
+mark-back false false s = ne-eqb (field 7 1 (ssidOctet s false false)) 1 (λ z. omega arith)
+
+end-back : (m e : Bool) (s : ℕ) → bit 0 (ssidOctet s m e) ≡ e
+unfolding ssidOctet
+end-back true true s = eq-eqb (field 0 1 (ssidOctet s true true)) 1 (omega arith)
+end-back true false s = ne-eqb (field 0 1 (ssidOctet s true false)) 1 (λ z. omega arith)
+end-back false true s = eq-eqb (field 0 1 (ssidOctet s false true)) 1 (omega arith)
+end-back false false s = ne-eqb (field 0 1 (ssidOctet s false false)) 1 (λ z. omega arith)
+
+reserved-back : (m e : Bool) (s : ℕ) → eqb (field 5 2 (ssidOctet s m e)) 3 ≡ true
+unfolding ssidOctet
+reserved-back true true s = eq-eqb (field 5 2 (ssidOctet s true true)) 3 (omega arith)
+reserved-back true false s = eq-eqb (field 5 2 (ssidOctet s true false)) 3 (omega arith)
+reserved-back false true s = eq-eqb (field 5 2 (ssidOctet s false true)) 3 (omega arith)
+reserved-back false false s = eq-eqb (field 5 2 (ssidOctet s false false)) 3 (omega arith)
+
+ssid-below : (m e : Bool) (s : ℕ) → ssidOctet s m e < 256
+unfolding ssidOctet
+ssid-below true true s = omega arith
+ssid-below true false s = omega arith
+ssid-below false true s = omega arith
+ssid-below false false s = omega arith
+
+halved : (c : ℕ) → c < 128 → c * 2 % 256 / 2 ≡ c
+halved c h = omega arith
+
+-- reading a written group gives the address back
+pub read-written : (a : Address) (m e : Bool) → PlainAddress a → addressOf (groupOf a m e) ≡ a
+unfolding addressOf groupOf
+read-written a m e p =
+    simp (
+      halved _ (plain-character a p 0 (omega arith)),
+      halved _ (plain-character a p 1 (omega arith)),
+      halved _ (plain-character a p 2 (omega arith)),
+      halved _ (plain-character a p 3 (omega arith)),
+      halved _ (plain-character a p 4 (omega arith)),
+      halved _ (plain-character a p 5 (omega arith)),
+      ssid-back m e _ (plain-ssid a p),
+      six-list 0 (a .callsign) (p .six),
+    )
+
+-- and the mark
+pub mark-written : (a : Address) (m e : Bool) → markOf (groupOf a m e) ≡ m
+unfolding markOf groupOf
+mark-written a m e = mark-back m e (a .ssid)
+
+even-octet : (c : ℕ) → bit 0 (c * 2 % 256) ≡ false
+even-octet c = ne-eqb (field 0 1 (c * 2 % 256)) 1 (λ z. omega arith)
+
+-- the first six octets of a written group are even
+pub group-even : (a : Address) (m e : Bool) (k : ℕ) → k < 6 → bit 0 (getD (groupOf a m e) k 0) ≡ false
+unfolding groupOf
+group-even a m e zero h = even-octet (getD (a .callsign) 0 0)
+group-even a m e (suc zero) h = even-octet (getD (a .callsign) 1 0)
+group-even a m e (suc (suc zero)) h = even-octet (getD (a .callsign) 2 0)
+group-even a m e (suc (suc (suc zero))) h = even-octet (getD (a .callsign) 3 0)
+group-even a m e (suc (suc (suc (suc zero)))) h = even-octet (getD (a .callsign) 4 0)
+group-even a m e (suc (suc (suc (suc (suc zero))))) h = even-octet (getD (a .callsign) 5 0)
+group-even a m e (suc (suc (suc (suc (suc (suc k)))))) h = absurd (omega arith)
+
+-- its seventh has exactly the end bit asked for
+pub group-end : (a : Address) (m e : Bool) → bit 0 (getD (groupOf a m e) 6 0) ≡ e
+unfolding groupOf
+group-end a m e = end-back m e (a .ssid)
+
+-- and both reserved bits
+pub group-reserved : (a : Address) (m e : Bool) → reserved (groupOf a m e) ≡ true
+unfolding reserved groupOf
+group-reserved a m e = reserved-back m e (a .ssid)
+
+-- what is written is octets
+pub group-octets : (a : Address) (m e : Bool) → PlainAddress a → Octets (groupOf a m e)
+unfolding groupOf
+group-octets a m e p zero = omega arith
+group-octets a m e p (suc zero) = omega arith
+group-octets a m e p (suc (suc zero)) = omega arith
+group-octets a m e p (suc (suc (suc zero))) = omega arith
+group-octets a m e p (suc (suc (suc (suc zero)))) = omega arith
+group-octets a m e p (suc (suc (suc (suc (suc zero))))) = omega arith
+group-octets a m e p (suc (suc (suc (suc (suc (suc zero)))))) = ssid-below m e (a .ssid)
+group-octets a m e p (suc (suc (suc (suc (suc (suc (suc k))))))) = omega arith
+
+half-low : (b : ℕ) → b < 256 → low (b / 2) ≡ true
+half-low b h = lt-ltb (b / 2) 128 (omega arith)
+
+-- what is read can be written
+pub read-plain : (g : List ℕ) → Octets g → PlainAddress (addressOf g)
+unfolding addressOf encodable
+read-plain g o = record {
+  six = refl;
+  writable = simp (
+    all-cons,
+    all-nil,
+    le-leb (field 1 4 (getD g 6 0)) 15 (omega arith),
+    half-low _ (o 0),
+    half-low _ (o 1),
+    half-low _ (o 2),
+    half-low _ (o 3),
+    half-low _ (o 4),
+    half-low _ (o 5),
+  );
+}
+
+doubled : (c : ℕ) → c < 256 → bit 0 c ≡ false → c / 2 * 2 % 256 ≡ c
+doubled c h e = omega (arith, eqb-false (field 0 1 c) 1 e)
+
+ssid-again : (b : ℕ) → b < 256 → ssidOctet (field 1 4 b) (bit 7 b) (bit 0 b) ≡ reservedOctet b
+unfolding ssidOctet
+ssid-again b h = octet-same (λ n. ssidOctet (field 1 4 n) (bit 7 n) (bit 0 n)) reservedOctet tt b h
+
+-- writing a read group gives its octets with the reserved bits set
+pub written-read : (g : List ℕ) → length g ≡ 7 → Octets g → ((k : ℕ) → k < 6 → bit 0 (getD g k 0) ≡ false)
+    → groupOf (addressOf g) (markOf g) (bit 0 (getD g 6 0)) ≡ withReserved g
+unfolding addressOf markOf groupOf withReserved
+written-read (a ∷ b ∷ c ∷ d ∷ e ∷ f ∷ g ∷ []) s o v =
+    simp (
+      ssid-again g (o 6),
+      doubled a (o 0) (v 0 (omega arith)),
+      doubled b (o 1) (v 1 (omega arith)),
+      doubled c (o 2) (v 2 (omega arith)),
+      doubled d (o 3) (v 3 (omega arith)),
+      doubled e (o 4) (v 4 (omega arith)),
+      doubled f (o 5) (v 5 (omega arith)),
+    )
+written-read [] s o v = absurd (omega arith)
+written-read (a ∷ []) s o v = absurd (omega arith)
+written-read (a ∷ b ∷ []) s o v = absurd (omega arith)
+written-read (a ∷ b ∷ c ∷ []) s o v = absurd (omega arith)
+written-read (a ∷ b ∷ c ∷ d ∷ []) s o v = absurd (omega arith)
+written-read (a ∷ b ∷ c ∷ d ∷ e ∷ []) s o v = absurd (omega arith)
+written-read (a ∷ b ∷ c ∷ d ∷ e ∷ f ∷ []) s o v = absurd (omega arith)
+written-read (a ∷ b ∷ c ∷ d ∷ e ∷ f ∷ g ∷ h ∷ l) s o v = absurd (omega arith)
+
+reserved-kept : (b : ℕ) → b < 256 → eqb (field 5 2 b) 3 ≡ true → reservedOctet b ≡ b
+reserved-kept b h e = eqb-true _ _ (octet-where (λ n. eqb (field 5 2 n) 3) (λ n. eqb (reservedOctet n) n) tt b h e)
+
+-- so where they were set already, the same octets
+pub written-exact : (g : List ℕ) → length g ≡ 7 → Octets g → ((k : ℕ) → k < 6 → bit 0 (getD g k 0) ≡ false) → reserved g ≡ true
+    → groupOf (addressOf g) (markOf g) (bit 0 (getD g 6 0)) ≡ g
+unfolding reserved withReserved
+written-exact g s o v r = written-read g s o v ∙ rw (reserved-kept _ (o 6) r) (set-getD g 6 0)
+
+-- what `to_bytes` gives of an address that can be written, and of one that cannot
+pub write-taken : (a : Address) (m e : Bool) → encodable a ≡ true → writeGroup a m e ≡ record { answer = Written; group = groupOf a m e }
+unfolding writeGroup
+write-taken a m e t = simp t
+
+pub write-refused : (a : Address) (m e : Bool) → encodable a ≡ false
+    → writeGroup a m e ≡ record { answer = NotEncodable; group = 0 ∷ 0 ∷ 0 ∷ 0 ∷ 0 ∷ 0 ∷ 0 ∷ [] }
+unfolding writeGroup
+write-refused a m e t = simp t
+
+-- its number is 22 exactly when the address cannot be written
+pub group-numbers : (a : Address) (m e : Bool) → groupNumberOf (writeGroup a m e .answer) ≡ cond (encodable a) 0 22
+unfolding writeGroup
+group-numbers a m e = by (encodable a) (λ t. simp t) (λ t. simp t)
+
+-- the first octet of a group is nonzero where the first character is, and the other way round
+pub group-starts : (a : Address) (m e : Bool) → PlainAddress a → 0 < getD (a .callsign) 0 0 → 0 < getD (groupOf a m e) 0 0
+unfolding groupOf
+group-starts a m e p h = omega (arith, halved _ (plain-character a p 0 (omega arith)))
+
+pub group-character : (g : List ℕ) → Octets g → bit 0 (getD g 0 0) ≡ false → 0 < getD g 0 0 → 0 < getD (addressOf g .callsign) 0 0
+unfolding addressOf
+group-character g o e h = omega (arith, eqb-false (field 0 1 (getD g 0 0)) 1 e)
+
+-- NOCALL can be written, and starts with a character
+pub no-call-plain : PlainAddress noCall
+unfolding noCall encodable
+no-call-plain = record { six = refl; writable = simp (all-cons, all-nil) }
+
+pub no-call-starts : 0 < getD (noCall .callsign) 0 0
+unfolding noCall
+no-call-starts = omega arith

@@ -1,0 +1,4 @@
+pub mod Laws
+pub mod TextLaws
+mod Reading
+mod Printing

@@ -1,0 +1,26 @@
+-- The address of a station: six characters, padded at the end with spaces, and an SSID.
+use Prim.Native.Nat.{ℕ}
+use mathlib.Core.Path.{_≡_}
+use mathlib.Core.Bool.{Bool, true, _&&_}
+use mathlib.Core.List.{[], _∷_}
+use lib.Dec.{ltb, leb}
+use lib.ListN.{length}
+use Rattle.octets.specs.All.{all}
+use Rattle.address.specs.declared.Address.{Address}
+
+-- a character that seven bits hold
+abbrev pub low : ℕ → Bool
+low c = ltb c 128
+
+-- NOCALL, SSID 0: what a refused read returns
+unfoldable pub noCall : Address
+noCall = record { callsign = 78 ∷ 79 ∷ 67 ∷ 65 ∷ 76 ∷ 76 ∷ []; ssid = 0 }
+
+-- what writing and printing take (number 22 otherwise): no character of 128 or more, and an SSID of at most 15
+unfoldable pub encodable : Address → Bool
+encodable a = leb (a .ssid) 15 && all low (a .callsign)
+
+-- an address of a plain frame: one that writing does not refuse
+pub record PlainAddress (a : Address) : Type 0 where
+  pub six : length (a .callsign) ≡ 6
+  pub writable : encodable a ≡ true

@@ -1,0 +1,66 @@
+-- The group of an address: seven octets of AX.25's address field. Six hold a character each in bits 1 to 7; the seventh holds the
+-- SSID in bits 1 to 4, the reserved bits 5 and 6, the mark (C or H) in bit 7. Bit 0 of each is the extension bit.
+use Prim.Native.Nat.{ℕ, _+_, _*_, _/_, _%_}
+use mathlib.Core.Bool.{Bool, cond}
+use mathlib.Core.List.{List, [], _∷_}
+use lib.Dec.{eqb}
+use lib.ListN.{getD, set}
+use Rattle.octets.specs.Octet.{field, bit, flag}
+use Rattle.address.specs.declared.Address.{Address}
+use Rattle.address.specs.declared.group.GroupAnswer.{GroupAnswer}
+use Rattle.address.specs.declared.group.GroupAnswer.the-variants.{Written, NotEncodable}
+use Rattle.address.specs.declared.group.WrittenGroup.{WrittenGroup}
+use Rattle.address.specs.Address.{encodable}
+
+-- the character in octet k of a group: the octet shifted right by one
+abbrev pub characterAt : List ℕ → ℕ → ℕ
+characterAt g k = getD g k 0 / 2
+
+-- the address in a group
+unfoldable pub addressOf : List ℕ → Address
+addressOf g = record {
+  callsign = characterAt g 0 ∷ characterAt g 1 ∷ characterAt g 2 ∷ characterAt g 3 ∷ characterAt g 4 ∷ characterAt g 5 ∷ [];
+  ssid = field 1 4 (getD g 6 0);
+}
+
+-- its mark
+unfoldable pub markOf : List ℕ → Bool
+markOf g = bit 7 (getD g 6 0)
+
+-- whether both reserved bits are ones
+unfoldable pub reserved : List ℕ → Bool
+reserved g = eqb (field 5 2 (getD g 6 0)) 3
+
+-- the same octet with both reserved bits set: bit 7 and bits 0 to 4 stay
+abbrev pub reservedOctet : ℕ → ℕ
+reservedOctet b = flag 7 (bit 7 b) + 0x60 + field 0 5 b
+
+-- a group with its reserved bits set
+unfoldable pub withReserved : List ℕ → List ℕ
+withReserved g = set g 6 (reservedOctet (getD g 6 0))
+
+-- the octet of character k: the character shifted left by one
+abbrev pub octetAt : List ℕ → ℕ → ℕ
+octetAt c k = getD c k 0 * 2 % 256
+
+-- the octet of the SSID: mark, reserved bits (60 hex), SSID, end bit
+unfoldable pub ssidOctet : ℕ → Bool → Bool → ℕ
+ssidOctet ssid mark end = flag 7 mark + 0x60 + ssid % 16 * 2 + flag 0 end
+
+-- the group of an address, with its mark and the end bit
+unfoldable pub groupOf : Address → Bool → Bool → List ℕ
+groupOf a mark end =
+    octetAt (a .callsign) 0 ∷ octetAt (a .callsign) 1 ∷ octetAt (a .callsign) 2 ∷ octetAt (a .callsign) 3
+    ∷ octetAt (a .callsign) 4 ∷ octetAt (a .callsign) 5 ∷ ssidOctet (a .ssid) mark end ∷ []
+
+-- document 01's numbers for writing one address
+abbrev pub groupNumberOf : GroupAnswer → ℕ
+groupNumberOf Written = 0
+groupNumberOf NotEncodable = 22
+
+-- what writing gives: a refused address leaves seven zeros
+unfoldable pub writeGroup : Address → Bool → Bool → WrittenGroup
+writeGroup a mark end =
+    cond (encodable a)
+    (record { answer = Written; group = groupOf a mark end })
+    (record { answer = NotEncodable; group = 0 ∷ 0 ∷ 0 ∷ 0 ∷ 0 ∷ 0 ∷ 0 ∷ [] })

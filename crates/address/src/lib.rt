@@ -1,0 +1,49 @@
+// The address of a station: a callsign and a numeric SSID. `group` has its seven octets, `text` its text.
+ghost use mathlib.Core.Path.{_≡_};
+ghost use Rattle.octets.specs.All.{all};
+ghost use Rattle.address.specs.Address.{low, noCall, encodable};
+
+pub mod group;
+pub mod text;
+
+// A source, destination or repeater. The callsign is padded at its end with spaces.
+pub struct Address {
+    pub callsign: [u8; 6],
+    pub ssid: u8,
+}
+
+impl Address {
+    pub fn default() -> Address
+        ensures { λ r. ⌜ r ≡ noCall ⌝ }
+    {
+        Address {
+            callsign: [b'N', b'O', b'C', b'A', b'L', b'L'],
+            ssid: 0,
+        }
+    }
+
+    // Whether writing and printing take it: seven bits hold each character, and four the SSID.
+    pub fn is_encodable(self) -> bool
+        ensures { λ r. ⌜ r ≡ encodable self ⌝ }
+    {
+        let callsign = self.callsign;
+        if self.ssid > 15 {
+            return false;
+        }
+        is_ascii(&callsign)
+    }
+}
+
+// Whether every octet is below 128.
+fn is_ascii(text: &[u8]) -> bool
+    ensures { λ r. ⌜ r ≡ all low (now (text .entry)) ⌝ }
+{
+    let mut i = 0;
+    while i < text.len() {
+        if text[i] >= 128 {
+            return false;
+        }
+        i += 1;
+    }
+    true
+}

@@ -1,0 +1,72 @@
+-- AX.25's tables of control fields (modulo 8), a line a kind, bit 7 first as they draw it: r is N(R), s is N(S), P is the poll or
+-- final bit. A kind's number is its octet with all of these zero.
+use Prim.Native.Nat.{ℕ, _+_, _*_}
+use mathlib.Core.Bool.{Bool}
+use Rattle.octets.specs.Octet.{field, bit}
+
+-- information frames end in 0, and have no number of their own: r r r P s s s 0
+
+-- supervisory frames end in 01: receive ready,
+-- r r r P 0 0 0 1
+abbrev pub rr : ℕ
+rr = 0x01
+
+-- receive not ready,
+-- r r r P 0 1 0 1
+abbrev pub rnr : ℕ
+rnr = 0x05
+
+-- reject
+-- r r r P 1 0 0 1
+abbrev pub rej : ℕ
+rej = 0x09
+
+-- unnumbered frames end in 11: set asynchronous balanced mode,
+-- 0 0 1 P 1 1 1 1
+abbrev pub sabm : ℕ
+sabm = 0x2F
+
+-- disconnect,
+-- 0 1 0 P 0 0 1 1
+abbrev pub disc : ℕ
+disc = 0x43
+
+-- disconnected mode,
+-- 0 0 0 P 1 1 1 1
+abbrev pub dm : ℕ
+dm = 0x0F
+
+-- unnumbered acknowledge,
+-- 0 1 1 P 0 0 1 1
+abbrev pub ua : ℕ
+ua = 0x63
+
+-- frame reject,
+-- 1 0 0 P 0 1 1 1
+abbrev pub frmr : ℕ
+frmr = 0x87
+
+-- unnumbered information
+-- 0 0 0 P 0 0 1 1
+abbrev pub ui : ℕ
+ui = 0x03
+
+-- N(R), bits 5 to 7, of a control octet and of FRMR's copies
+abbrev pub receiveOf : ℕ → ℕ
+receiveOf c = field 5 3 c
+
+-- N(S), bits 1 to 3
+abbrev pub sendOf : ℕ → ℕ
+sendOf c = field 1 3 c
+
+-- the poll or final bit (P/F)
+abbrev pub pollOf : ℕ → Bool
+pollOf c = bit 4 c
+
+-- the low four bits tell the supervisory kind
+abbrev pub sKind : ℕ → ℕ
+sKind c = field 0 4 c
+
+-- all but the P/F bit tell the unnumbered kind
+abbrev pub uKind : ℕ → ℕ
+uKind c = field 5 3 c * 32 + field 0 4 c

@@ -1,0 +1,229 @@
+// Writing content: masks and shifts put the control octet and FRMR's octets together.
+use super::CommandResponse;
+use super::ContentWritten;
+use super::EncodeAnswer;
+use super::FrameContent;
+use super::FrameReject;
+ghost use mathlib.Core.Path.{_≡_};
+ghost use mathlib.Core.Bool.{cond};
+ghost use Prim.Native.Nat.{_%_};
+ghost use lib.ListN.{length};
+ghost use Rattle.octets.specs.Splice.{splice};
+ghost use Rattle.content.specs.Control.{uKind};
+ghost use Rattle.content.specs.Content.{hasInfo};
+ghost use Rattle.content.specs.Spell.{numbered, sent, unnumbered, flags, isResponse, front};
+ghost use Rattle.content.specs.Encode.{strayInfo, lacksRoom, encodeOf, encoded, four};
+
+fn bit_if(on: bool, value: u8) -> u8
+    ensures { λ r. ⌜ r ≡ cond on value 0 ⌝ }
+{
+    if on { value } else { 0 }
+}
+
+// N(R) in bits 5 to 7, the bit 4, and the low four bits of `low`.
+fn numbered(receive: u8, on: bool, low: u8) -> u8
+    ensures { λ r. ⌜ r ≡ numbered receive on (low % 16) ⌝ }
+{
+    ((receive & 0b0000_0111) << 5) | bit_if(on, 1 << 4) | (low & 0b0000_1111)
+}
+
+// N(S) in bits 1 to 3.
+fn sent(send: u8) -> u8
+    ensures { λ r. ⌜ r ≡ sent send ⌝ }
+{
+    (send & 0b0000_0111) << 1
+}
+
+// The kind's bits with the bit 4.
+fn unnumbered(kind: u8, on: bool) -> u8
+    ensures { λ r. ⌜ r ≡ unnumbered (uKind kind) on ⌝ }
+{
+    (kind & 0b1110_1111) | bit_if(on, 1 << 4)
+}
+
+fn is_response(c: CommandResponse) -> bool
+    ensures { λ r. ⌜ r ≡ isResponse c ⌝ }
+{
+    match c {
+        CommandResponse::Command => false,
+        CommandResponse::Response => true,
+    }
+}
+
+impl FrameReject {
+    fn flags(self) -> u8
+        ensures { λ r. ⌜ r ≡ flags self ⌝ }
+    {
+        bit_if(self.z, 1 << 3) | bit_if(self.y, 1 << 2) | bit_if(self.x, 1 << 1) | bit_if(self.w, 1)
+    }
+
+    // The four octets of an FRMR.
+    fn front(self) -> [u8; 4]
+        ensures { λ r. ⌜ r ≡ front (FrameContent.FrameReject self) ⌝ }
+    {
+        let command_response = self.command_response;
+        let response = is_response(command_response);
+        [
+            unnumbered(0b1000_0111, self.final_bit),
+            self.flags(),
+            numbered(self.receive_sequence, response, sent(self.send_sequence)),
+            self.rejected_control_field_raw,
+        ]
+    }
+}
+
+impl FrameContent {
+    pub fn has_info(self) -> bool
+        ensures { λ r. ⌜ r ≡ hasInfo self ⌝ }
+    {
+        match self {
+            FrameContent::Information(_) => true,
+            FrameContent::ReceiveReady(_) => false,
+            FrameContent::ReceiveNotReady(_) => false,
+            FrameContent::Reject(_) => false,
+            FrameContent::SetAsynchronousBalancedMode(_) => false,
+            FrameContent::Disconnect(_) => false,
+            FrameContent::DisconnectedMode(_) => false,
+            FrameContent::UnnumberedAcknowledge(_) => false,
+            FrameContent::FrameReject(_) => false,
+            FrameContent::UnnumberedInformation(_) => true,
+            FrameContent::UnknownContent => true,
+        }
+    }
+
+    // How many octets stand before the info.
+    pub fn front_len(self) -> usize
+        ensures { λ r. ⌜ r ≡ length (front self) ⌝ }
+    {
+        match self {
+            FrameContent::Information(_) => 2,
+            FrameContent::ReceiveReady(_) => 1,
+            FrameContent::ReceiveNotReady(_) => 1,
+            FrameContent::Reject(_) => 1,
+            FrameContent::SetAsynchronousBalancedMode(_) => 1,
+            FrameContent::Disconnect(_) => 1,
+            FrameContent::DisconnectedMode(_) => 1,
+            FrameContent::UnnumberedAcknowledge(_) => 1,
+            FrameContent::FrameReject(_) => 4,
+            FrameContent::UnnumberedInformation(_) => 2,
+            FrameContent::UnknownContent => 0,
+        }
+    }
+
+    // The octets before the info, zeros after them.
+    fn front(self) -> [u8; 4]
+        ensures { λ r. ⌜ r ≡ four (front self) ⌝ }
+    {
+        match self {
+            FrameContent::Information(i) => {
+                let pid = i.pid;
+                [
+                    numbered(i.receive_sequence, i.poll, sent(i.send_sequence)),
+                    pid.to_byte(),
+                    0,
+                    0,
+                ]
+            }
+            FrameContent::ReceiveReady(rr) => {
+                [
+                    numbered(rr.receive_sequence, rr.poll_or_final, 0b0000_0001),
+                    0,
+                    0,
+                    0,
+                ]
+            }
+            FrameContent::ReceiveNotReady(rnr) => {
+                [
+                    numbered(rnr.receive_sequence, rnr.poll_or_final, 0b0000_0101),
+                    0,
+                    0,
+                    0,
+                ]
+            }
+            FrameContent::Reject(rej) => {
+                [
+                    numbered(rej.receive_sequence, rej.poll_or_final, 0b0000_1001),
+                    0,
+                    0,
+                    0,
+                ]
+            }
+            FrameContent::SetAsynchronousBalancedMode(sabm) => {
+                [unnumbered(0b0010_1111, sabm.poll), 0, 0, 0]
+            }
+            FrameContent::Disconnect(disc) => [unnumbered(0b0100_0011, disc.poll), 0, 0, 0],
+            FrameContent::DisconnectedMode(dm) => [unnumbered(0b0000_1111, dm.final_bit), 0, 0, 0],
+            FrameContent::UnnumberedAcknowledge(ua) => {
+                [unnumbered(0b0110_0011, ua.final_bit), 0, 0, 0]
+            }
+            FrameContent::FrameReject(fr) => fr.front(),
+            FrameContent::UnnumberedInformation(ui) => {
+                let pid = ui.pid;
+                [
+                    unnumbered(0b0000_0011, ui.poll_or_final),
+                    pid.to_byte(),
+                    0,
+                    0,
+                ]
+            }
+            FrameContent::UnknownContent => [0, 0, 0, 0],
+        }
+    }
+
+    // Info, of this length, for a kind that has none.
+    pub fn stray_info(self, carried: usize) -> bool
+        ensures { λ r. ⌜ r ≡ strayInfo self carried ⌝ }
+    {
+        if self.has_info() {
+            return false;
+        }
+        carried != 0
+    }
+
+    // Too little room for the content with info of this length. The sum of the lengths might not fit a usize, so none is made.
+    fn lacks_room(self, carried: usize, room: usize) -> bool
+        ensures { λ r. ⌜ r ≡ lacksRoom self carried room ⌝ }
+    {
+        let n = self.front_len();
+        if room < n {
+            return true;
+        }
+        room - n < carried
+    }
+
+    // The octets before the info, from the start of `out` on.
+    fn put_front(self, out: &mut [u8]) -> usize
+        ensures { λ r. ⌜ r ≡ length (front self) ⌝ }
+        ensures { λ r. ⌜ now (out .exit) ≡ splice (now (out .entry)) 0 (front self) ⌝ }
+    {
+        let n = self.front_len();
+        let octets = self.front();
+        lent::put(out, 0, &octets[..n]);
+        n
+    }
+
+    // The content's octets, then the lent info, from the start of `out` on. A refusal writes nothing.
+    pub fn encode(self, info: &[u8], out: &mut [u8]) -> ContentWritten
+        ensures { λ r. ⌜ r ≡ encodeOf self (length (now (info .entry))) (length (now (out .entry))) ⌝ }
+        ensures { λ r. ⌜ now (out .exit) ≡ splice (now (out .entry)) 0 (encoded self (now (info .entry)) (length (now (out .entry)))) ⌝ }
+    {
+        if self.stray_info(info.len()) {
+            return ContentWritten {
+                answer: EncodeAnswer::InfoNotAllowed,
+                length: 0,
+            };
+        }
+        if self.lacks_room(info.len(), out.len()) {
+            return ContentWritten {
+                answer: EncodeAnswer::NoRoom,
+                length: 0,
+            };
+        }
+        let n = self.put_front(out);
+        lent::put(out, n, info);
+        ContentWritten {
+            answer: EncodeAnswer::Written,
+            length: n + info.len(),
+        }
+    }
+}

@@ -1,0 +1,172 @@
+-- What a plain frame spells is decoded as that frame, with its info; so two plain frames with the same octets are the same.
+use Prim.Native.Nat.{ℕ, zero, suc, _+_, _-_, _*_, _/_, _≤_, _<_}
+use mathlib.Core.Path.{_≡_, refl, ap, sym, _∙_}
+use mathlib.Core.Bool.{Bool, true, false, true≢false, false≢true}
+use mathlib.Core.List.{List, [], _∷_, _++_, append-assoc}
+use mathlib.Core.Logic.{⊎-elim}
+use native.Mathlib.Nat.{add-zero, eq-or-lt-of-le, le-of-suc-le-suc, not-suc-le-zero}
+use native.Mathlib.Omega.{arith}
+use borrow.Author.Tests.{ne-eqb, le-ltb, ltb-true}
+use lib.Dec.{eqb, ltb}
+use lib.ListN.{length, length-append, take, drop}
+use lib.Seq.{take-at, drop-at, drop-drop, take-all}
+use Rattle.octets.proofs.Choice.{by}
+use Rattle.address.specs.Address.{PlainAddress}
+use Rattle.address.specs.Group.{groupOf, addressOf, markOf}
+use Rattle.address.specs.declared.Address.{Address}
+use Rattle.address.proofs.Laws.{group-length, read-written, mark-written}
+use Rattle.content.specs.Content.{hasInfo, contentOf}
+use Rattle.content.specs.Spell.{front}
+use Rattle.content.specs.declared.ContentAnswer.the-variants.{Accepted}
+use Rattle.content.proofs.Laws.{content-back, content-some, front-two}
+use Rattle.frame.specs.Read.{startOf, endOf, groupAt, parsedAt, entryAt, placeAt, routeAt, commandOf, frameAt, acceptedWith, withContent, decodeField, decode, infoIn}
+use Rattle.frame.specs.Spell.{repeaterAt, groupsOf, destinationMark, sourceMark, addressField, spell, marked, Plain, placeInUse, routeInUse, inUse}
+use Rattle.frame.specs.declared.Mark.{Mark}
+use Rattle.frame.specs.declared.Mark.the-variants.{Command, Response, Absent}
+use Rattle.frame.specs.declared.RouteEntry.{RouteEntry}
+use Rattle.frame.specs.declared.Ax25Frame.{Ax25Frame}
+use Rattle.frame.specs.declared.Decoded.{Decoded}
+use Rattle.frame.proofs.Ends.{end-past, end-route, start-here}
+use Rattle.frame.proofs.Write.{groups-length, field-length, spell-length}
+
+-- to read further on is to read what is left when the front is dropped
+parsed-drop : (s : List ℕ) (n at : ℕ) → parsedAt s (n + at) ≡ parsedAt (drop n s) at
+unfolding parsedAt
+parsed-drop s n at = rw (← drop-drop at n s)
+
+entry-drop : (s : List ℕ) (n at : ℕ) → entryAt s (n + at) ≡ entryAt (drop n s) at
+unfolding entryAt
+entry-drop s n at = rw parsed-drop
+
+entry-at : (s : List ℕ) (n : ℕ) → entryAt s n ≡ entryAt (drop n s) 0
+entry-at s n = rw add-zero at (entry-drop s n 0)
+
+-- a group at the front of a list is read as what it spells
+module _ (a : Address) (m e : Bool) (r : List ℕ) (p : PlainAddress a) where
+  group-front : groupAt (groupOf a m e ++ r) 0 ≡ groupOf a m e
+  group-front = take-at (groupOf a m e) r 7 (group-length a m e)
+
+  parsed-front : parsedAt (groupOf a m e ++ r) 0 ≡ record { address = a; «high_bit» = m }
+  unfolding parsedAt
+  parsed-front = simp (group-front, read-written a m e p, mark-written)
+
+entry-front : (x : RouteEntry) (e : Bool) (r : List ℕ) → PlainAddress (x .repeater)
+    → entryAt (groupOf (x .repeater) (x .«has_repeated») e ++ r) 0 ≡ x
+unfolding entryAt
+entry-front x e r p = rw (parsed-front (x .repeater) (x .«has_repeated») e r p)
+
+groups-drop : (route : List RouteEntry) (total n : ℕ) (r : List ℕ) → drop (7 * n) (groupsOf route total n ++ r) ≡ r
+groups-drop route total n r = drop-at (groupsOf route total n) r (7 * n) (groups-length route total n)
+
+route-back : (route : List RouteEntry) (total n i : ℕ) (r : List ℕ) → i < n → PlainAddress (repeaterAt route i .repeater)
+    → entryAt (groupsOf route total n ++ r) (7 * i) ≡ repeaterAt route i
+unfolding groupsOf
+route-back route total zero i r h p = absurd (not-suc-le-zero h)
+route-back route total (suc n) i r h p =
+    ⊎-elim
+    (λ (e : i ≡ n). rw (append-assoc, e)
+    (entry-at (groupsOf route total n ++ _) (7 * n) ∙ rw groups-drop (entry-front (repeaterAt route n) _ r (rw e at p))))
+    (λ (l : i < n). rw append-assoc (route-back route total n i _ l p))
+    (eq-or-lt-of-le (le-of-suc-le-suc h))
+
+mark-back : (m : Mark) → marked m ≡ true → commandOf (destinationMark m) (sourceMark m) ≡ m
+mark-back Command h = refl
+mark-back Response h = refl
+mark-back Absent h = absurd (false≢true h)
+
+module _ (f : Ax25Frame) (i : List ℕ) (p : Plain f i) where
+  abbrev n : ℕ
+  n = f .«route_count»
+
+  abbrev dest : List ℕ
+  dest = groupOf (f .destination) (destinationMark (f .«command_or_response»)) false
+
+  abbrev src : List ℕ
+  src = groupOf (f .source) (sourceMark (f .«command_or_response»)) (eqb n 0)
+
+  abbrev tail : List ℕ
+  tail = groupsOf (f .route) n n ++ (front (f .content) ++ i)
+
+  -- the parts one after the other, bracketed to the right
+  in-order : spell f i ≡ dest ++ (src ++ tail)
+  unfolding spell addressField
+  in-order = simp append-assoc
+
+  pub spelled-start : startOf (spell f i) ≡ 0
+  spelled-start = rw in-order (start-here (f .destination) _ _ false (p .destination) (p .starts))
+
+  pub spelled-end : endOf (spell f i) ≡ 13 + 7 * n
+  spelled-end = rw (in-order, end-past, end-route) (omega arith)
+
+  after-dest : drop 7 (spell f i) ≡ src ++ tail
+  after-dest = rw in-order (drop-at dest (src ++ tail) 7 (group-length _ _ _))
+
+  after-src : drop 14 (spell f i) ≡ tail
+  after-src = sym (drop-drop 7 7 (spell f i)) ∙ rw after-dest (drop-at src tail 7 (group-length _ _ _))
+
+  after-field : drop (14 + 7 * n) (spell f i) ≡ front (f .content) ++ i
+  after-field = sym (drop-drop (7 * n) 14 (spell f i)) ∙ rw (after-src, groups-drop)
+
+  dest-back : parsedAt (spell f i) 0 ≡ record { address = f .destination; «high_bit» = destinationMark (f .«command_or_response») }
+  dest-back = rw in-order (parsed-front (f .destination) _ _ _ (p .destination))
+
+  src-back : parsedAt (spell f i) 7 ≡ record { address = f .source; «high_bit» = sourceMark (f .«command_or_response») }
+  src-back = parsed-drop (spell f i) 7 0 ∙ rw after-dest (parsed-front (f .source) _ _ _ (p .source))
+
+  place-back : (k : ℕ) → placeAt (spell f i) 14 n k ≡ placeInUse (f .route) n k
+  unfolding placeAt placeInUse
+  place-back k =
+      by (ltb k n)
+      (λ e. simp e (entry-drop (spell f i) 14 (7 * k) ∙ rw after-src (route-back _ _ _ k _ (ltb-true k n e) (p .repeaters k (ltb-true k n e)))))
+      (λ e. simp e)
+
+  frame-back : frameAt (spell f i) 0 n (f .content) ≡ inUse f
+  unfolding frameAt inUse routeAt routeInUse
+  frame-back = simp (dest-back, src-back, mark-back (f .«command_or_response») (p .mark), place-back)
+
+  accepts : contentOf (front (f .content) ++ i) ≡ Accepted (f .content)
+  accepts = content-back (f .content) i (p .content) (p .bare)
+
+  pub decode-spell : decode (spell f i) ≡ acceptedWith (inUse f) (14 + 7 * n) (length (spell f i))
+  unfolding decode decodeField withContent
+  decode-spell =
+      let l : length (spell f i) ≡ 14 + 7 * n + length (front (f .content) ++ i) = spell-length f i ∙ omega (arith, length-append (front (f .content)) i) in
+      let c : 0 < length (front (f .content) ++ i) = content-some _ _ accepts in
+      let h : n ≤ 8 = p .count in
+      let count : (14 + 7 * n - 0 - 14) / 7 ≡ n = omega arith in
+      let after : 13 + 7 * n + 1 ≡ 14 + 7 * n = omega arith in
+      rw (spelled-start, spelled-end, after)
+      (simp (
+        ne-eqb 0 (length (spell f i)) (λ e. omega arith),
+        ne-eqb (13 + 7 * n) (length (spell f i)) (λ e. omega arith),
+        le-ltb (14 + 7 * n - 0) 14 (omega arith),
+        ne-eqb (14 + 7 * n) (length (spell f i)) (λ e. omega arith),
+        count,
+        le-ltb 8 n h,
+        after-field,
+        accepts,
+        frame-back,
+      ))
+
+  pub frame-spell : decode (spell f i) .frame ≡ inUse f
+  unfolding acceptedWith
+  frame-spell = ap (λ (d : Decoded). d .frame) decode-spell
+
+  pub info-spell : infoIn (spell f i) (decode (spell f i)) ≡ i
+  unfolding acceptedWith inUse
+  info-spell =
+      rw decode-spell
+      (by (hasInfo (f .content))
+      (λ e.
+      let two : length (front (f .content)) ≡ 2 = front-two (f .content) (p .content) e in
+      let rest : drop (14 + 7 * n + 2) (spell f i) ≡ i =
+      sym (drop-drop 2 (14 + 7 * n) (spell f i)) ∙ rw after-field (drop-at (front (f .content)) i 2 two) in
+      simp e (rw rest (take-all (length (spell f i) - (14 + 7 * n + 2)) i (omega (arith, spell-length f i)))))
+      (λ e. simp e (sym (p .bare e))))
+
+-- two plain frames that spell the same octets agree in all that is in use, and in info
+pub unique : (f g : Ax25Frame) (i j : List ℕ) → Plain f i → Plain g j → spell f i ≡ spell g j → (inUse f ≡ inUse g) × (i ≡ j)
+unique f g i j p q e =
+    let a : decode (spell f i) ≡ decode (spell g j) = ap decode e in
+    let b : infoIn (spell f i) (decode (spell f i)) ≡ infoIn (spell g j) (decode (spell g j)) = ap (λ (s : List ℕ). infoIn s (decode s)) e in
+    (sym (frame-spell f i p) ∙ ap (λ (d : Decoded). d .frame) a ∙ frame-spell g j q, sym (info-spell f i p) ∙ b ∙ info-spell g j q)

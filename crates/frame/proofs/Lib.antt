@@ -1,0 +1,5 @@
+pub mod Read
+pub mod Write
+pub mod Ends
+pub mod Back
+pub mod Numbers

@@ -1,0 +1,73 @@
+-- Laws of reading that the functions' proofs share: the seven octets of a group, a route with one repeater more, the start no
+-- later than the end, a refused content.
+use Prim.Native.Nat.{ℕ, zero, suc, _+_, _*_, _%_, _/_, _≤_, _<_}
+use mathlib.Core.Path.{_≡_, refl, ap, sym, _∙_}
+use mathlib.Core.Bool.{Bool, true, false, cond, not}
+use mathlib.Core.List.{List, [], _∷_}
+use native.Mathlib.Nat.{add-suc, mod-eq-of-lt}
+use native.Mathlib.Numerals.{add-one}
+use native.Mathlib.Omega.{arith}
+use borrow.Author.Tests.{ne-eqb, eqb-true}
+use types.Run.{OneOf, miss}
+use denote.Enum.Declared.{tagOf}
+use lib.Bits.{and-mask}
+use lib.ListN.{length, getD, set, drop}
+use lib.Seq.{drop-cons}
+use Rattle.octets.specs.Octet.{bit}
+use Rattle.octets.specs.First.{first}
+use Rattle.octets.proofs.Bits.{bit-test}
+use Rattle.octets.proofs.First.{first-sooner}
+use Rattle.content.proofs.ContentAnswer.{the-type}
+use Rattle.content.specs.declared.ContentAnswer.{ContentAnswer}
+use Rattle.content.specs.declared.ContentAnswer.the-variants as content
+use Rattle.frame.specs.Search.{masked}
+use Rattle.frame.specs.Read.{nonzero, startOf, endOf, groupAt, entryAt, placeAt, routeAt, refusedWith, refusalOf, withContent}
+
+-- the seven octets of a group, one by one
+pub group-seven : (s : List ℕ) (at : ℕ) → at + 7 ≤ length s
+    → getD s at 0 ∷ getD s (at + 1) 0 ∷ getD s (at + 2) 0 ∷ getD s (at + 3) 0 ∷ getD s (at + 4) 0 ∷ getD s (at + 5) 0 ∷ getD s (at + 6) 0 ∷ []
+    ≡ groupAt s at
+group-seven s at h =
+    let z : drop at s ≡ getD s at 0 ∷ drop (at + 1) s = rw add-one (drop-cons s at 0 (omega arith)) in
+    sym (rw (z, from 1 (omega arith), from 2 (omega arith), from 3 (omega arith), from 4 (omega arith), from 5 (omega arith), from 6 (omega arith)))
+  where
+    from : (k : ℕ) → k < 7 → drop (at + k) s ≡ getD s (at + k) 0 ∷ drop (at + suc k) s
+    from k l = rw (add-suc, drop-cons s (at + k) 0 (omega arith))
+
+-- a route of one repeater more
+pub route-next : (s : List ℕ) (at i : ℕ) → i < 8 → set (routeAt s at i) i (entryAt s (at + 7 * i)) ≡ routeAt s at (i + 1)
+unfolding routeAt placeAt
+route-next s at zero h = refl
+route-next s at (suc zero) h = refl
+route-next s at (suc (suc zero)) h = refl
+route-next s at (suc (suc (suc zero))) h = refl
+route-next s at (suc (suc (suc (suc zero)))) h = refl
+route-next s at (suc (suc (suc (suc (suc zero))))) h = refl
+route-next s at (suc (suc (suc (suc (suc (suc zero)))))) h = refl
+route-next s at (suc (suc (suc (suc (suc (suc (suc zero))))))) h = refl
+route-next s at (suc (suc (suc (suc (suc (suc (suc (suc i)))))))) h = absurd (omega arith)
+
+-- an octet with its low bit set is not zero
+low-nonzero : (x : ℕ) → bit 0 x ≡ true → nonzero x ≡ true
+low-nonzero x e = ap not (ne-eqb x 0 (λ z. let o : x / 1 % 2 ≡ 1 = eqb-true _ _ e in omega arith))
+
+pub start-le-end : (s : List ℕ) → startOf s ≤ endOf s
+start-le-end s = first-sooner (bit 0) nonzero low-nonzero s
+
+-- a content answer that is not the first variant is passed on
+pub refused-content : (s : List ℕ) (start n control : ℕ) (a : ContentAnswer)
+    → OneOf (1 ∷ 2 ∷ 3 ∷ 4 ∷ 5 ∷ []) (tagOf the-type a) → refusedWith (refusalOf a) ≡ withContent s start n control a
+unfolding withContent
+refused-content s start n control (content.Accepted k) h = absurd (miss (1 ∷ 2 ∷ 3 ∷ 4 ∷ 5 ∷ []) 0 tt h)
+refused-content s start n control content.ContentZeroLength h = refl
+refused-content s start n control content.MissingPidField h = refl
+refused-content s start n control content.UnrecognisedSFieldType h = refl
+refused-content s start n control content.UnrecognisedUFieldType h = refl
+refused-content s start n control content.WrongSizeFrmrInfo h = refl
+
+-- the code's tests by a mask, on octets: any bit of eight, and bit 0
+pub mask-nonzero : (b : ℕ) → b < 256 → masked 0xFF b ≡ nonzero b
+mask-nonzero b h = rw (and-mask b 8, mod-eq-of-lt h)
+
+pub mask-low : (b : ℕ) → masked 0x01 b ≡ bit 0 b
+mask-low b = bit-test b 0

@@ -1,0 +1,53 @@
+-- Each group is written at its place, and the three parts one after the other are the address field.
+use mathlib.Core.Path.{_≡_, refl, sym, _∙_}
+use mathlib.Core.Bool.{true}
+use native.Mathlib.Omega.{arith}
+use Rattle.octets.proofs.Splice.{splice-length}
+use Rattle.address.specs.Address.{encodable}
+use Rattle.frame.proofs.Write.{frame-each, field-put}
+use borrow.Author.Needs.{needs}
+use Rattle.frame.proofs.writing.put_addresses.Statement.{statement}
+use Rattle.frame.proofs.writing.put_addresses.Tie as tie
+
+destination-mark-requires : tie.Need-destination-mark-requires
+destination-mark-requires c κs = search needs
+
+put-group-requires : tie.Need-put-group-requires
+put-group-requires c κs = frame-each _ (c .before .before .before .before .before .before .pre .2) .0
+
+source-mark-requires : tie.Need-source-mark-requires
+source-mark-requires c κs = search needs
+
+put-group-requires-2 : tie.Need-put-group-requires-2
+put-group-requires-2 c κs = frame-each _ (c .before .before .before .before .before .before .before .before .before .before .before .pre .2) .1
+
+put-route-requires : tie.Need-put-route-requires
+put-route-requires c κs =
+    let p = c .before .before .before .before .before .before .before .before .before .before .before .before .before .before .before .pre in
+    let one = c .before .before .before .before .before .before .before .before .put-group .ensures in
+    let two = c .before .before .before .put-group2 .ensures in
+    (search needs, rw (two, splice-length, one, splice-length) (p .1), frame-each _ (p .2) .2)
+
+same-length : tie.Need-same-length
+same-length c = search needs
+
+returns : tie.Need-returns
+returns c =
+    let r = c .before .before in
+    let s = r .before .before .before .before in
+    let d = s .before .before .before .before .before in
+    r .put-route .ensures
+    ∙ rw (s .put-group2 .ensures, s .before .source-mark .ensures, d .put-group .ensures, d .before .destination-mark .ensures)
+    (field-put _ _ (c .before .before .before .before .before .before .before .before .before .before .before .before .before .before .before .before .before .before .pre .1))
+
+pub put-addresses-spec : {M : Type 1} → statement M
+put-addresses-spec =
+    tie.close
+    (tie.spec
+    destination-mark-requires
+    put-group-requires
+    source-mark-requires
+    put-group-requires-2
+    put-route-requires
+    same-length
+    returns)

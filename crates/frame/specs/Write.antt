@@ -1,0 +1,55 @@
+-- Writing a frame: document 01's numbers 21 to 24 in their order, and the octets.
+use Prim.Native.Nat.{ℕ, zero, suc, _≤_}
+use mathlib.Core.Path.{_≡_}
+use mathlib.Core.Bool.{Bool, true, false, cond, not, _&&_}
+use mathlib.Core.List.{List, []}
+use lib.Dec.{ltb}
+use lib.ListN.{length}
+use Rattle.address.specs.Address.{encodable}
+use Rattle.content.specs.Encode.{strayInfo}
+use Rattle.frame.specs.Spell.{repeaterAt, spell}
+use Rattle.frame.specs.declared.RouteEntry.{RouteEntry}
+use Rattle.frame.specs.declared.Ax25Frame.{Ax25Frame}
+use Rattle.frame.specs.declared.Written.{Written}
+use Rattle.frame.specs.declared.WriteAnswer.{WriteAnswer}
+use Rattle.frame.specs.declared.WriteAnswer.the-variants.{Accepted, RouteTooLong, NotEncodable, InfoNotAllowed, NoRoom}
+
+-- the first n repeaters can be written
+unfoldable pub routeEncodable : List RouteEntry → ℕ → Bool
+routeEncodable route zero = true
+routeEncodable route (suc n) = routeEncodable route n && encodable (repeaterAt route n .repeater)
+
+-- every address in use can be written; unused places are not looked at
+unfoldable pub frameEncodable : Ax25Frame → Bool
+frameEncodable f = encodable (f .destination) && encodable (f .source) && routeEncodable (f .route) (f .«route_count»)
+
+-- the answer to writing a frame with its info into so much room
+unfoldable pub writeAnswer : Ax25Frame → List ℕ → ℕ → WriteAnswer
+writeAnswer f info room =
+    cond (ltb 8 (f .«route_count»)) RouteTooLong
+    (cond (not (frameEncodable f)) NotEncodable
+    (cond (strayInfo (f .content) (length info)) InfoNotAllowed
+    (cond (ltb room (length (spell f info))) NoRoom
+    Accepted)))
+
+-- what writing takes: none of the four refusals holds
+pub record Taken (f : Ax25Frame) (i : List ℕ) (n : ℕ) : Type 0 where
+  pub count : f .«route_count» ≤ 8
+  pub addresses : frameEncodable f ≡ true
+  pub info : strayInfo (f .content) (length i) ≡ false
+  pub room : length (spell f i) ≤ n
+
+-- the octets that are written: what the frame spells, and none at a refusal
+abbrev pub octetsBy : WriteAnswer → List ℕ → List ℕ
+octetsBy Accepted s = s
+octetsBy RouteTooLong s = []
+octetsBy NotEncodable s = []
+octetsBy InfoNotAllowed s = []
+octetsBy NoRoom s = []
+
+unfoldable pub octetsWritten : Ax25Frame → List ℕ → ℕ → List ℕ
+octetsWritten f info room = octetsBy (writeAnswer f info room) (spell f info)
+
+-- the answer, and how many octets of the output are the frame
+unfoldable pub written : Ax25Frame → List ℕ → ℕ → Written
+written f info room = record { answer = writeAnswer f info room; length = length (octetsWritten f info room) }

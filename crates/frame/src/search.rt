@@ -1,0 +1,39 @@
+// The start and the end of the address field.
+ghost use mathlib.Core.Path.{_≡_};
+ghost use Prim.Native.Nat.{_≤_};
+ghost use lib.ListN.{length};
+ghost use Rattle.octets.specs.First.{first};
+ghost use Rattle.frame.specs.Search.{masked};
+ghost use Rattle.frame.specs.Read.{startOf, endOf};
+
+// The place of the first octet in which a bit of the mask is set, or the length. Every octet is looked at, not every seventh.
+fn find(bytes: &[u8], mask: u8) -> usize
+    ensures { λ r. ⌜ r ≡ first (masked mask) (now (bytes .entry)) ⌝ }
+    ensures { λ r. ⌜ r ≤ length (now (bytes .entry)) ⌝ }
+{
+    let mut i = 0;
+    while i < bytes.len() {
+        let bits = bytes[i] & mask;
+        if bits != 0 {
+            return i;
+        }
+        i += 1;
+    }
+    i
+}
+
+// The place of the first nonzero octet, or the length.
+pub fn find_start(bytes: &[u8]) -> usize
+    ensures { λ r. ⌜ r ≡ startOf (now (bytes .entry)) ⌝ }
+    ensures { λ r. ⌜ r ≤ length (now (bytes .entry)) ⌝ }
+{
+    find(bytes, 0xFF)
+}
+
+// The place of the first octet with its low bit set, or the length.
+pub fn find_end(bytes: &[u8]) -> usize
+    ensures { λ r. ⌜ r ≡ endOf (now (bytes .entry)) ⌝ }
+    ensures { λ r. ⌜ r ≤ length (now (bytes .entry)) ⌝ }
+{
+    find(bytes, 0x01)
+}

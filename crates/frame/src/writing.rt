@@ -1,0 +1,166 @@
+// Writing a frame.
+use crate::Ax25Frame;
+use crate::Mark;
+use crate::RouteEntry;
+use crate::WriteAnswer;
+use crate::Written;
+use address::Address;
+ghost use mathlib.Core.Path.{_≡_};
+ghost use mathlib.Core.Bool.{true, not, _&&_};
+ghost use Prim.Native.Nat.{_+_, _*_, _≤_};
+ghost use lib.Dec.{eqb};
+ghost use lib.ListN.{length};
+ghost use Rattle.octets.specs.Splice.{splice};
+ghost use Rattle.address.specs.Address.{encodable};
+ghost use Rattle.address.specs.Group.{groupOf};
+ghost use Rattle.frame.specs.Spell.{groupsOf, destinationMark, sourceMark, addressField, spell};
+ghost use Rattle.frame.specs.Write.{routeEncodable, frameEncodable, writeAnswer, Taken, octetsWritten, written};
+
+fn destination_mark(mark: Mark) -> bool
+    ensures { λ r. ⌜ r ≡ destinationMark mark ⌝ }
+{
+    match mark {
+        Mark::Command => true,
+        Mark::Response => false,
+        Mark::Absent => true,
+    }
+}
+
+fn source_mark(mark: Mark) -> bool
+    ensures { λ r. ⌜ r ≡ sourceMark mark ⌝ }
+{
+    match mark {
+        Mark::Command => false,
+        Mark::Response => true,
+        Mark::Absent => false,
+    }
+}
+
+fn route_encodable(route: [RouteEntry; 8], count: usize) -> bool
+    requires { ⌜ count ≤ 8 ⌝ }
+    ensures { λ r. ⌜ r ≡ routeEncodable route count ⌝ }
+{
+    let mut i = 0;
+    while i < count {
+        let entry = route[i];
+        let repeater = entry.repeater;
+        if !repeater.is_encodable() {
+            return false;
+        }
+        i += 1;
+    }
+    true
+}
+
+fn frame_encodable(frame: Ax25Frame) -> bool
+    requires { ⌜ frame .«route_count» ≤ 8 ⌝ }
+    ensures { λ r. ⌜ r ≡ frameEncodable frame ⌝ }
+{
+    let destination = frame.destination;
+    if !destination.is_encodable() {
+        return false;
+    }
+    let source = frame.source;
+    if !source.is_encodable() {
+        return false;
+    }
+    let route = frame.route;
+    route_encodable(route, frame.route_count)
+}
+
+fn write_answer(frame: Ax25Frame, info: &[u8], room: usize) -> WriteAnswer
+    ensures { λ r. ⌜ r ≡ writeAnswer frame (now (info .entry)) room ⌝ }
+{
+    let count = frame.route_count;
+    if 8 < count {
+        return WriteAnswer::RouteTooLong;
+    }
+    if !frame_encodable(frame) {
+        return WriteAnswer::NotEncodable;
+    }
+    let content = frame.content;
+    if content.stray_info(info.len()) {
+        return WriteAnswer::InfoNotAllowed;
+    }
+    let head = 14 + 7 * count + content.front_len();
+    if room < head {
+        return WriteAnswer::NoRoom;
+    }
+    if room - head < info.len() {
+        return WriteAnswer::NoRoom;
+    }
+    WriteAnswer::Accepted
+}
+
+// A group, copied in from the address layer's seven octets.
+fn put_group(out: &mut [u8], at: usize, address: Address, mark: bool, last: bool)
+    requires { ⌜ encodable address ≡ true ⌝ }
+    ensures { λ r. ⌜ now (out .exit) ≡ splice (now (out .entry)) at (groupOf address mark last) ⌝ }
+{
+    let written = address::group::to_bytes(address, mark, last);
+    let group = written.group;
+    lent::put(out, at, &group);
+}
+
+// The repeaters' groups, one after the other from `at` on; the last alone has the end bit.
+fn put_route(out: &mut [u8], at: usize, route: [RouteEntry; 8], count: usize)
+    requires { ⌜ (count ≤ 8) × (at + 7 * count ≤ length (now out)) × (routeEncodable route count ≡ true) ⌝ }
+    ensures { λ r. ⌜ now (out .exit) ≡ splice (now (out .entry)) at (groupsOf route count count) ⌝ }
+{
+    let mut i = 0;
+    while i < count {
+        let entry = route[i];
+        let repeater = entry.repeater;
+        put_group(
+            out,
+            at + 7 * i,
+            repeater,
+            entry.has_repeated,
+            i + 1 == count,
+        );
+        i += 1;
+    }
+}
+
+// The address field: destination, source, repeaters.
+fn put_addresses(out: &mut [u8], frame: Ax25Frame)
+    requires { ⌜ (frame .«route_count» ≤ 8) × (14 + 7 * frame .«route_count» ≤ length (now out)) × (frameEncodable frame ≡ true) ⌝ }
+    ensures { λ r. ⌜ now (out .exit) ≡ splice (now (out .entry)) 0 (addressField frame) ⌝ }
+{
+    let mark = frame.command_or_response;
+    let count = frame.route_count;
+    let destination = frame.destination;
+    let source = frame.source;
+    let route = frame.route;
+    put_group(out, 0, destination, destination_mark(mark), false);
+    put_group(out, 7, source, source_mark(mark), count == 0);
+    put_route(out, 14, route, count);
+}
+
+// The frame and its info, once nothing is refused.
+fn put_frame(out: &mut [u8], frame: Ax25Frame, info: &[u8]) -> usize
+    requires { ⌜ Taken frame (now info) (length (now out)) ⌝ }
+    ensures { λ r. ⌜ r ≡ length (spell frame (now (info .entry))) ⌝ }
+    ensures { λ r. ⌜ now (out .exit) ≡ splice (now (out .entry)) 0 (spell frame (now (info .entry))) ⌝ }
+{
+    put_addresses(out, frame);
+    let at = 14 + 7 * frame.route_count;
+    let content = frame.content;
+    let after = content.encode(info, &mut out[at..]);
+    at + after.length
+}
+
+impl Ax25Frame {
+    // Encode the frame, with its info, as raw bytes for transmission.
+    pub fn to_bytes(self, info: &[u8], out: &mut [u8]) -> Written
+        ensures { λ r. ⌜ r ≡ written self (now (info .entry)) (length (now (out .entry))) ⌝ }
+        ensures { λ r. ⌜ now (out .exit) ≡ splice (now (out .entry)) 0 (octetsWritten self (now (info .entry)) (length (now (out .entry)))) ⌝ }
+    {
+        let answer = write_answer(self, info, out.len());
+        let WriteAnswer::Accepted = answer else {
+            return Written { answer, length: 0 };
+        };
+        let length = put_frame(out, self, info);
+        Written { answer, length }
+    }
+}

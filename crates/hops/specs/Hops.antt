@@ -1,0 +1,42 @@
+-- The hops of a route (document 01, Hops).
+use Prim.Native.Nat.{ℕ, suc, _+_, _*_}
+use mathlib.Core.Bool.{Bool, true, false, cond, _&&_}
+use mathlib.Core.List.{List, [], _∷_}
+use lib.Count.{ones}
+use lib.Dec.{ltb}
+use Rattle.octets.specs.Octet.{flag}
+use Rattle.frame.specs.Spell.{repeaterAt}
+use Rattle.frame.specs.declared.RouteEntry.{RouteEntry}
+use Rattle.frame.specs.declared.Ax25Frame.{Ax25Frame}
+
+-- whether place i is below the route count and marked. A count over 8 reads as 8, since there are eight places
+unfoldable pub markedAt : List RouteEntry → ℕ → ℕ → Bool
+markedAt route count i = ltb i count && repeaterAt route i .«has_repeated»
+
+-- the marks of the eight places
+unfoldable pub marks : List RouteEntry → ℕ → List Bool
+marks route count =
+    markedAt route count 0 ∷ markedAt route count 1 ∷ markedAt route count 2 ∷ markedAt route count 3
+    ∷ markedAt route count 4 ∷ markedAt route count 5 ∷ markedAt route count 6 ∷ markedAt route count 7 ∷ []
+
+-- bits, lowest first, as a number
+unfoldable pub setOf : List Bool → ℕ
+setOf [] = 0
+setOf (m ∷ ms) = setOf ms * 2 + flag 0 m
+
+-- the hop set: bit i for a marked place i below the route count
+unfoldable pub hopSet : Ax25Frame → ℕ
+hopSet f = setOf (marks (f .route) (f .«route_count»))
+
+-- the hops used: the number of ones in the hop set
+unfoldable pub hopsUsed : Ax25Frame → ℕ
+hopsUsed f = ones (hopSet f)
+
+-- the due place equals the hops used
+unfoldable pub duePlace : Ax25Frame → ℕ
+duePlace f = hopsUsed f
+
+-- how many of a list are true
+unfoldable pub howMany : List Bool → ℕ
+howMany [] = 0
+howMany (m ∷ ms) = cond m (suc (howMany ms)) (howMany ms)
