@@ -21,7 +21,7 @@ pub struct WrittenGroup {
 }
 
 impl GroupAnswer {
-    pub fn number(self) -> u8
+    pub fn number(self) -> u32
         ensures { λ r. ⌜ r ≡ groupNumberOf self ⌝ }
     {
         match self {

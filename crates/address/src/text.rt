@@ -41,7 +41,7 @@ enum Ssid {
 }
 
 impl AddressAnswer {
-    pub fn number(self) -> u8
+    pub fn number(self) -> u32
         ensures { λ r. ⌜ r ≡ addressNumberOf self ⌝ }
     {
         match self {
@@ -56,7 +56,7 @@ impl AddressAnswer {
 }
 
 impl PrintAnswer {
-    pub fn number(self) -> u8
+    pub fn number(self) -> u32
         ensures { λ r. ⌜ r ≡ printNumberOf self ⌝ }
     {
         match self {

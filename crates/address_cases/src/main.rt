@@ -135,7 +135,7 @@ fn parts(callsign: &[u8], ssid: u8) {
 fn outcome(read: AddressRead) {
     let answer = read.answer;
     put(b": ");
-    number(answer.number());
+    io::print_decimal(1, answer.number() as u64);
     put(b" ");
     station(read.address);
     put(b"\n");
@@ -170,7 +170,7 @@ fn print_into(address: Address, out: &mut [u8], room: usize) -> Printed {
 fn result(printed: Printed, out: [u8; 12]) {
     let answer = printed.answer;
     put(b": ");
-    number(answer.number());
+    io::print_decimal(1, answer.number() as u64);
     put(b" ");
     io::print_decimal(1, printed.length as u64);
     put(b" ");

@@ -1,5 +1,8 @@
 // The content of a frame, which is everything after the address field: its kinds, reading them and writing them.
 use protocol::ProtocolIdentifier;
+ghost use mathlib.Core.Path.{_≡_};
+ghost use Rattle.content.specs.Content.{numberOf};
+ghost use Rattle.content.specs.Encode.{encodeNumber};
 
 mod reading; // reading.rt: from octets to a kind and its fields
 mod writing; // writing.rt: from a kind and its info to octets
@@ -118,4 +121,31 @@ pub enum EncodeAnswer {
 pub struct ContentWritten {
     pub answer: EncodeAnswer,
     pub length: usize,
+}
+
+impl ContentAnswer {
+    pub fn number(self) -> u32
+        ensures { λ r. ⌜ r ≡ numberOf self ⌝ }
+    {
+        match self {
+            ContentAnswer::Accepted(_) => 0,
+            ContentAnswer::ContentZeroLength => 4,
+            ContentAnswer::MissingPidField => 5,
+            ContentAnswer::UnrecognisedSFieldType => 6,
+            ContentAnswer::UnrecognisedUFieldType => 7,
+            ContentAnswer::WrongSizeFrmrInfo => 8,
+        }
+    }
+}
+
+impl EncodeAnswer {
+    pub fn number(self) -> u32
+        ensures { λ r. ⌜ r ≡ encodeNumber self ⌝ }
+    {
+        match self {
+            EncodeAnswer::Written => 0,
+            EncodeAnswer::InfoNotAllowed => 23,
+            EncodeAnswer::NoRoom => 24,
+        }
+    }
 }

@@ -20,7 +20,7 @@ fn case(control: u8, length: usize) {
 
 fn read_again(part: &[u8]) {
     let answer = content::parse_content(part);
-    show::field(b"number", show::number_of(answer) as u64);
+    show::field(b"number", answer.number() as u64);
     let content::ContentAnswer::Accepted(kind) = answer else {
         return;
     };

@@ -15,7 +15,7 @@ fn lend(kind: FrameContent, info: &[u8], out: &mut [u8], room: usize) {
     }
     let w = kind.encode(info, &mut out[..room]);
     let answer = w.answer;
-    show::field(b"number", show::encode_number(answer) as u64);
+    show::field(b"number", answer.number() as u64);
     show::field(b"length", w.length as u64);
     show::text(b" :");
     show::octets(out);

@@ -1,14 +1,9 @@
 // A kind and its fields as text.
 use content::CommandResponse;
-use content::ContentAnswer;
-use content::EncodeAnswer;
 use content::FrameContent;
 use content::FrameReject;
 use content::Information;
 use content::UnnumberedInformation;
-ghost use mathlib.Core.Path.{_≡_};
-ghost use Rattle.content.specs.Content.{numberOf};
-ghost use Rattle.content.specs.Encode.{encodeNumber};
 
 pub fn text(t: &[u8]) {
     io::write_all(1, t);
@@ -40,29 +35,6 @@ pub fn field(name: &[u8], n: u64) {
 
 fn flag(name: &[u8], on: bool) {
     field(name, on as u64);
-}
-
-pub fn number_of(a: ContentAnswer) -> u8
-    ensures { λ r. ⌜ r ≡ numberOf a ⌝ }
-{
-    match a {
-        ContentAnswer::Accepted(_) => 0,
-        ContentAnswer::ContentZeroLength => 4,
-        ContentAnswer::MissingPidField => 5,
-        ContentAnswer::UnrecognisedSFieldType => 6,
-        ContentAnswer::UnrecognisedUFieldType => 7,
-        ContentAnswer::WrongSizeFrmrInfo => 8,
-    }
-}
-
-pub fn encode_number(a: EncodeAnswer) -> u8
-    ensures { λ r. ⌜ r ≡ encodeNumber a ⌝ }
-{
-    match a {
-        EncodeAnswer::Written => 0,
-        EncodeAnswer::InfoNotAllowed => 23,
-        EncodeAnswer::NoRoom => 24,
-    }
 }
 
 fn information(i: Information) {

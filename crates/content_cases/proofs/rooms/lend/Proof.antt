@@ -20,8 +20,8 @@ encode-requires c κs = search needs
 slice-aggregate-field : tie.Need-slice-aggregate-field
 slice-aggregate-field c = search needs
 
-encode-number-requires : tie.Need-encode-number-requires
-encode-number-requires c κs = search needs
+number-requires : tie.Need-number-requires
+number-requires c κs = search needs
 
 cast-field : tie.Need-cast-field
 cast-field c = search needs
@@ -59,7 +59,7 @@ lend-spec =
     slice-aggregate-encode
     encode-requires
     slice-aggregate-field
-    encode-number-requires
+    number-requires
     cast-field
     field-requires
     slice-aggregate-field-2
