@@ -6,7 +6,9 @@ use address::text::AddressRead;
 use address::text::Printed;
 
 fn main() {
-    put(b"# From document 01's list and the Rust; 35, 22 and 24 from document 01's table.\n");
+    show::text(
+        b"# From document 01's list and the Rust; 35, 22 and 24 from document 01's table.\n",
+    );
     document();
     callsigns();
     characters();
@@ -119,33 +121,26 @@ fn texts(list: &[u8]) {
 }
 
 fn text(input: &[u8]) {
-    put(b"text ");
-    show(input);
+    show::text(b"text ");
+    show::quoted(input);
     outcome(address::text::from_str(input));
 }
 
 fn parts(callsign: &[u8], ssid: u8) {
-    put(b"parts ");
-    show(callsign);
-    put(b" ");
-    number(ssid);
+    show::text(b"parts ");
+    show::quoted(callsign);
+    show::text(b" ");
+    show::number(ssid as u64);
     outcome(address::text::from_parts(callsign, ssid));
 }
 
 fn outcome(read: AddressRead) {
     let answer = read.answer;
-    put(b": ");
-    io::print_decimal(1, answer.number() as u64);
-    put(b" ");
-    station(read.address);
-    put(b"\n");
-}
-
-fn station(address: Address) {
-    let callsign = address.callsign;
-    show(&callsign);
-    put(b" ");
-    number(address.ssid);
+    show::text(b": ");
+    show::number(answer.number() as u64);
+    show::text(b" ");
+    show::station(read.address);
+    show::text(b"\n");
 }
 
 // The text goes into the first `room` of twelve octets, all of which are shown.
@@ -153,10 +148,10 @@ fn print(callsign: [u8; 6], ssid: u8, room: usize) {
     let address = Address { callsign, ssid };
     let mut out = [46u8; 12];
     let printed = print_into(address, &mut out, room);
-    put(b"print ");
-    station(address);
-    put(b" into ");
-    io::print_decimal(1, room as u64);
+    show::text(b"print ");
+    show::station(address);
+    show::text(b" into ");
+    show::number(room as u64);
     result(printed, out);
 }
 
@@ -169,47 +164,11 @@ fn print_into(address: Address, out: &mut [u8], room: usize) -> Printed {
 
 fn result(printed: Printed, out: [u8; 12]) {
     let answer = printed.answer;
-    put(b": ");
-    io::print_decimal(1, answer.number() as u64);
-    put(b" ");
-    io::print_decimal(1, printed.length as u64);
-    put(b" ");
-    show(&out);
-    put(b"\n");
-}
-
-fn number(n: u8) {
-    io::print_decimal(1, n as u64);
-}
-
-fn put(octets: &[u8]) {
-    io::write_all(1, octets);
-}
-
-// Octets in quotes, those that are no printing character in hex.
-fn show(octets: &[u8]) {
-    put(b"\"");
-    let mut i = 0;
-    while i < octets.len() {
-        show_octet(octets[i]);
-        i += 1;
-    }
-    put(b"\"");
-}
-
-fn show_octet(octet: u8) {
-    if octet < 32 {
-        show_hex(octet);
-        return;
-    }
-    if octet > 126 {
-        show_hex(octet);
-        return;
-    }
-    put(&[octet]);
-}
-
-fn show_hex(octet: u8) {
-    put(b"\\x");
-    io::print_hex(1, octet as u64, 2);
+    show::text(b": ");
+    show::number(answer.number() as u64);
+    show::text(b" ");
+    show::number(printed.length as u64);
+    show::text(b" ");
+    show::quoted(&out);
+    show::text(b"\n");
 }

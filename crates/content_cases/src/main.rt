@@ -3,7 +3,6 @@
 use content::FrameContent;
 ghost use Prim.Native.Nat.{_≤_};
 
-mod show; // show.rt: a kind and its fields as text
 mod rooms; // rooms.rt: writing into buffers of several sizes
 
 // Reads the content's first octets, and writes what was accepted again.

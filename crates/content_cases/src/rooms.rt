@@ -1,5 +1,4 @@
 // Writing into buffers that are full, one octet short, and longer: guard octets show what stays.
-use super::show;
 use content::CommandResponse;
 use content::FrameContent;
 use content::FrameReject;

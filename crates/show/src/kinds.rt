@@ -1,41 +1,12 @@
-// A kind and its fields as text.
+// A content kind and its fields.
+use super::field;
+use super::flag;
+use super::text;
 use content::CommandResponse;
 use content::FrameContent;
 use content::FrameReject;
 use content::Information;
 use content::UnnumberedInformation;
-
-pub fn text(t: &[u8]) {
-    io::write_all(1, t);
-}
-
-pub fn octet(b: u8) {
-    io::print_hex(1, b as u64, 2);
-}
-
-fn spaced(b: u8) {
-    text(b" ");
-    octet(b);
-}
-
-pub fn octets(s: &[u8]) {
-    let mut i = 0;
-    while i < s.len() {
-        spaced(s[i]);
-        i += 1;
-    }
-}
-
-pub fn field(name: &[u8], n: u64) {
-    text(b" ");
-    text(name);
-    text(b"=");
-    io::print_decimal(1, n);
-}
-
-fn flag(name: &[u8], on: bool) {
-    field(name, on as u64);
-}
 
 fn information(i: Information) {
     text(b" I");

@@ -2,8 +2,8 @@
 use Prim.Native.Nat.{_-_, _≤_}
 use borrow.Author.Needs.{needs}
 use lib.ListN.{length}
-use Rattle.content_cases.proofs.show.octets.Statement.{statement}
-use Rattle.content_cases.proofs.show.octets.Tie as tie
+use Rattle.show.proofs.octets.Statement.{statement}
+use Rattle.show.proofs.octets.Tie as tie
 
 abbrev Inv-loop : tie.InvT-loop
 Inv-loop s i₀ i = i ≤ length s
