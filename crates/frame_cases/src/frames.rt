@@ -1,0 +1,100 @@
+// A frame and its fields as text.
+use frame::Ax25Frame;
+use frame::DecodeAnswer;
+use frame::Decoded;
+use frame::Mark;
+use frame::RouteEntry;
+
+fn details(start: usize, end: usize, length: usize) {
+    show::field(b"start", start as u64);
+    show::field(b"end", end as u64);
+    show::field(b"length", length as u64);
+}
+
+// A detail that the number does not give is 0.
+fn answer(a: DecodeAnswer) {
+    show::field(b"number", a.number() as u64);
+    match a {
+        DecodeAnswer::Accepted => details(0, 0, 0),
+        DecodeAnswer::OnlyNullBytes => details(0, 0, 0),
+        DecodeAnswer::NoEndToAddressField => details(0, 0, 0),
+        DecodeAnswer::AddressFieldTooShort { start, end } => details(start, end, 0),
+        DecodeAnswer::FrameTooShort { len } => details(0, 0, len),
+        DecodeAnswer::MissingPidField => details(0, 0, 0),
+        DecodeAnswer::UnrecognisedSFieldType => details(0, 0, 0),
+        DecodeAnswer::UnrecognisedUFieldType => details(0, 0, 0),
+        DecodeAnswer::WrongSizeFrmrInfo => details(0, 0, 0),
+        DecodeAnswer::TooManyRepeaters => details(0, 0, 0),
+    }
+}
+
+// The number, its details and the place of the info.
+pub fn outcome(d: Decoded) {
+    let a = d.answer;
+    answer(a);
+    show::field(b"info_start", d.info_start as u64);
+    show::field(b"info_len", d.info_len as u64);
+}
+
+fn mark(m: Mark) {
+    match m {
+        Mark::Command => show::text(b" command"),
+        Mark::Response => show::text(b" response"),
+        Mark::Absent => show::text(b" absent"),
+    }
+}
+
+// A marked place is followed by *.
+fn entry(e: RouteEntry) {
+    show::text(b" ");
+    let repeater = e.repeater;
+    show::station(repeater);
+    if e.has_repeated {
+        show::text(b"*");
+    }
+}
+
+// All eight places, in use or not.
+fn places(route: [RouteEntry; 8]) {
+    let mut i = 0;
+    while i < 8 {
+        entry(route[i]);
+        i += 1;
+    }
+}
+
+fn ends(frame: Ax25Frame) {
+    let destination = frame.destination;
+    show::text(b" to ");
+    show::station(destination);
+    let source = frame.source;
+    show::text(b" from ");
+    show::station(source);
+}
+
+fn rest(frame: Ax25Frame) {
+    let m = frame.command_or_response;
+    mark(m);
+    let content = frame.content;
+    show::kind(content);
+}
+
+// Every field, the unused places too.
+pub fn whole(frame: Ax25Frame) {
+    ends(frame);
+    show::field(b"count", frame.route_count as u64);
+    let route = frame.route;
+    places(route);
+    rest(frame);
+}
+
+// Every field; no places where the route is empty.
+pub fn fields(frame: Ax25Frame) {
+    if frame.route_count > 0 {
+        whole(frame);
+        return;
+    }
+    ends(frame);
+    show::field(b"count", 0);
+    rest(frame);
+}

@@ -1,0 +1,171 @@
+// Records that reading never gives, written.
+use super::frames;
+use super::rooms::rooms;
+use address::Address;
+use content::CommandResponse;
+use content::FrameContent;
+use content::FrameReject;
+use content::Information;
+use content::ReceiveReady;
+use content::UnnumberedInformation;
+use frame::Ax25Frame;
+use frame::Mark;
+use frame::RouteEntry;
+use protocol::ProtocolIdentifier;
+
+// Every field, the info, and the lines of its rooms.
+fn record(frame: Ax25Frame, info: &[u8]) {
+    show::text(b"record");
+    frames::whole(frame);
+    show::text(b" info");
+    show::octets(info);
+    show::text(b"\n");
+    rooms(frame, info);
+}
+
+fn gauge() -> Address {
+    Address {
+        callsign: *b"GAUGE ",
+        ssid: 0,
+    }
+}
+
+fn station() -> Address {
+    Address {
+        callsign: *b"BOX12 ",
+        ssid: 3,
+    }
+}
+
+// The given repeater in place 1, where the unused ones stand in the others.
+fn built(repeater: Address, count: usize, mark: Mark, content: FrameContent) -> Ax25Frame {
+    let unused = RouteEntry::default();
+    let mut route = [unused; 8];
+    route[1] = RouteEntry {
+        repeater,
+        has_repeated: true,
+    };
+    Ax25Frame {
+        source: station(),
+        destination: gauge(),
+        route,
+        route_count: count,
+        command_or_response: mark,
+        content,
+    }
+}
+
+fn ui() -> FrameContent {
+    FrameContent::UnnumberedInformation(UnnumberedInformation {
+        pid: ProtocolIdentifier::None,
+        poll_or_final: false,
+    })
+}
+
+fn rr(receive_sequence: u8) -> FrameContent {
+    FrameContent::ReceiveReady(ReceiveReady {
+        receive_sequence,
+        poll_or_final: true,
+    })
+}
+
+fn i(receive_sequence: u8, send_sequence: u8) -> FrameContent {
+    FrameContent::Information(Information {
+        pid: ProtocolIdentifier::Layer3Impl,
+        receive_sequence,
+        send_sequence,
+        poll: false,
+    })
+}
+
+fn frmr(receive_sequence: u8, send_sequence: u8) -> FrameContent {
+    FrameContent::FrameReject(FrameReject {
+        final_bit: true,
+        rejected_control_field_raw: 0xEE,
+        z: true,
+        y: false,
+        x: false,
+        w: true,
+        receive_sequence,
+        send_sequence,
+        command_response: CommandResponse::Response,
+    })
+}
+
+fn simple() {
+    record(Ax25Frame::default(), b"");
+    record(Ax25Frame::new_simple_ui_frame(station(), gauge()), b"OK");
+}
+
+fn of_count(count: usize) {
+    record(built(station(), count, Mark::Command, ui()), b"");
+}
+
+fn counts() {
+    of_count(8);
+    of_count(9);
+    of_count(0xFFFF_FFFF_FFFF_FFFF);
+}
+
+// As destination, as source, as a repeater in use, and in a place that is not.
+fn odd_address(odd: Address) {
+    record(Ax25Frame::new_simple_ui_frame(station(), odd), b"");
+    record(Ax25Frame::new_simple_ui_frame(odd, gauge()), b"");
+    record(built(odd, 2, Mark::Command, ui()), b"");
+    record(built(odd, 1, Mark::Command, ui()), b"");
+}
+
+// A character of 128, an SSID of 16, and the largest that are taken.
+fn odd_addresses() {
+    odd_address(Address {
+        callsign: *b"BOX12\x80",
+        ssid: 3,
+    });
+    odd_address(Address {
+        callsign: *b"BOX12 ",
+        ssid: 16,
+    });
+    odd_address(Address {
+        callsign: *b"BOX12\x7F",
+        ssid: 15,
+    });
+}
+
+fn of_content(content: FrameContent, info: &[u8]) {
+    record(built(station(), 0, Mark::Response, content), info);
+}
+
+// Sequence numbers are taken modulo 8; `UnknownContent` is the lent octets alone.
+fn contents() {
+    of_content(i(8, 255), b"OK");
+    of_content(rr(255), b"");
+    of_content(frmr(255, 8), b"");
+    of_content(FrameContent::UnknownContent, b"OK");
+    of_content(FrameContent::UnknownContent, b"");
+}
+
+// No mark is written as Command.
+fn absent() {
+    record(built(station(), 0, Mark::Absent, ui()), b"OK");
+}
+
+// 21 before 22 before 23 before 24: each refusal also has those after it.
+fn orders() {
+    let odd = Address {
+        callsign: *b"\xFFOX   ",
+        ssid: 255,
+    };
+    record(built(odd, 9, Mark::Command, rr(0)), b"OK");
+    record(built(odd, 2, Mark::Command, rr(0)), b"OK");
+    record(built(odd, 1, Mark::Command, rr(0)), b"OK");
+    record(built(odd, 1, Mark::Command, rr(0)), b"");
+}
+
+pub fn all() {
+    simple();
+    counts();
+    odd_addresses();
+    contents();
+    absent();
+    orders();
+}

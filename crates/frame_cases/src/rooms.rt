@@ -1,0 +1,55 @@
+// A frame written into rooms of several sizes: guard octets EE show what stays.
+use super::cutting::first;
+use frame::Ax25Frame;
+use frame::Written;
+
+// The first `room` octets are lent.
+fn lend(frame: Ax25Frame, info: &[u8], out: &mut [u8], room: usize) -> Written {
+    if out.len() < room {
+        return frame.to_bytes(info, out);
+    }
+    frame.to_bytes(info, &mut out[..room])
+}
+
+fn outcome(w: Written) {
+    let answer = w.answer;
+    show::field(b"number", answer.number() as u64);
+    show::field(b"length", w.length as u64);
+    show::text(b" :");
+}
+
+// Shown: number, length, and the lent octets with the three behind them.
+fn room(frame: Ax25Frame, info: &[u8], room: usize) {
+    if 125 < room {
+        return;
+    }
+    let mut out = [0xEEu8; 128];
+    let w = lend(frame, info, &mut out, room);
+    show::field(b"room", room as u64);
+    outcome(w);
+    show::octets(first(&out, room + 3));
+    show::text(b"\n");
+}
+
+// How many octets are written where there is room.
+fn needed(frame: Ax25Frame, info: &[u8]) -> usize {
+    let mut out = [0u8; 128];
+    let w = frame.to_bytes(info, &mut out);
+    w.length
+}
+
+// Exactly full, one octet short, and three octets longer; for a frame that is refused, no room and much.
+pub fn rooms(frame: Ax25Frame, info: &[u8]) {
+    let n = needed(frame, info);
+    if n == 0 {
+        room(frame, info, 0);
+        room(frame, info, 100);
+        return;
+    }
+    if 122 < n {
+        return;
+    }
+    room(frame, info, n);
+    room(frame, info, n - 1);
+    room(frame, info, n + 3);
+}
