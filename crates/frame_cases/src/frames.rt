@@ -1,7 +1,6 @@
 // A frame and its fields as text.
 use frame::Ax25Frame;
 use frame::DecodeAnswer;
-use frame::Decoded;
 use frame::Mark;
 use frame::RouteEntry;
 
@@ -29,11 +28,10 @@ fn answer(a: DecodeAnswer) {
 }
 
 // The number, its details and the place of the info.
-pub fn outcome(d: Decoded) {
-    let a = d.answer;
+pub fn outcome(a: DecodeAnswer, info_start: usize, info_len: usize) {
     answer(a);
-    show::field(b"info_start", d.info_start as u64);
-    show::field(b"info_len", d.info_len as u64);
+    show::field(b"info_start", info_start as u64);
+    show::field(b"info_len", info_len as u64);
 }
 
 fn mark(m: Mark) {

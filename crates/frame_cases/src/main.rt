@@ -8,10 +8,15 @@ mod records; // records.rt: records that reading never gives
 mod spans; // spans.rt: address fields of many lengths
 mod routes; // routes.rt: the hops of routes, and equal stations
 
-fn main() {
+// How the expected lines were made.
+fn heading() {
     show::text(
         b"Frames read and written again: expected lines from the unchanged Rust. From document 01's rules, not from the Rust:\nnumbers 9 and 21 to 24, info's place, untouched octets, records the Rust can't hold, hops and equal stations.\n",
     );
+}
+
+fn main() {
+    heading();
     reading::all();
     spans::all();
     records::all();

@@ -4,6 +4,7 @@ use super::cutting::place;
 use super::frames;
 use super::rooms::rooms;
 use frame::Ax25Frame;
+use frame::Decoded;
 
 // The frame with the info that lies in the input.
 fn again(frame: Ax25Frame, input: &[u8], start: usize, len: usize) {
@@ -17,19 +18,24 @@ fn again(frame: Ax25Frame, input: &[u8], start: usize, len: usize) {
     rooms(frame, &input[start..end]);
 }
 
-// One line, and three more where the input is accepted.
-pub fn read(input: &[u8]) {
-    let d = Ax25Frame::from_bytes(input);
-    frames::outcome(d);
-    let answer = d.answer;
-    if answer.number() > 0 {
-        show::text(b"\n");
-        return;
-    }
+// The frame's fields, and the lines of its rooms.
+fn accepted(d: Decoded, input: &[u8]) {
     let frame = d.frame;
     frames::fields(frame);
     show::text(b"\n");
     again(frame, input, d.info_start, d.info_len);
+}
+
+// One line, and three more where the input is accepted.
+pub fn read(input: &[u8]) {
+    let d = Ax25Frame::from_bytes(input);
+    let answer = d.answer;
+    frames::outcome(answer, d.info_start, d.info_len);
+    if answer.number() > 0 {
+        show::text(b"\n");
+        return;
+    }
+    accepted(d, input);
 }
 
 // The case's octets behind those in front.
@@ -89,13 +95,16 @@ fn contents() {
     );
 }
 
-// The one frame whose unused places are shown: the default frame, which a refusal returns.
-fn refused_frame() {
-    let d = Ax25Frame::from_bytes(b"");
-    show::text(b"The frame of a refusal:");
+fn whole(d: Decoded) {
     let frame = d.frame;
     frames::whole(frame);
     show::text(b"\n");
+}
+
+// The default frame, unused places and all.
+fn refused_frame() {
+    show::text(b"The frame of a refusal:");
+    whole(Ax25Frame::from_bytes(b""));
 }
 
 pub fn all() {

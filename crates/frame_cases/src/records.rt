@@ -92,27 +92,34 @@ fn frmr(receive_sequence: u8, send_sequence: u8) -> FrameContent {
     })
 }
 
-fn simple() {
-    record(Ax25Frame::default(), b"");
-    record(Ax25Frame::new_simple_ui_frame(station(), gauge()), b"OK");
+fn given(repeater: Address, count: usize, mark: Mark, content: FrameContent, info: &[u8]) {
+    record(built(repeater, count, mark, content), info);
 }
 
-fn of_count(count: usize) {
-    record(built(station(), count, Mark::Command, ui()), b"");
+fn simple_ui(source: Address, destination: Address, info: &[u8]) {
+    record(Ax25Frame::new_simple_ui_frame(source, destination), info);
+}
+
+fn default() {
+    record(Ax25Frame::default(), b"");
+}
+
+fn in_route(repeater: Address, count: usize) {
+    given(repeater, count, Mark::Command, ui(), b"");
 }
 
 fn counts() {
-    of_count(8);
-    of_count(9);
-    of_count(0xFFFF_FFFF_FFFF_FFFF);
+    in_route(station(), 8);
+    in_route(station(), 9);
+    in_route(station(), 0xFFFF_FFFF_FFFF_FFFF);
 }
 
 // As destination, as source, as a repeater in use, and in a place that is not.
 fn odd_address(odd: Address) {
-    record(Ax25Frame::new_simple_ui_frame(station(), odd), b"");
-    record(Ax25Frame::new_simple_ui_frame(odd, gauge()), b"");
-    record(built(odd, 2, Mark::Command, ui()), b"");
-    record(built(odd, 1, Mark::Command, ui()), b"");
+    simple_ui(station(), odd, b"");
+    simple_ui(odd, gauge(), b"");
+    in_route(odd, 2);
+    in_route(odd, 1);
 }
 
 // A character of 128, an SSID of 16, and the largest that are taken.
@@ -131,41 +138,51 @@ fn odd_addresses() {
     });
 }
 
-fn of_content(content: FrameContent, info: &[u8]) {
-    record(built(station(), 0, Mark::Response, content), info);
+fn response(content: FrameContent, info: &[u8]) {
+    given(station(), 0, Mark::Response, content, info);
 }
 
-// Sequence numbers are taken modulo 8; `UnknownContent` is the lent octets alone.
-fn contents() {
-    of_content(i(8, 255), b"OK");
-    of_content(rr(255), b"");
-    of_content(frmr(255, 8), b"");
-    of_content(FrameContent::UnknownContent, b"OK");
-    of_content(FrameContent::UnknownContent, b"");
+// Sequence numbers are taken modulo 8.
+fn sequences() {
+    response(i(8, 255), b"OK");
+    response(rr(255), b"");
+    response(frmr(255, 8), b"");
+}
+
+// The lent octets alone.
+fn unknown() {
+    response(FrameContent::UnknownContent, b"OK");
+    response(FrameContent::UnknownContent, b"");
 }
 
 // No mark is written as Command.
 fn absent() {
-    record(built(station(), 0, Mark::Absent, ui()), b"OK");
+    given(station(), 0, Mark::Absent, ui(), b"OK");
 }
 
-// 21 before 22 before 23 before 24: each refusal also has those after it.
-fn orders() {
+fn odd_rr(count: usize, info: &[u8]) {
     let odd = Address {
         callsign: *b"\xFFOX   ",
         ssid: 255,
     };
-    record(built(odd, 9, Mark::Command, rr(0)), b"OK");
-    record(built(odd, 2, Mark::Command, rr(0)), b"OK");
-    record(built(odd, 1, Mark::Command, rr(0)), b"OK");
-    record(built(odd, 1, Mark::Command, rr(0)), b"");
+    given(odd, count, Mark::Command, rr(0), info);
+}
+
+// 21 before 22 before 23 before 24: each refusal also has those after it.
+fn orders() {
+    odd_rr(9, b"OK");
+    odd_rr(2, b"OK");
+    odd_rr(1, b"OK");
+    odd_rr(1, b"");
 }
 
 pub fn all() {
-    simple();
+    default();
+    simple_ui(station(), gauge(), b"OK");
     counts();
     odd_addresses();
-    contents();
+    sequences();
+    unknown();
     absent();
     orders();
 }

@@ -38,15 +38,26 @@ fn frame(marks: u8, count: usize) -> Ax25Frame {
     }
 }
 
+fn set(marks: u8, count: usize) -> u8 {
+    hops::hop_set(frame(marks, count))
+}
+
+fn used(marks: u8, count: usize) -> u32 {
+    hops::hops_used(frame(marks, count))
+}
+
+fn due(marks: u8, count: usize) -> usize {
+    hops::due_place(frame(marks, count))
+}
+
 fn hops(marks: u8, count: usize) {
     show::text(b"hops marks=");
     show::octet(marks);
     show::field(b"count", count as u64);
-    let f = frame(marks, count);
     show::text(b": set ");
-    show::octet(hops::hop_set(f));
-    show::field(b"used", hops::hops_used(f) as u64);
-    show::field(b"due", hops::due_place(f) as u64);
+    show::octet(set(marks, count));
+    show::field(b"used", used(marks, count) as u64);
+    show::field(b"due", due(marks, count) as u64);
     show::text(b"\n");
 }
 
