@@ -15,8 +15,8 @@ use Rattle.octets.specs.Octet.{Octets, bit}
 use Rattle.octets.proofs.Choice.{by, both}
 use Rattle.octets.proofs.Octet.{octets-drop, octets-take}
 use Rattle.octets.proofs.First.{first-passes, first-before, first-is}
-use Rattle.address.specs.Group.{groupOf, addressOf, markOf, reserved}
-use Rattle.address.proofs.Laws.{group-length, group-reserved, group-starts, written-exact}
+use Rattle.address.specs.Group.{groupOf, reserved, reservedSet}
+use Rattle.address.proofs.Laws.{group-reserved, written-exact, reserved-last}
 use Rattle.content.specs.Content.{hasInfo, contentOf}
 use Rattle.content.specs.Spell.{front, spellContent}
 use Rattle.content.specs.Lean.{lean, infoOf}
@@ -190,3 +190,31 @@ module _ (s : List ℕ) (o : Octets s) (a : Accepts s (decode s)) where
       ap (λ (y : List ℕ). front (a .kind) ++ y) info-tail ∙ x ∙ ap (λ (j : ℕ). drop j s) at in
       rw made-frame
       (spell-again s o n end (a .end-in) (a .few) (t4 .0) (a .kind) (infoIn s (decode s)) start (rw start at (t3 .0)) tail)
+
+-- the reserved bits of a group, by its last octet in the input
+group-last : (s : List ℕ) (j : ℕ) → reserved (groupAt s (7 * j)) ≡ reservedSet (getD s (7 * j + 6) 0)
+group-last s j =
+    reserved-last (groupAt s (7 * j)) ∙ ap reservedSet (getD-take 7 (drop (7 * j) s) 6 0 (omega arith) ∙ getD-drop (7 * j) s 6 0)
+
+-- one group more, as a loop looks at it
+pub reserved-more : (s : List ℕ) (n : ℕ) → reservedGroups s n ≡ true → reservedSet (getD s (7 * n + 6) 0) ≡ true → reservedGroups s (n + 1) ≡ true
+unfolding reservedGroups
+reserved-more s n e h = rw (add-one, e, group-last s n) h
+
+-- one group without them is enough
+pub reserved-one : (s : List ℕ) (n j : ℕ) → j < n → reservedSet (getD s (7 * j + 6) 0) ≡ false → reservedGroups s n ≡ false
+reserved-one s n j h e =
+    by (reservedGroups s n)
+    (λ t. absurd (true≢false (sym (reserved-each s n j t h) ∙ group-last s j ∙ e)))
+    (λ f. f)
+
+pub reserved-none : (s : List ℕ) → reservedGroups s 0 ≡ true
+unfolding reservedGroups
+reserved-none s = refl
+
+-- the five tests, in their order
+pub direct-is : (s : List ℕ) (n : ℕ) (m : Mark)
+    → direct s n m
+    ≡ (nonzero (getD s 0 0) && (bit 0 (getD s (13 + 7 * n) 0) && (marked m && (reservedGroups s (n + 2) && lean (drop (14 + 7 * n) s)))))
+unfolding direct
+direct-is s n m = refl

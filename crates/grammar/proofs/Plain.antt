@@ -8,7 +8,7 @@ use native.Mathlib.Omega.{arith}
 use borrow.Author.Tests.{not-true, eqb-false}
 use lib.Dec.{eqb, ltb}
 use lib.ListN.{length, length-drop, length-take, getD, drop, take}
-use lib.Seq.{getD-drop, getD-take}
+use lib.Seq.{getD-drop, getD-take, length-take-le}
 use Rattle.octets.specs.Octet.{Octets, bit}
 use Rattle.octets.proofs.Choice.{by}
 use Rattle.octets.proofs.Octet.{octets-drop, octets-take}
@@ -153,3 +153,6 @@ inside-made s a =
 
 pub inside : (s : List ℕ) → isAccepted (decode s .answer) ≡ true → Inside s (decode s)
 inside s e = let a = accepts s e in subst (λ (d : Decoded). Inside s d) (sym (a .made)) (inside-made s a)
+
+pub info-length : (s : List ℕ) (d : Decoded) → Inside s d → length (infoIn s d) ≡ d .«info_len»
+info-length s d i = length-take-le (d .«info_len») (drop (d .«info_start») s) (rw length-drop (omega (arith, i .info)))

@@ -6,6 +6,8 @@ use lib.Dec.{ltb}
 use lib.ListN.{length}
 use Rattle.frame.specs.Frame.{numberOf, isAccepted}
 use Rattle.frame.specs.Read.{decode}
+use Rattle.frame.specs.declared.WriteAnswer.{WriteAnswer}
+use Rattle.frame.specs.declared.WriteAnswer.the-variants as write
 use Rattle.spelling.specs.Canonical.{again}
 use Rattle.spelling.specs.declared.ReencodeAnswer.{ReencodeAnswer}
 use Rattle.spelling.specs.declared.ReencodeAnswer.the-variants.{Written, Refused, NoRoom}
@@ -25,6 +27,14 @@ reencoded s room = cond (ltb room (length (due s))) [] (due s)
 
 unfoldable pub reencode : List ℕ → ℕ → Reencoded
 reencode s room = record { answer = reencodeAnswer s room; length = length (reencoded s room) }
+
+-- writing's answer to a frame that was decoded
+abbrev pub answerBy : WriteAnswer → ReencodeAnswer
+answerBy write.Accepted = Written
+answerBy write.RouteTooLong = NoRoom
+answerBy write.NotEncodable = NoRoom
+answerBy write.InfoNotAllowed = NoRoom
+answerBy write.NoRoom = NoRoom
 
 abbrev pub reencodeNumber : ReencodeAnswer → ℕ
 reencodeNumber Written = 0
