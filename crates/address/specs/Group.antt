@@ -27,9 +27,12 @@ addressOf g = record {
 unfoldable pub markOf : List ℕ → Bool
 markOf g = bit 7 (getD g 6 0)
 
--- whether both reserved bits are ones
+-- whether both reserved bits of the SSID's octet are ones, and of a group
+abbrev pub reservedSet : ℕ → Bool
+reservedSet b = eqb (field 5 2 b) 3
+
 unfoldable pub reserved : List ℕ → Bool
-reserved g = eqb (field 5 2 (getD g 6 0)) 3
+reserved g = reservedSet (getD g 6 0)
 
 -- the same octet with both reserved bits set: bit 7 and bits 0 to 4 stay
 abbrev pub reservedOctet : ℕ → ℕ

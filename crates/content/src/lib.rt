@@ -6,8 +6,10 @@ ghost use Rattle.content.specs.Encode.{encodeNumber};
 
 mod reading; // reading.rt: from octets to a kind and its fields
 mod writing; // writing.rt: from a kind and its info to octets
+mod spelled; // spelled.rt: whether octets are just as writing gives them
 
 pub use reading::parse_content;
+pub use spelled::is_lean;
 
 // Indicates whether a given frame is a Command or a Response.
 pub enum CommandResponse {

@@ -20,6 +20,10 @@ use Rattle.octets.proofs.First.{first-sooner}
 use Rattle.content.proofs.ContentAnswer.{the-type}
 use Rattle.content.specs.declared.ContentAnswer.{ContentAnswer}
 use Rattle.content.specs.declared.ContentAnswer.the-variants as content
+use Rattle.frame.specs.Frame.{isAccepted}
+use Rattle.frame.specs.declared.DecodeAnswer.{DecodeAnswer}
+use Rattle.frame.specs.declared.DecodeAnswer.the-variants as answer
+use Rattle.frame.proofs.DecodeAnswer.{the-type as decode-type}
 use Rattle.frame.specs.Search.{masked}
 use Rattle.frame.specs.Read.{nonzero, startOf, endOf, groupAt, entryAt, placeAt, routeAt, refusedWith, refusalOf, withContent}
 
@@ -71,3 +75,16 @@ mask-nonzero b h = rw (and-mask b 8, mod-eq-of-lt h)
 
 pub mask-low : (b : ℕ) → masked 0x01 b ≡ bit 0 b
 mask-low b = bit-test b 0
+
+-- what a match on the answer tells where it is not the first case
+pub told-refused : (a : DecodeAnswer) → OneOf (1 ∷ 2 ∷ 3 ∷ 4 ∷ 5 ∷ 6 ∷ 7 ∷ 8 ∷ 9 ∷ []) (tagOf decode-type a) → isAccepted a ≡ false
+told-refused answer.Accepted h = absurd (miss (1 ∷ 2 ∷ 3 ∷ 4 ∷ 5 ∷ 6 ∷ 7 ∷ 8 ∷ 9 ∷ []) 0 tt h)
+told-refused answer.OnlyNullBytes h = refl
+told-refused answer.NoEndToAddressField h = refl
+told-refused (answer.AddressFieldTooShort start end) h = refl
+told-refused (answer.FrameTooShort len) h = refl
+told-refused answer.MissingPidField h = refl
+told-refused answer.UnrecognisedSFieldType h = refl
+told-refused answer.UnrecognisedUFieldType h = refl
+told-refused answer.WrongSizeFrmrInfo h = refl
+told-refused answer.TooManyRepeaters h = refl

@@ -1,6 +1,6 @@
 -- The frame record: the default frame, and document 01's numbers for the answers.
 use Prim.Native.Nat.{ℕ}
-use mathlib.Core.Bool.{false}
+use mathlib.Core.Bool.{Bool, true, false}
 use mathlib.Core.List.{List, [], _∷_}
 use Rattle.address.specs.Address.{noCall}
 use Rattle.address.specs.declared.Address.{Address}
@@ -60,6 +60,18 @@ reportOf read.TooManyRepeaters = number 9
 
 abbrev pub numberOf : DecodeAnswer → ℕ
 numberOf a = reportOf a .number
+
+abbrev pub isAccepted : DecodeAnswer → Bool
+isAccepted read.Accepted = true
+isAccepted read.OnlyNullBytes = false
+isAccepted read.NoEndToAddressField = false
+isAccepted (read.AddressFieldTooShort start end) = false
+isAccepted (read.FrameTooShort len) = false
+isAccepted read.MissingPidField = false
+isAccepted read.UnrecognisedSFieldType = false
+isAccepted read.UnrecognisedUFieldType = false
+isAccepted read.WrongSizeFrmrInfo = false
+isAccepted read.TooManyRepeaters = false
 
 -- the numbers of writing
 abbrev pub writeNumber : WriteAnswer → ℕ

@@ -57,6 +57,22 @@ marked Command = true
 marked Response = true
 marked Absent = false
 
+-- the frame with an absent mark made Command, as it is written
+abbrev pub madeCommand : Mark → Mark
+madeCommand Command = Command
+madeCommand Response = Response
+madeCommand Absent = Command
+
+unfoldable pub withMark : Ax25Frame → Ax25Frame
+withMark f = record {
+  source = f .source;
+  destination = f .destination;
+  route = f .route;
+  «route_count» = f .«route_count»;
+  «command_or_response» = madeCommand (f .«command_or_response»);
+  content = f .content;
+}
+
 -- a plain frame, with its info. Unused route places are no part of it
 pub record Plain (f : Ax25Frame) (info : List ℕ) : Type 0 where
   -- a mark of Command or Response

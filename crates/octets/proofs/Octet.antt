@@ -7,7 +7,7 @@ use mathlib.Core.Logic.{⊎-elim}
 use native.Mathlib.Omega.{arith}
 use native.Mathlib.Nat.{eq-or-lt-of-le, le-of-suc-le-suc, not-suc-le-zero}
 use lib.Dec.{T, eqb, eqb→eq}
-use lib.ListN.{drop}
+use lib.ListN.{drop, take}
 use lib.Seq.{getD-drop}
 use Rattle.octets.specs.Octet.{Octets}
 use Rattle.octets.proofs.Choice.{so}
@@ -88,3 +88,9 @@ pub octets-each : (s : List ℕ) → Each s → Octets s
 octets-each [] h k = omega arith
 octets-each (b ∷ s) h zero = h .0
 octets-each (b ∷ s) h (suc k) = octets-each s (h .1) k
+
+pub octets-take : (s : List ℕ) (n : ℕ) → Octets s → Octets (take n s)
+octets-take s zero o k = omega arith
+octets-take [] (suc n) o k = omega arith
+octets-take (x ∷ s) (suc n) o zero = o 0
+octets-take (x ∷ s) (suc n) o (suc k) = octets-take s n (λ j. o (suc j)) k

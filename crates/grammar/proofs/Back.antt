@@ -19,15 +19,15 @@ use Rattle.content.specs.Content.{hasInfo, contentOf}
 use Rattle.content.specs.Spell.{front}
 use Rattle.content.specs.declared.ContentAnswer.the-variants.{Accepted}
 use Rattle.content.proofs.Laws.{content-back, content-some, front-two}
 use Rattle.frame.specs.Read.{startOf, endOf, groupAt, parsedAt, entryAt, placeAt, routeAt, commandOf, frameAt, acceptedWith, withContent, decodeField, decode, infoIn}
 use Rattle.frame.specs.Spell.{repeaterAt, groupsOf, destinationMark, sourceMark, addressField, spell, marked, Plain, placeInUse, routeInUse, inUse}
 use Rattle.frame.specs.declared.Mark.{Mark}
 use Rattle.frame.specs.declared.Mark.the-variants.{Command, Response, Absent}
 use Rattle.frame.specs.declared.RouteEntry.{RouteEntry}
 use Rattle.frame.specs.declared.Ax25Frame.{Ax25Frame}
 use Rattle.frame.specs.declared.Decoded.{Decoded}
-use Rattle.frame.proofs.Ends.{end-past, end-route, start-here}
+use Rattle.grammar.proofs.Ends.{end-past, end-route, start-here}
 use Rattle.frame.proofs.Write.{groups-length, field-length, spell-length}
 
 -- to read further on is to read what is left when the front is dropped
 parsed-drop : (s : List ℕ) (n at : ℕ) → parsedAt s (n + at) ≡ parsedAt (drop n s) at
@@ -38,36 +38,32 @@ entry-drop : (s : List ℕ) (n at : ℕ) → entryAt s (n + at) ≡ entryAt (dro
 unfolding entryAt
 entry-drop s n at = rw parsed-drop
 
-entry-at : (s : List ℕ) (n : ℕ) → entryAt s n ≡ entryAt (drop n s) 0
-entry-at s n = rw add-zero at (entry-drop s n 0)
-
 -- a group at the front of a list is read as what it spells
-module _ (a : Address) (m e : Bool) (r : List ℕ) (p : PlainAddress a) where
-  group-front : groupAt (groupOf a m e ++ r) 0 ≡ groupOf a m e
-  group-front = take-at (groupOf a m e) r 7 (group-length a m e)
+pub group-front : (a : Address) (m e : Bool) (r : List ℕ) → groupAt (groupOf a m e ++ r) 0 ≡ groupOf a m e
+group-front a m e r = take-at (groupOf a m e) r 7 (group-length a m e)
 
-  parsed-front : parsedAt (groupOf a m e ++ r) 0 ≡ record { address = a; «high_bit» = m }
-  unfolding parsedAt
-  parsed-front = simp (group-front, read-written a m e p, mark-written)
-
-entry-front : (x : RouteEntry) (e : Bool) (r : List ℕ) → PlainAddress (x .repeater)
-    → entryAt (groupOf (x .repeater) (x .«has_repeated») e ++ r) 0 ≡ x
-unfolding entryAt
-entry-front x e r p = rw (parsed-front (x .repeater) (x .«has_repeated») e r p)
+parsed-front : (a : Address) (m e : Bool) (r : List ℕ) → PlainAddress a → parsedAt (groupOf a m e ++ r) 0 ≡ record { address = a; «high_bit» = m }
+unfolding parsedAt
+parsed-front a m e r p = simp (group-front, read-written a m e p, mark-written)
 
 groups-drop : (route : List RouteEntry) (total n : ℕ) (r : List ℕ) → drop (7 * n) (groupsOf route total n ++ r) ≡ r
 groups-drop route total n r = drop-at (groupsOf route total n) r (7 * n) (groups-length route total n)
 
+-- the group of repeater i among the groups
+pub group-in : (route : List RouteEntry) (total n i : ℕ) (r : List ℕ) → i < n
+    → groupAt (groupsOf route total n ++ r) (7 * i) ≡ groupOf (repeaterAt route i .repeater) (repeaterAt route i .«has_repeated») (eqb (suc i) total)
+unfolding groupsOf
+group-in route total zero i r h = absurd (not-suc-le-zero h)
+group-in route total (suc n) i r h =
+    ⊎-elim
+    (λ (e : i ≡ n). rw (append-assoc, e, groups-drop route total n _) (group-front _ _ _ r))
+    (λ (l : i < n). rw append-assoc (group-in route total n i _ l))
+    (eq-or-lt-of-le (le-of-suc-le-suc h))
+
 route-back : (route : List RouteEntry) (total n i : ℕ) (r : List ℕ) → i < n → PlainAddress (repeaterAt route i .repeater)
     → entryAt (groupsOf route total n ++ r) (7 * i) ≡ repeaterAt route i
-unfolding groupsOf
-route-back route total zero i r h p = absurd (not-suc-le-zero h)
-route-back route total (suc n) i r h p =
-    ⊎-elim
-    (λ (e : i ≡ n). rw (append-assoc, e)
-    (entry-at (groupsOf route total n ++ _) (7 * n) ∙ rw groups-drop (entry-front (repeaterAt route n) _ r (rw e at p))))
-    (λ (l : i < n). rw append-assoc (route-back route total n i _ l p))
-    (eq-or-lt-of-le (le-of-suc-le-suc h))
+unfolding entryAt parsedAt
+route-back route total n i r h p = rw (group-in route total n i r h, read-written _ _ _ p, mark-written)
 
 mark-back : (m : Mark) → marked m ≡ true → commandOf (destinationMark m) (sourceMark m) ≡ m
 mark-back Command h = refl
@@ -88,7 +84,7 @@ module _ (f : Ax25Frame) (i : List ℕ) (p : Plain f i) where
   tail = groupsOf (f .route) n n ++ (front (f .content) ++ i)
 
   -- the parts one after the other, bracketed to the right
-  in-order : spell f i ≡ dest ++ (src ++ tail)
+  pub in-order : spell f i ≡ dest ++ (src ++ tail)
   unfolding spell addressField
   in-order = simp append-assoc
 
@@ -98,13 +94,13 @@ module _ (f : Ax25Frame) (i : List ℕ) (p : Plain f i) where
   pub spelled-end : endOf (spell f i) ≡ 13 + 7 * n
   spelled-end = rw (in-order, end-past, end-route) (omega arith)
 
-  after-dest : drop 7 (spell f i) ≡ src ++ tail
+  pub after-dest : drop 7 (spell f i) ≡ src ++ tail
   after-dest = rw in-order (drop-at dest (src ++ tail) 7 (group-length _ _ _))
 
-  after-src : drop 14 (spell f i) ≡ tail
+  pub after-src : drop 14 (spell f i) ≡ tail
   after-src = sym (drop-drop 7 7 (spell f i)) ∙ rw after-dest (drop-at src tail 7 (group-length _ _ _))
 
-  after-field : drop (14 + 7 * n) (spell f i) ≡ front (f .content) ++ i
+  pub after-field : drop (14 + 7 * n) (spell f i) ≡ front (f .content) ++ i
   after-field = sym (drop-drop (7 * n) 14 (spell f i)) ∙ rw (after-src, groups-drop)
 
   dest-back : parsedAt (spell f i) 0 ≡ record { address = f .destination; «high_bit» = destinationMark (f .«command_or_response») }

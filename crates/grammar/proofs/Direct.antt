@@ -1,0 +1,220 @@
+-- The direct look passes exactly where an accepted input is what its frame spells.
+use Prim.Native.Nat.{ℕ, zero, suc, _+_, _-_, _*_, _/_, _%_, _≤_, _<_}
+use mathlib.Core.Path.{_≡_, refl, ap, sym, subst, _∙_}
+use mathlib.Core.Bool.{Bool, true, false, true≢false, false≢true, cond, not, _&&_}
+use mathlib.Core.List.{List, [], _∷_, _++_, append-assoc}
+use mathlib.Core.Logic.{_⊎_, inl, inr, ⊎-elim}
+use native.Mathlib.Nat.{add-zero, eq-or-lt-of-le, le-of-suc-le-suc}
+use native.Mathlib.Numerals.{add-one}
+use native.Mathlib.Omega.{arith}
+use borrow.Author.Tests.{ne-eqb, eq-eqb, lt-ltb, eqb-true, eqb-false, leb-true, leb-false}
+use lib.Dec.{eqb, ltb, leb, eqb·suc-suc, eqb·zero-suc, eqb·suc-zero}
+use lib.ListN.{length, length-append, length-drop, length-take, getD, take, drop, take-append-drop, List·getD-append}
+use lib.Seq.{drop-drop, take-add, take-all, getD-drop, getD-take, length-take-le}
+use Rattle.octets.specs.Octet.{Octets, bit}
+use Rattle.octets.proofs.Choice.{by, both}
+use Rattle.octets.proofs.Octet.{octets-drop, octets-take}
+use Rattle.octets.proofs.First.{first-passes, first-before, first-is}
+use Rattle.address.specs.Group.{groupOf, reserved, reservedSet}
+use Rattle.address.proofs.Laws.{group-reserved, written-exact, reserved-last}
+use Rattle.content.specs.Content.{hasInfo, contentOf}
+use Rattle.content.specs.Spell.{front, spellContent}
+use Rattle.content.specs.Lean.{lean, infoOf}
+use Rattle.content.specs.declared.FrameContent.{FrameContent}
+use Rattle.content.proofs.Laws.{content-exact, front-some}
+use Rattle.content.proofs.Lean.{lean-spelled}
+use Rattle.frame.specs.Read.{nonzero, startOf, endOf, groupAt, parsedAt, entryAt, placeAt, routeAt, commandOf, frameAt, acceptedWith, decode, infoIn}
+use Rattle.frame.specs.Spell.{repeaterAt, groupsOf, destinationMark, sourceMark, addressField, spell, marked, Plain, inUse}
+use Rattle.frame.proofs.Write.{spell-length}
+use Rattle.frame.specs.declared.Mark.{Mark}
+use Rattle.frame.specs.declared.Mark.the-variants.{Command, Response, Absent}
+use Rattle.frame.specs.declared.Ax25Frame.{Ax25Frame}
+use Rattle.frame.specs.declared.Decoded.{Decoded}
+use Rattle.grammar.specs.Direct.{reservedGroups, direct}
+use Rattle.grammar.proofs.Accepted.{Accepts}
+use Rattle.grammar.proofs.Back.{spelled-start, group-front, group-in, in-order, after-dest, after-src, after-field, spelled-end, frame-spell}
+
+and-true : {a b : Bool} → a ≡ true → b ≡ true → (a && b) ≡ true
+and-true p q = cc
+
+-- reserved bits, group by group
+reserved-all : (s : List ℕ) (n : ℕ) → ((j : ℕ) → j < n → reserved (groupAt s (7 * j)) ≡ true) → reservedGroups s n ≡ true
+unfolding reservedGroups
+reserved-all s zero f = refl
+reserved-all s (suc n) f = and-true (reserved-all s n (λ j h. f j (omega arith))) (f n (omega arith))
+
+reserved-each : (s : List ℕ) (n j : ℕ) → reservedGroups s n ≡ true → j < n → reserved (groupAt s (7 * j)) ≡ true
+unfolding reservedGroups
+reserved-each s zero j e h = absurd (omega arith)
+reserved-each s (suc n) j e h =
+    let b = both (reservedGroups s n) _ e in
+    ⊎-elim (λ (q : j ≡ n). rw q (b .1)) (λ (l : j < n). reserved-each s n j (b .0) l) (eq-or-lt-of-le (le-of-suc-le-suc h))
+
+module _ (f : Ax25Frame) (i : List ℕ) (p : Plain f i) where
+  abbrev s : List ℕ
+  s = spell f i
+
+  abbrev n : ℕ
+  n = f .«route_count»
+
+  -- a group of what a plain frame spells has its reserved bits set
+  spelled-reserved : (j : ℕ) → j < n + 2 → reserved (groupAt s (7 * j)) ≡ true
+  spelled-reserved zero h = rw (in-order f i p, group-front) (group-reserved _ _ _)
+  spelled-reserved (suc zero) h = rw (after-dest f i p, group-front) (group-reserved _ _ _)
+  spelled-reserved (suc (suc j)) h =
+      let at : 7 * suc (suc j) ≡ 14 + 7 * j = omega arith in
+      rw (at, ← drop-drop (7 * j) 14 s, after-src f i p, group-in (f .route) n n j _ (omega arith)) (group-reserved _ _ _)
+
+  pub direct-spelled : direct s (decode s .frame .«route_count») (decode s .frame .«command_or_response») ≡ true
+  unfolding direct inUse
+  direct-spelled =
+      let l = spell-length f i in
+      let start : nonzero (getD s 0 0) ≡ true = rw (spelled-start f i p) at (first-passes nonzero s 0 (rw (spelled-start f i p) (omega arith))) in
+      let end : bit 0 (getD s (13 + 7 * n) 0) ≡ true =
+      rw (spelled-end f i p) at (first-passes (bit 0) s 0 (rw (spelled-end f i p) (omega (arith, front-some (f .content) (p .content))))) in
+      let ones : reservedGroups s (n + 2) ≡ true = reserved-all s (n + 2) spelled-reserved in
+      let tail : lean (drop (14 + 7 * n) s) ≡ true = rw (after-field f i p) (lean-spelled (f .content) i (p .content) (p .bare)) in
+      rw (frame-spell f i p, start, end, p .mark, ones, tail)
+
+marks-back : (a b : Bool) → marked (commandOf a b) ≡ true → (destinationMark (commandOf a b) ≡ a) × (sourceMark (commandOf a b) ≡ b)
+marks-back true true e = absurd (false≢true e)
+marks-back true false e = (refl, refl)
+marks-back false true e = (refl, refl)
+marks-back false false e = absurd (false≢true e)
+
+route-at : (s : List ℕ) (at n k : ℕ) → k < n → n ≤ 8 → repeaterAt (routeAt s at n) k ≡ entryAt s (at + 7 * k)
+unfolding routeAt placeAt
+route-at s at n zero h l = simp (lt-ltb 0 n h)
+route-at s at n (suc zero) h l = simp (lt-ltb 1 n h)
+route-at s at n (suc (suc zero)) h l = simp (lt-ltb 2 n h)
+route-at s at n (suc (suc (suc zero))) h l = simp (lt-ltb 3 n h)
+route-at s at n (suc (suc (suc (suc zero)))) h l = simp (lt-ltb 4 n h)
+route-at s at n (suc (suc (suc (suc (suc zero))))) h l = simp (lt-ltb 5 n h)
+route-at s at n (suc (suc (suc (suc (suc (suc zero)))))) h l = simp (lt-ltb 6 n h)
+route-at s at n (suc (suc (suc (suc (suc (suc (suc zero))))))) h l = simp (lt-ltb 7 n h)
+route-at s at n (suc (suc (suc (suc (suc (suc (suc (suc k)))))))) h l = absurd (omega arith)
+
+zero-sym : (n : ℕ) → eqb 0 n ≡ eqb n 0
+zero-sym zero = refl
+zero-sym (suc n) = eqb·zero-suc n ∙ sym (eqb·suc-zero n)
+
+rejoin : (s : List ℕ) (n : ℕ) → (take 7 s ++ (take 7 (drop 7 s) ++ take (7 * n) (drop 14 s))) ++ drop (14 + 7 * n) s ≡ s
+rejoin s n =
+    simp append-assoc
+    (rw (← drop-drop (7 * n) 14 s, take-append-drop (7 * n) (drop 14 s), ← drop-drop 7 7 s, take-append-drop 7 (drop 7 s), take-append-drop 7 s))
+
+module _ (s : List ℕ) (o : Octets s) (n : ℕ) (end : endOf s ≡ 13 + 7 * n) (inside : endOf s < length s) (few : n ≤ 8)
+    (ones : reservedGroups s (n + 2) ≡ true) where
+  -- the low bit of a group's seventh octet
+  last-bit : (j : ℕ) → j < n + 2 → (b : Bool) → eqb j (suc n) ≡ b → bit 0 (getD s (7 * j + 6) 0) ≡ b
+  last-bit j h true e =
+      let i : 7 * j + 6 ≡ endOf s = omega (arith, eqb-true j (suc n) e) in
+      rw i (first-passes (bit 0) s 0 inside)
+  last-bit j h false e = first-before (bit 0) s 0 (7 * j + 6) (omega (arith, eqb-false j (suc n) e))
+
+  octet-of : (j k : ℕ) → k < 7 → getD (groupAt s (7 * j)) k 0 ≡ getD s (7 * j + k) 0
+  octet-of j k h = getD-take 7 (drop (7 * j) s) k 0 h ∙ getD-drop (7 * j) s k 0
+
+  group-again : (j : ℕ) → j < n + 2 → (b : Bool) → eqb j (suc n) ≡ b
+      → groupOf (parsedAt s (7 * j) .address) (parsedAt s (7 * j) .«high_bit») b ≡ groupAt s (7 * j)
+  unfolding parsedAt
+  group-again j h b e =
+      let g : List ℕ = groupAt s (7 * j) in
+      let l : length g ≡ 7 = length-take-le 7 (drop (7 * j) s) (rw length-drop (omega arith)) in
+      let low : bit 0 (getD g 6 0) ≡ b = rw (octet-of j 6 (omega arith)) (last-bit j h b e) in
+      let x = written-exact g l (octets-take (drop (7 * j) s) 7 (octets-drop s (7 * j) o))
+      (λ k m. rw (octet-of j k (omega arith)) (first-before (bit 0) s 0 (7 * j + k) (omega arith)))
+      (reserved-each s (n + 2) j ones h) in
+      rw low at x
+
+  routes-again : (m : ℕ) → m ≤ n → groupsOf (routeAt s 14 n) n m ≡ take (7 * m) (drop 14 s)
+  unfolding groupsOf entryAt
+  routes-again zero h = refl
+  routes-again (suc m) h =
+      let q : 7 * suc m ≡ 7 * m + 7 = omega arith in
+      let at : 14 + 7 * m ≡ 7 * suc (suc m) = omega arith in
+      rw (routes-again m (omega arith), route-at s 14 n m h few, q, take-add (7 * m) 7 (drop 14 s), drop-drop (7 * m) 14 s)
+      (ap (λ (x : List ℕ). take (7 * m) (drop 14 s) ++ x) (rw at (group-again (suc (suc m)) (omega arith) (eqb (suc m) n) (eqb·suc-suc (suc m) n))))
+
+  spell-again : (k : FrameContent) (i : List ℕ) → startOf s ≡ 0 → marked (commandOf (parsedAt s 0 .«high_bit») (parsedAt s 7 .«high_bit»)) ≡ true
+      → front k ++ i ≡ drop (14 + 7 * n) s → spell (frameAt s (startOf s) n k) i ≡ s
+  unfolding spell addressField frameAt
+  spell-again k i start m tail =
+      let b = marks-back (parsedAt s 0 .«high_bit») (parsedAt s 7 .«high_bit») m in
+      rw (
+        start,
+        b .0,
+        b .1,
+        tail,
+        group-again 0 (omega arith) false (eqb·zero-suc n),
+        group-again 1 (omega arith) (eqb n 0) (eqb·suc-suc 0 n ∙ zero-sym n),
+        routes-again n (omega arith),
+      )
+      (rejoin s n)
+
+module _ (s : List ℕ) (o : Octets s) (a : Accepts s (decode s)) where
+  -- info stands after control and PID
+  info-tail : infoIn s (decode s) ≡ infoOf (a .kind) (drop (endOf s + 1) s)
+  unfolding acceptedWith frameAt
+  info-tail = rw (a .made)
+      (by (hasInfo (a .kind))
+      (λ e. simp (e, drop-drop 2 (endOf s + 1) s)
+      (take-all (length s - (endOf s + 1 + 2)) (drop (endOf s + 1 + 2) s) (rw length-drop (omega arith))))
+      (λ e. simp e))
+
+  made-frame : decode s .frame ≡ frameAt s (startOf s) (a .count) (a .kind)
+  unfolding acceptedWith
+  made-frame = ap (λ (d : Decoded). d .frame) (a .made)
+
+  pub direct-again : direct s (decode s .frame .«route_count») (decode s .frame .«command_or_response») ≡ true → spell (decode s .frame) (infoIn s (decode s)) ≡ s
+  unfolding direct frameAt
+  direct-again e =
+      let n : ℕ = a .count in
+      let t = rw made-frame at e in
+      let t1 = both (nonzero (getD s 0 0)) _ t in
+      let t2 = both (bit 0 (getD s (13 + 7 * n) 0)) _ (t1 .1) in
+      let t3 = both (marked (commandOf (parsedAt s (startOf s) .«high_bit») (parsedAt s (startOf s + 7) .«high_bit»))) _ (t2 .1) in
+      let t4 = both (reservedGroups s (n + 2)) _ (t3 .1) in
+      let start : startOf s ≡ 0 = first-is nonzero s 0 0 (omega (arith, a .start-in)) (t1 .0) (λ j h. absurd (omega arith)) in
+      let counted = a .counted in
+      let long = a .long in
+      let late : 13 + 7 * n ≤ endOf s = omega arith in
+      let soon : endOf s ≤ 13 + 7 * n =
+      by (leb (endOf s) (13 + 7 * n)) (leb-true (endOf s) (13 + 7 * n))
+      (λ g. absurd (true≢false (sym (t2 .0) ∙ first-before (bit 0) s 0 (13 + 7 * n) (leb-false (endOf s) (13 + 7 * n) g)))) in
+      let end : endOf s ≡ 13 + 7 * n = omega arith in
+      let at : endOf s + 1 ≡ 14 + 7 * n = omega arith in
+      let c : List ℕ = drop (endOf s + 1) s in
+      let x = content-exact c (octets-drop s (endOf s + 1) o) (a .kind) (a .read) (rw at (t4 .1)) in
+      let tail : front (a .kind) ++ infoIn s (decode s) ≡ drop (14 + 7 * n) s =
+      ap (λ (y : List ℕ). front (a .kind) ++ y) info-tail ∙ x ∙ ap (λ (j : ℕ). drop j s) at in
+      rw made-frame
+      (spell-again s o n end (a .end-in) (a .few) (t4 .0) (a .kind) (infoIn s (decode s)) start (rw start at (t3 .0)) tail)
+
+-- the reserved bits of a group, by its last octet in the input
+group-last : (s : List ℕ) (j : ℕ) → reserved (groupAt s (7 * j)) ≡ reservedSet (getD s (7 * j + 6) 0)
+group-last s j =
+    reserved-last (groupAt s (7 * j)) ∙ ap reservedSet (getD-take 7 (drop (7 * j) s) 6 0 (omega arith) ∙ getD-drop (7 * j) s 6 0)
+
+-- one group more, as a loop looks at it
+pub reserved-more : (s : List ℕ) (n : ℕ) → reservedGroups s n ≡ true → reservedSet (getD s (7 * n + 6) 0) ≡ true → reservedGroups s (n + 1) ≡ true
+unfolding reservedGroups
+reserved-more s n e h = rw (add-one, e, group-last s n) h
+
+-- one group without them is enough
+pub reserved-one : (s : List ℕ) (n j : ℕ) → j < n → reservedSet (getD s (7 * j + 6) 0) ≡ false → reservedGroups s n ≡ false
+reserved-one s n j h e =
+    by (reservedGroups s n)
+    (λ t. absurd (true≢false (sym (reserved-each s n j t h) ∙ group-last s j ∙ e)))
+    (λ f. f)
+
+pub reserved-none : (s : List ℕ) → reservedGroups s 0 ≡ true
+unfolding reservedGroups
+reserved-none s = refl
+
+-- the five tests, in their order
+pub direct-is : (s : List ℕ) (n : ℕ) (m : Mark)
+    → direct s n m
+    ≡ (nonzero (getD s 0 0) && (bit 0 (getD s (13 + 7 * n) 0) && (marked m && (reservedGroups s (n + 2) && lean (drop (14 + 7 * n) s)))))
+unfolding direct
+direct-is s n m = refl

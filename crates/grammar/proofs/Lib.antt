@@ -1,0 +1,7 @@
+pub mod Ends
+pub mod Back
+pub mod Numbers
+pub mod Accepted
+pub mod Plain
+pub mod Respell
+pub mod Direct

@@ -1,0 +1,158 @@
+-- What decoding accepts is plain once the mark is there, and spells no more octets than were read.
+use Prim.Native.Nat.{ℕ, zero, suc, _+_, _-_, _*_, _/_, _≤_, _<_}
+use mathlib.Core.Path.{_≡_, refl, ap, sym, subst, _∙_}
+use mathlib.Core.Bool.{Bool, true, false, cond}
+use mathlib.Core.List.{List, [], _∷_}
+use native.Mathlib.Nat.{add-zero}
+use native.Mathlib.Omega.{arith}
+use borrow.Author.Tests.{not-true, eqb-false}
+use lib.Dec.{eqb, ltb}
+use lib.ListN.{length, length-drop, length-take, getD, drop, take}
+use lib.Seq.{getD-drop, getD-take, length-take-le}
+use Rattle.octets.specs.Octet.{Octets, bit}
+use Rattle.octets.proofs.Choice.{by}
+use Rattle.octets.proofs.Octet.{octets-drop, octets-take}
+use Rattle.octets.proofs.First.{first-passes, first-before}
+use Rattle.address.specs.Address.{PlainAddress}
+use Rattle.address.proofs.Laws.{read-plain, no-call-plain, group-character}
+use Rattle.content.specs.Content.{hasInfo}
+use Rattle.content.specs.Spell.{front, PlainContent}
+use Rattle.content.specs.declared.FrameContent.{FrameContent}
+use Rattle.content.proofs.Laws.{content-plain, content-fits, content-some, content-room, front-two}
+use Rattle.frame.specs.Frame.{noEntry, isAccepted}
+use Rattle.frame.specs.Read.{nonzero, startOf, endOf, groupAt, parsedAt, entryAt, placeAt, routeAt, frameAt, acceptedWith, decode, infoIn}
+use Rattle.frame.specs.Spell.{repeaterAt, marked, madeCommand, withMark, spell, Plain, placeInUse, routeInUse, inUse}
+use Rattle.frame.proofs.Write.{spell-length}
+use Rattle.frame.specs.declared.Mark.{Mark}
+use Rattle.frame.specs.declared.Mark.the-variants.{Command, Response, Absent}
+use Rattle.frame.specs.declared.Decoded.{Decoded}
+use Rattle.grammar.proofs.Accepted.{Accepts, accepts}
+
+made-marked : (m : Mark) → marked (madeCommand m) ≡ true
+made-marked Command = refl
+made-marked Response = refl
+made-marked Absent = refl
+
+parsed-plain : (s : List ℕ) (at : ℕ) → Octets s → PlainAddress (parsedAt s at .address)
+unfolding parsedAt
+parsed-plain s at o = read-plain (groupAt s at) (octets-take (drop at s) 7 (octets-drop s at o))
+
+place-plain : (s : List ℕ) (at n k : ℕ) → Octets s → PlainAddress (placeAt s at n k .repeater)
+unfolding placeAt noEntry entryAt
+place-plain s at n k o = by (ltb k n) (λ e. rw e (parsed-plain s (at + 7 * k) o)) (λ e. rw e no-call-plain)
+
+places-plain : (s : List ℕ) (at n : ℕ) → Octets s → (k : ℕ) → k < 8 → PlainAddress (repeaterAt (routeAt s at n) k .repeater)
+unfolding routeAt
+places-plain s at n o zero h = place-plain s at n 0 o
+places-plain s at n o (suc zero) h = place-plain s at n 1 o
+places-plain s at n o (suc (suc zero)) h = place-plain s at n 2 o
+places-plain s at n o (suc (suc (suc zero))) h = place-plain s at n 3 o
+places-plain s at n o (suc (suc (suc (suc zero)))) h = place-plain s at n 4 o
+places-plain s at n o (suc (suc (suc (suc (suc zero))))) h = place-plain s at n 5 o
+places-plain s at n o (suc (suc (suc (suc (suc (suc zero)))))) h = place-plain s at n 6 o
+places-plain s at n o (suc (suc (suc (suc (suc (suc (suc zero))))))) h = place-plain s at n 7 o
+places-plain s at n o (suc (suc (suc (suc (suc (suc (suc (suc k)))))))) h = absurd (omega arith)
+
+-- the unused places of what is read are as they should be
+place-kept : (s : List ℕ) (at n k : ℕ) → cond (ltb k n) (placeAt s at n k) noEntry ≡ placeAt s at n k
+unfolding placeAt
+place-kept s at n k = by (ltb k n) (λ e. simp e) (λ e. simp e)
+
+route-kept : (s : List ℕ) (at n : ℕ) → routeInUse (routeAt s at n) n ≡ routeAt s at n
+unfolding routeInUse placeInUse routeAt
+route-kept s at n = simp place-kept
+
+route-eight : (s : List ℕ) (at n : ℕ) → length (routeAt s at n) ≡ 8
+unfolding routeAt
+route-eight s at n = refl
+
+-- what is known of an accepted decode
+pub record Read (s : List ℕ) (d : Decoded) : Type 0 where
+  pub plain : Plain (withMark (d .frame)) (infoIn s d)
+  pub fits : length (spell (withMark (d .frame)) (infoIn s d)) ≤ length s
+  pub kept : inUse (d .frame) ≡ d .frame
+
+module _ (s : List ℕ) (o : Octets s) (n : ℕ) (start-in : startOf s < length s) (end-in : endOf s < length s)
+    (long : 14 ≤ endOf s + 1 - startOf s) (count : (endOf s + 1 - startOf s - 14) / 7 ≡ n) (few : n ≤ 8) where
+  -- the first octet is even and not 0
+  first-character : 0 < getD (parsedAt s (startOf s) .address .callsign) 0 0
+  unfolding parsedAt
+  first-character =
+      let g : List ℕ = groupAt s (startOf s) in
+      let b : ℕ = getD s (startOf s) 0 in
+      let at : getD g 0 0 ≡ b = getD-take 7 (drop (startOf s) s) 0 0 (omega arith) ∙ getD-drop (startOf s) s 0 0 ∙ rw add-zero refl in
+      let some : 0 < b = omega (arith, eqb-false b 0 (not-true (eqb b 0) (first-passes nonzero s 0 start-in))) in
+      group-character g (octets-take (drop (startOf s) s) 7 (octets-drop s (startOf s) o))
+      (rw at (first-before (bit 0) s 0 (startOf s) (omega arith))) (rw at some)
+
+  module _ (k : FrameContent) (h : PlainContent k) (l : length (front k) ≤ length (drop (endOf s + 1) s)) where
+    abbrev d : Decoded
+    d = acceptedWith (frameAt s (startOf s) n k) (endOf s + 1) (length s)
+
+    d-plain : Plain (withMark (d .frame)) (infoIn s d)
+    unfolding acceptedWith frameAt withMark
+    d-plain = record {
+      mark = made-marked (d .frame .«command_or_response»);
+      content = h;
+      destination = parsed-plain s (startOf s) o;
+      source = parsed-plain s (startOf s + 7) o;
+      repeaters = λ i m. places-plain s (startOf s + 14) n o i (omega arith);
+      eight = route-eight s (startOf s + 14) n;
+      count = few;
+      starts = first-character;
+      bare = λ e. simp e;
+      octets = octets-take (drop (d .«info_start») s) (d .«info_len») (octets-drop s (d .«info_start») o);
+    }
+
+    d-fits : length (spell (withMark (d .frame)) (infoIn s d)) ≤ length s
+    unfolding acceptedWith frameAt withMark
+    d-fits =
+        let m : 14 + 7 * n ≤ endOf s + 1 = omega arith in
+        let r : length (front k) ≤ length s - (endOf s + 1) = rw length-drop at l in
+        rw spell-length
+        (by (hasInfo k)
+        (λ e. let two : length (front k) ≡ 2 = front-two k h e in
+        simp e (omega (arith, length-take (length s - (endOf s + 1 + 2)) (drop (endOf s + 1 + 2) s))))
+        (λ e. simp e (omega arith)))
+
+    d-kept : inUse (d .frame) ≡ d .frame
+    unfolding acceptedWith frameAt inUse
+    d-kept = simp route-kept
+
+    made : Read s d
+    made = record { plain = d-plain; fits = d-fits; kept = d-kept }
+
+pub read : (s : List ℕ) → Octets s → isAccepted (decode s .answer) ≡ true → Read s (decode s)
+read s o e =
+    let a = accepts s e in
+    let after : List ℕ = drop (endOf s + 1) s in
+    let at = made s o (a .count) (a .start-in) (a .end-in) (a .long) (a .counted) (a .few) (a .kind)
+    (content-plain after (octets-drop s (endOf s + 1) o) (a .kind) (a .read)) (content-fits after (a .kind) (a .read)) in
+    subst (λ (d : Decoded). Read s d) (sym (a .made)) at
+
+-- the octets of an accepted input that the check looks at stand in it, and so does the info
+pub record Inside (s : List ℕ) (d : Decoded) : Type 0 where
+  pub few : d .frame .«route_count» ≤ 8
+  pub groups : 14 + 7 * d .frame .«route_count» < length s
+  pub info : d .«info_start» + d .«info_len» ≤ length s
+
+inside-made : (s : List ℕ) (a : Accepts s (decode s)) → Inside s (acceptedWith (frameAt s (startOf s) (a .count) (a .kind)) (endOf s + 1) (length s))
+unfolding acceptedWith frameAt
+inside-made s a =
+    let some : 0 < length (drop (endOf s + 1) s) = content-some _ _ (a .read) in
+    let l = length-drop (endOf s + 1) s in
+    let counted = a .counted in
+    let long = a .long in
+    record {
+      few = a .few;
+      groups = omega arith;
+      info = by (hasInfo (a .kind))
+          (λ e. simp e (omega (arith, content-room _ _ (a .read) e)))
+          (λ e. simp e (omega arith));
+    }
+
+pub inside : (s : List ℕ) → isAccepted (decode s .answer) ≡ true → Inside s (decode s)
+inside s e = let a = accepts s e in subst (λ (d : Decoded). Inside s d) (sym (a .made)) (inside-made s a)
+
+pub info-length : (s : List ℕ) (d : Decoded) → Inside s d → length (infoIn s d) ≡ d .«info_len»
+info-length s d i = length-take-le (d .«info_len») (drop (d .«info_start») s) (rw length-drop (omega (arith, i .info)))

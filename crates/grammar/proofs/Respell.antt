@@ -1,0 +1,114 @@
+-- What spelling does not look at: an absent mark is spelled as Command, and unused places are not spelled.
+use Prim.Native.Nat.{ℕ, zero, suc, _≤_, _<_}
+use mathlib.Core.Path.{_≡_, refl, ap, sym, _∙_}
+use mathlib.Core.Bool.{Bool, true, false, cond}
+use mathlib.Core.List.{List, []}
+use native.Mathlib.Omega.{arith}
+use borrow.Author.Tests.{lt-ltb, le-ltb}
+use lib.Dec.{ltb}
+use lib.ListN.{length, getD}
+use Rattle.octets.specs.Octet.{Octets}
+use Rattle.octets.proofs.Choice.{by}
+use Rattle.address.specs.Address.{PlainAddress}
+use Rattle.content.specs.Content.{hasInfo}
+use Rattle.content.specs.Encode.{strayInfo}
+use Rattle.frame.specs.Frame.{isAccepted}
+use Rattle.frame.specs.Read.{acceptedWith, decode, infoIn}
+use Rattle.frame.specs.Write.{routeEncodable, frameEncodable, writeAnswer, octetsWritten, written}
+use Rattle.frame.specs.declared.WriteAnswer.the-variants.{Accepted, NoRoom}
+use Rattle.frame.specs.Spell.{repeaterAt, groupsOf, destinationMark, sourceMark, addressField, spell, madeCommand, withMark, Plain, placeInUse, routeInUse, inUse}
+use Rattle.frame.specs.declared.Mark.{Mark}
+use Rattle.frame.specs.declared.Mark.the-variants.{Command, Response, Absent}
+use Rattle.frame.specs.declared.RouteEntry.{RouteEntry}
+use Rattle.frame.specs.declared.Ax25Frame.{Ax25Frame}
+use Rattle.frame.specs.declared.Decoded.{Decoded}
+use Rattle.grammar.proofs.Back.{decode-spell}
+use Rattle.grammar.proofs.Plain.{read}
+
+destination-same : (m : Mark) → destinationMark (madeCommand m) ≡ destinationMark m
+destination-same Command = refl
+destination-same Response = refl
+destination-same Absent = refl
+
+source-same : (m : Mark) → sourceMark (madeCommand m) ≡ sourceMark m
+source-same Command = refl
+source-same Response = refl
+source-same Absent = refl
+
+pub mark-spell : (f : Ax25Frame) (i : List ℕ) → spell (withMark f) i ≡ spell f i
+unfolding spell addressField withMark
+mark-spell f i = simp (destination-same, source-same)
+
+pub use-at : (route : List RouteEntry) (n k : ℕ) → k < n → n ≤ 8 → repeaterAt (routeInUse route n) k ≡ repeaterAt route k
+unfolding routeInUse placeInUse
+use-at route n zero h l = simp (lt-ltb 0 n h)
+use-at route n (suc zero) h l = simp (lt-ltb 1 n h)
+use-at route n (suc (suc zero)) h l = simp (lt-ltb 2 n h)
+use-at route n (suc (suc (suc zero))) h l = simp (lt-ltb 3 n h)
+use-at route n (suc (suc (suc (suc zero)))) h l = simp (lt-ltb 4 n h)
+use-at route n (suc (suc (suc (suc (suc zero))))) h l = simp (lt-ltb 5 n h)
+use-at route n (suc (suc (suc (suc (suc (suc zero)))))) h l = simp (lt-ltb 6 n h)
+use-at route n (suc (suc (suc (suc (suc (suc (suc zero))))))) h l = simp (lt-ltb 7 n h)
+use-at route n (suc (suc (suc (suc (suc (suc (suc (suc k)))))))) h l = absurd (omega arith)
+
+groups-use : (route : List RouteEntry) (total n k : ℕ) → k ≤ n → n ≤ 8 → groupsOf (routeInUse route n) total k ≡ groupsOf route total k
+unfolding groupsOf
+groups-use route total n zero h l = refl
+groups-use route total n (suc k) h l = rw (groups-use route total n k (omega arith) l, use-at route n k h l)
+
+pub use-spell : (f : Ax25Frame) (i : List ℕ) → f .«route_count» ≤ 8 → spell (inUse f) i ≡ spell f i
+unfolding spell addressField inUse
+use-spell f i h = simp (groups-use (f .route) (f .«route_count») (f .«route_count») (f .«route_count») (omega arith) h)
+
+-- what is in use of a frame with a mark
+pub use-mark : (f : Ax25Frame) → inUse f ≡ f → inUse (withMark f) ≡ withMark f
+unfolding inUse withMark
+use-mark f e = ap withMark e
+
+pub accepted-spell : (f : Ax25Frame) (i : List ℕ) → Plain f i → isAccepted (decode (spell f i) .answer) ≡ true
+unfolding acceptedWith
+accepted-spell f i p = ap (λ (d : Decoded). isAccepted (d .answer)) (decode-spell f i p)
+
+-- of a plain frame writing refuses nothing but too little room
+plain-route : (route : List RouteEntry) (n : ℕ) → ((i : ℕ) → i < n → PlainAddress (repeaterAt route i .repeater)) → routeEncodable route n ≡ true
+unfolding routeEncodable
+plain-route route zero f = refl
+plain-route route (suc n) f = rw (plain-route route n (λ i h. f i (omega arith)), f n (omega arith) .writable)
+
+plain-addresses : (f : Ax25Frame) (i : List ℕ) → Plain f i → frameEncodable f ≡ true
+unfolding frameEncodable
+plain-addresses f i p = rw (p .destination .writable, p .source .writable, plain-route (f .route) (f .«route_count») (p .repeaters))
+
+plain-info : (f : Ax25Frame) (i : List ℕ) → Plain f i → strayInfo (f .content) (length i) ≡ false
+plain-info f i p = by (hasInfo (f .content)) (λ e. rw e) (λ e. rw (e, p .bare e))
+
+plain-written : (f : Ax25Frame) (i : List ℕ) (room : ℕ) → Plain f i → writeAnswer f i room ≡ cond (ltb room (length (spell f i))) NoRoom Accepted
+unfolding writeAnswer
+plain-written f i room p = simp (le-ltb 8 (f .«route_count») (p .count), plain-addresses f i p, plain-info f i p)
+
+mark-written : (f : Ax25Frame) (i : List ℕ) (room : ℕ) → writeAnswer (withMark f) i room ≡ writeAnswer f i room
+unfolding writeAnswer frameEncodable withMark
+mark-written f i room = rw (mark-spell f i)
+
+-- and of what was decoded
+pub decoded-written : (s : List ℕ) (room : ℕ) → Octets s → isAccepted (decode s .answer) ≡ true
+    → writeAnswer (decode s .frame) (infoIn s (decode s)) room
+    ≡ cond (ltb room (length (spell (decode s .frame) (infoIn s (decode s))))) NoRoom Accepted
+decoded-written s room o e =
+    let f : Ax25Frame = decode s .frame in
+    let i : List ℕ = infoIn s (decode s) in
+    sym (mark-written f i room) ∙ plain-written (withMark f) i room (read s o e .plain) ∙ rw mark-spell refl
+
+pub decoded-octets : (s : List ℕ) (room : ℕ) → Octets s → isAccepted (decode s .answer) ≡ true
+    → octetsWritten (decode s .frame) (infoIn s (decode s)) room
+    ≡ cond (ltb room (length (spell (decode s .frame) (infoIn s (decode s))))) [] (spell (decode s .frame) (infoIn s (decode s)))
+unfolding octetsWritten
+decoded-octets s room o e =
+    rw (decoded-written s room o e)
+    (by (ltb room (length (spell (decode s .frame) (infoIn s (decode s))))) (λ q. simp q) (λ q. simp q))
+
+-- writing's answer and length go with these
+pub written-is : (f : Ax25Frame) (i : List ℕ) (room : ℕ)
+    → written f i room ≡ record { answer = writeAnswer f i room; length = length (octetsWritten f i room) }
+unfolding written
+written-is f i room = refl

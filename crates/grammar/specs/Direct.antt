@@ -1,0 +1,26 @@
+-- The canonical check as a direct look at the octets of an accepted input.
+use Prim.Native.Nat.{ℕ, zero, suc, _+_, _*_}
+use mathlib.Core.Bool.{Bool, true, _&&_}
+use mathlib.Core.List.{List}
+use lib.ListN.{getD, drop}
+use Rattle.octets.specs.Octet.{bit}
+use Rattle.address.specs.Group.{reserved}
+use Rattle.content.specs.Lean.{lean}
+use Rattle.frame.specs.Read.{nonzero, groupAt}
+use Rattle.frame.specs.Spell.{marked}
+use Rattle.frame.specs.declared.Mark.{Mark}
+
+-- the reserved bits of the first n groups are ones
+unfoldable pub reservedGroups : List ℕ → ℕ → Bool
+reservedGroups s zero = true
+reservedGroups s (suc n) = reservedGroups s n && reserved (groupAt s (7 * n))
+
+-- of an input that decodes with n repeaters and this mark: no leading null; the address field ends with its last whole group;
+-- a mark; reserved bits; content just as writing gives it
+unfoldable pub direct : List ℕ → ℕ → Mark → Bool
+direct s n mark =
+    nonzero (getD s 0 0)
+    && (bit 0 (getD s (13 + 7 * n) 0)
+    && (marked mark
+    && (reservedGroups s (n + 2)
+    && lean (drop (14 + 7 * n) s))))

@@ -1,0 +1,1 @@
+// No code: the laws of the frame's grammar and its reader (proofs/).

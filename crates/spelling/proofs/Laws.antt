@@ -1,0 +1,102 @@
+-- The canonical check is exact, and re-encoding gives a canonical spelling: the facts that the demands state.
+use Prim.Native.Nat.{ℕ, _+_, _*_, _≤_}
+use mathlib.Core.Path.{_≡_, refl, ap, sym, _∙_}
+use mathlib.Core.Bool.{Bool, true, false, false≢true, cond, _&&_}
+use mathlib.Core.List.{List, []}
+use native.Mathlib.Omega.{arith}
+use borrow.Author.Tests.{le-ltb}
+use lib.Dec.{ltb}
+use lib.ListN.{length}
+use Rattle.octets.specs.Octet.{Octets}
+use Rattle.octets.specs.Same.{same}
+use Rattle.octets.proofs.Choice.{by, both, equal}
+use Rattle.octets.proofs.Same.{same-refl, same-eq}
+use Rattle.content.specs.Spell.{front}
+use Rattle.frame.specs.Frame.{isAccepted}
+use Rattle.frame.specs.Read.{decode, infoIn}
+use Rattle.frame.specs.Spell.{withMark, spell, Plain, inUse}
+use Rattle.frame.specs.Write.{octetsWritten, written}
+use Rattle.frame.specs.declared.Ax25Frame.{Ax25Frame}
+use Rattle.frame.proofs.Write.{spell-length}
+use Rattle.grammar.specs.Direct.{direct}
+use Rattle.grammar.proofs.Accepted.{accepts}
+use Rattle.grammar.proofs.Back.{info-spell, frame-spell}
+use Rattle.grammar.proofs.Plain.{read, inside, info-length}
+use Rattle.grammar.proofs.Respell.{mark-spell, use-spell, use-mark, accepted-spell, decoded-written, decoded-octets, written-is}
+use Rattle.grammar.proofs.Direct.{direct-spelled, direct-again}
+use Rattle.spelling.specs.Canonical.{again, canonical}
+use Rattle.spelling.specs.Reencode.{due, reencodeAnswer, reencoded, reencode, answerBy}
+use Rattle.spelling.specs.declared.ReencodeAnswer.the-variants.{Refused}
+
+-- what a plain frame spells is re-encoded as itself
+again-spell : (f : Ax25Frame) (i : List ℕ) → Plain f i → again (spell f i) ≡ spell f i
+unfolding again
+again-spell f i p = rw (info-spell f i p, frame-spell f i p) (use-spell f i (p .count))
+
+pub spell-canonical : (f : Ax25Frame) (i : List ℕ) → Plain f i → canonical (spell f i) ≡ true
+unfolding canonical
+spell-canonical f i p = rw (again-spell f i p, same-refl, accepted-spell f i p)
+
+module _ (s : List ℕ) (o : Octets s) where
+  -- a canonical input is what some plain frame spells
+  pub canonical-plain : canonical s ≡ true
+      → Plain (withMark (decode s .frame)) (infoIn s (decode s)) × (spell (withMark (decode s .frame)) (infoIn s (decode s)) ≡ s)
+  unfolding canonical again
+  canonical-plain e =
+      let h = both (isAccepted (decode s .answer)) _ e in
+      (read s o (h .0) .plain, mark-spell _ _ ∙ same-eq _ s (h .1))
+
+  again-canonical : isAccepted (decode s .answer) ≡ true → spell (decode s .frame) (infoIn s (decode s)) ≡ s → canonical s ≡ true
+  unfolding canonical again
+  again-canonical a e = rw (a, e, same-refl s)
+
+  -- the direct look at an accepted input is the canonical check
+  pub canonical-direct : isAccepted (decode s .answer) ≡ true
+      → canonical s ≡ direct s (decode s .frame .«route_count») (decode s .frame .«command_or_response»)
+  canonical-direct a =
+      equal (canonical s) _
+      (λ e. let w = canonical-plain e in rw (w .1) at (direct-spelled _ _ (w .0)))
+      (λ e. again-canonical a (direct-again s o (accepts s a) e))
+
+pub refused-not-canonical : (s : List ℕ) → isAccepted (decode s .answer) ≡ false → canonical s ≡ false
+unfolding canonical
+refused-not-canonical s e = rw e
+
+-- what is due, by the decode
+pub due-accepted : (s : List ℕ) → isAccepted (decode s .answer) ≡ true → due s ≡ spell (decode s .frame) (infoIn s (decode s))
+unfolding due again
+due-accepted s e = simp e
+
+pub due-refused : (s : List ℕ) → isAccepted (decode s .answer) ≡ false → due s ≡ []
+unfolding due
+due-refused s e = simp e
+
+pub due-length : (s : List ℕ) → isAccepted (decode s .answer) ≡ true
+    → length (due s) ≡ 14 + 7 * decode s .frame .«route_count» + length (front (decode s .frame .content)) + decode s .«info_len»
+due-length s e =
+    rw (due-accepted s e) (spell-length (decode s .frame) (infoIn s (decode s)) ∙ rw (info-length s (decode s) (inside s e)) refl)
+
+-- a refused input is answered with its decode, and nothing is written
+pub refused-answer : (s : List ℕ) (room : ℕ) → isAccepted (decode s .answer) ≡ false
+    → (reencode s room ≡ record { answer = Refused (decode s .answer); length = 0 }) × (reencoded s room ≡ [])
+unfolding reencode reencodeAnswer reencoded
+refused-answer s room e =
+    let none : ltb room 0 ≡ false = le-ltb room 0 (omega arith) in
+    (simp (e, due-refused s e, none), simp (due-refused s e, none))
+
+-- an accepted one as writing answers
+pub accepted-answer : (s : List ℕ) (room : ℕ) → Octets s → isAccepted (decode s .answer) ≡ true
+    → let w = written (decode s .frame) (infoIn s (decode s)) room in
+    (reencode s room ≡ record { answer = answerBy (w .answer); length = w .length })
+    × (reencoded s room ≡ octetsWritten (decode s .frame) (infoIn s (decode s)) room)
+unfolding reencode reencodeAnswer reencoded
+accepted-answer s room o e =
+    let t : Bool = ltb room (length (spell (decode s .frame) (infoIn s (decode s)))) in
+    by t
+    (λ q. (simp (e, written-is, decoded-octets s room o e, decoded-written s room o e, due-accepted s e, q), simp (decoded-octets s room o e, due-accepted s e, q)))
+    (λ q. (simp (e, written-is, decoded-octets s room o e, decoded-written s room o e, due-accepted s e, q), simp (decoded-octets s room o e, due-accepted s e, q)))
+
+-- re-encoding never needs more room than the input's length
+pub due-fits : (s : List ℕ) → Octets s → isAccepted (decode s .answer) ≡ true → length (due s) ≤ length s
+due-fits s o e =
+    rw (due-accepted s e, ← mark-spell (decode s .frame) (infoIn s (decode s))) (read s o e .fits)

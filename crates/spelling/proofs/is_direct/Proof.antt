@@ -1,0 +1,124 @@
+-- Each test in the definition's order.
+use Prim.Native.Nat.{ℕ, _+_, _*_}
+use mathlib.Core.Path.{_≡_, refl, ap, sym, _∙_}
+use mathlib.Core.Bool.{true, not}
+use native.Mathlib.Omega.{arith}
+use borrow.Author.Tests.{eq-eqb, ne-eqb, not-true, not-false}
+use lib.ListN.{getD}
+use Rattle.octets.specs.Octet.{bit}
+use Rattle.octets.proofs.Bits.{bit-test}
+use Rattle.octets.proofs.Splice.{part-from}
+use Rattle.frame.specs.Spell.{marked}
+use Rattle.frame.specs.Read.{nonzero}
+use Rattle.grammar.specs.Direct.{reservedGroups}
+use Rattle.grammar.proofs.Direct.{direct-is}
+use borrow.Author.Needs.{needs}
+use Rattle.spelling.proofs.is_direct.Statement.{statement}
+use Rattle.spelling.proofs.is_direct.Tie as tie
+
+first : (c : tie.Else1) → nonzero (getD (c .before .before .before .args .bytes .now) 0 0) ≡ true
+first c = ap not (ne-eqb _ _ (c .if1 .left))
+
+low : (c : tie.Else2) → bit 0 (getD (c .before .before .before .before .before .args .bytes .now) (13 + 7 * c .before .before .before .before .before .args .count) 0) ≡ true
+low c =
+    let a = c .before .before .before .before .before .args in
+    sym (bit-test (getD (a .bytes .now) (13 + 7 * a .count) 0) 0) ∙ ap not (ne-eqb _ _ (c .if2 .left))
+
+shared-slice-read-if1 : tie.Need-shared-slice-read-if1
+shared-slice-read-if1 c = search needs
+
+returns : tie.Need-returns
+returns c = simp (direct-is, eq-eqb _ _ (c .if1 .taken))
+
+mul-end : tie.Need-mul-end
+mul-end c = search needs
+
+add-end : tie.Need-add-end
+add-end c = search needs
+
+shared-slice-read-low : tie.Need-shared-slice-read-low
+shared-slice-read-low c = search needs
+
+returns-2 : tie.Need-returns-2
+returns-2 c =
+    let a = c .before .before .before .before .before .args in
+    let b : ℕ = getD (a .bytes .now) (13 + 7 * a .count) 0 in
+    simp (direct-is, first (c .before .before), sym (bit-test b 0) ∙ ap not (eq-eqb _ _ (c .if2 .taken)))
+
+is-marked-requires : tie.Need-is-marked-requires
+is-marked-requires c κs = search needs
+
+returns-3 : tie.Need-returns-3
+returns-3 c = simp (direct-is, first (c .before .before .before .before), low (c .before .before), sym (c .before .is-marked .ensures) ∙ not-true _ (c .if3 .taken))
+
+add-reserved-groups : tie.Need-add-reserved-groups
+add-reserved-groups c = search needs
+
+reserved-groups-requires : tie.Need-reserved-groups-requires
+reserved-groups-requires c κs = search needs
+
+returns-4 : tie.Need-returns-4
+returns-4 c =
+    let m = c .before .before in
+    simp (
+      direct-is,
+      first (m .before .before .before .before),
+      low (m .before .before),
+      sym (m .before .is-marked .ensures) ∙ not-false _ (m .if3 .left),
+      sym (c .before .reserved-groups .ensures) ∙ not-true _ (c .if4 .taken),
+    )
+
+mul-control : tie.Need-mul-control
+mul-control c = search needs
+
+add-control : tie.Need-add-control
+add-control c = search needs
+
+sub-is-lean : tie.Need-sub-is-lean
+sub-is-lean c = search needs
+
+part-is-lean-start : tie.Need-part-is-lean-start
+part-is-lean-start c = search needs
+
+part-is-lean-end : tie.Need-part-is-lean-end
+part-is-lean-end c = search needs
+
+is-lean-requires : tie.Need-is-lean-requires
+is-lean-requires c κs = search needs
+
+returns-5 : tie.Need-returns-5
+returns-5 c =
+    let r = c .before .before in
+    let m = r .before .before in
+    simp (
+      direct-is,
+      first (m .before .before .before .before),
+      low (m .before .before),
+      sym (m .before .is-marked .ensures) ∙ not-false _ (m .if3 .left),
+      sym (r .before .reserved-groups .ensures) ∙ not-false _ (r .if4 .left),
+      c .is-lean .ensures,
+      part-from,
+    )
+
+pub is-direct-spec : {M : Type 1} → statement M
+is-direct-spec =
+    tie.close
+    (tie.spec
+    shared-slice-read-if1
+    returns
+    mul-end
+    add-end
+    shared-slice-read-low
+    returns-2
+    is-marked-requires
+    returns-3
+    add-reserved-groups
+    reserved-groups-requires
+    returns-4
+    mul-control
+    add-control
+    sub-is-lean
+    part-is-lean-start
+    part-is-lean-end
+    is-lean-requires
+    returns-5)

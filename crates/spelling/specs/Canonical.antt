@@ -1,0 +1,16 @@
+-- One spelling: an input decoded and spelled again, and the canonical check.
+use Prim.Native.Nat.{ℕ}
+use mathlib.Core.Bool.{Bool, _&&_}
+use mathlib.Core.List.{List}
+use Rattle.octets.specs.Same.{same}
+use Rattle.frame.specs.Frame.{isAccepted}
+use Rattle.frame.specs.Read.{decode, infoIn}
+use Rattle.frame.specs.Spell.{spell}
+
+-- the octets that an accepted input is re-encoded as
+unfoldable pub again : List ℕ → List ℕ
+again s = spell (decode s .frame) (infoIn s (decode s))
+
+-- canonical: accepted, and re-encoded as itself
+unfoldable pub canonical : List ℕ → Bool
+canonical s = isAccepted (decode s .answer) && same (again s) s

@@ -1,0 +1,42 @@
+-- Re-encoding an input into a lent buffer: decoding's number, or 24, or 0.
+use Prim.Native.Nat.{ℕ}
+use mathlib.Core.Bool.{Bool, cond}
+use mathlib.Core.List.{List, []}
+use lib.Dec.{ltb}
+use lib.ListN.{length}
+use Rattle.frame.specs.Frame.{numberOf, isAccepted}
+use Rattle.frame.specs.Read.{decode}
+use Rattle.frame.specs.declared.WriteAnswer.{WriteAnswer}
+use Rattle.frame.specs.declared.WriteAnswer.the-variants as write
+use Rattle.spelling.specs.Canonical.{again}
+use Rattle.spelling.specs.declared.ReencodeAnswer.{ReencodeAnswer}
+use Rattle.spelling.specs.declared.ReencodeAnswer.the-variants.{Written, Refused, NoRoom}
+use Rattle.spelling.specs.declared.Reencoded.{Reencoded}
+
+-- the octets that are due: those of an accepted input, and none of a refused one
+unfoldable pub due : List ℕ → List ℕ
+due s = cond (isAccepted (decode s .answer)) (again s) []
+
+unfoldable pub reencodeAnswer : List ℕ → ℕ → ReencodeAnswer
+reencodeAnswer s room =
+    cond (isAccepted (decode s .answer)) (cond (ltb room (length (due s))) NoRoom Written) (Refused (decode s .answer))
+
+-- the octets that are written: all that are due where there is room, else none
+unfoldable pub reencoded : List ℕ → ℕ → List ℕ
+reencoded s room = cond (ltb room (length (due s))) [] (due s)
+
+unfoldable pub reencode : List ℕ → ℕ → Reencoded
+reencode s room = record { answer = reencodeAnswer s room; length = length (reencoded s room) }
+
+-- writing's answer to a frame that was decoded
+abbrev pub answerBy : WriteAnswer → ReencodeAnswer
+answerBy write.Accepted = Written
+answerBy write.RouteTooLong = NoRoom
+answerBy write.NotEncodable = NoRoom
+answerBy write.InfoNotAllowed = NoRoom
+answerBy write.NoRoom = NoRoom
+
+abbrev pub reencodeNumber : ReencodeAnswer → ℕ
+reencodeNumber Written = 0
+reencodeNumber (Refused a) = numberOf a
+reencodeNumber NoRoom = 24
