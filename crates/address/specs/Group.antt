@@ -16,7 +16,7 @@ use Rattle.address.specs.Address.{encodable}
 abbrev pub characterAt : List ℕ → ℕ → ℕ
 characterAt g k = getD g k 0 / 2
 
--- the address in a group
+-- the address in a group: any seven-bit characters (docs/DIFFERENCES.md, A3); the reserved bits are not read (A5)
 unfoldable pub addressOf : List ℕ → Address
 addressOf g = record {
   callsign = characterAt g 0 ∷ characterAt g 1 ∷ characterAt g 2 ∷ characterAt g 3 ∷ characterAt g 4 ∷ characterAt g 5 ∷ [];

@@ -29,7 +29,7 @@ iFieldsOf s = record {
 unfoldable pub iOf : List ℕ → ContentAnswer
 iOf s = cond (ltb (length s) 2) MissingPidField (Accepted (kind.Information (iFieldsOf s)))
 
--- S: the control octet alone; a tail is ignored (docs/DIFFERENCES.md, 4), and SREJ has no name (8)
+-- S: the control octet alone; a tail is ignored (docs/DIFFERENCES.md, A4), and SREJ has no name (A8)
 unfoldable pub sOf : ℕ → ContentAnswer
 sOf c =
     cond (eqb (sKind c) rr) (Accepted (kind.ReceiveReady (record { «receive_sequence» = receiveOf c; «poll_or_final» = pollOf c })))
@@ -49,7 +49,7 @@ unfoldable pub responseOf : ℕ → CommandResponse
 responseOf n = cond (bit 4 n) Response Command
 
 -- FRMR: control; Z Y X W in bits 3 to 0; N(R), response bit and N(S); the rejected control octet. The order of the last three is
--- the Rust's, and not that of AX.25's figure (docs/DIFFERENCES.md)
+-- the Rust's, and not that of AX.25's figure (docs/DIFFERENCES.md, A9)
 abbrev pub frmrFieldsOf : List ℕ → FrameReject
 frmrFieldsOf s = record {
   «final_bit» = pollOf (getD s 0 0);
@@ -67,7 +67,7 @@ frmrFieldsOf s = record {
 unfoldable pub frmrOf : List ℕ → ContentAnswer
 frmrOf s = cond (eqb (length s) 4) (Accepted (kind.FrameReject (frmrFieldsOf s))) WrongSizeFrmrInfo
 
--- U: the control octet c alone, a tail ignored (docs/DIFFERENCES.md, 4), save for FRMR and UI. SABME, XID and TEST have no name (8)
+-- U: the control octet c alone, a tail ignored (docs/DIFFERENCES.md, A4), save for FRMR and UI. SABME, XID and TEST have no name (A8)
 unfoldable pub uOf : ℕ → List ℕ → ContentAnswer
 uOf c s =
     cond (eqb (uKind c) sabm) (Accepted (kind.SetAsynchronousBalancedMode (record { poll = pollOf c })))
