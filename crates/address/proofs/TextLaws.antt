@@ -21,7 +21,7 @@ use Rattle.address.specs.declared.Address.{Address}
 use Rattle.address.specs.declared.text.AddressAnswer.{AddressAnswer}
 use Rattle.address.specs.declared.text.AddressAnswer.the-variants.{Accepted}
 use Rattle.address.specs.Address.{low, encodable, PlainAddress}
-use Rattle.address.specs.Text.{addressNumberOf, hyphen, space, digit, upperCase, lowerCase, alphanumeric, upper, upperAt, count, decimalFrom, decimal, digits8, afterPlus, callsignText, manyHyphens, empty, long, wide, short, hasSsid, ssidText, ssidValue, badSsid, callsignNumber, partsNumber, textNumber, padded, readCallsign, readParts, readText, used, trimmed, decimalText, ssidSuffix, textOf, printNumberOf, printNumber, printed, printedInto, upperOrDigit, TextAddress}
+use Rattle.address.specs.Text.{addressNumberOf, hyphen, space, digit, upperCase, lowerCase, alphanumeric, upper, upperAt, count, decimalFrom, decimal, digits8, afterPlus, callsignText, manyHyphens, empty, long, wide, short, hasSsid, ssidText, ssidValue, badSsid, callsignNumber, partsNumber, textNumber, padded, readCallsign, readParts, readText, used, trimmed, decimalText, ssidSuffix, textOf, printNumberOf, printNumber, printed, printedInto, upperOrDigit, TextAddress, high, strange}
 use Rattle.address.proofs.Laws.{six-list, no-call-plain}
 use Rattle.address.proofs.Reading.{and-false}
 use Rattle.address.proofs.Printing.{used-le, trimmed-length}
@@ -390,3 +390,19 @@ pub text-back : (t : List ℕ) → readText t .answer ≡ Accepted → readText 
 text-back t e =
     print-back (readText t .address) (text-address t e)
     ∙ ap (λ (x : AddressAnswer). record { answer = x; address = readText t .address }) (sym e)
+
+-- the tables, row by row
+pub parts-rows : (c : List ℕ) (s : ℕ) → partsNumber c s ≡ cond (high c) 35 (cond (empty c) 32 (cond (long c) 31 (cond (strange c) 32 (cond (wide s) 34 0))))
+unfolding partsNumber callsignNumber
+parts-rows c s = refl
+
+pub text-rows : (t : List ℕ)
+    → textNumber t
+    ≡ cond (high t) 35 (cond (manyHyphens t) 32 (cond (badSsid t) 33
+    (cond (empty (callsignText t)) 32 (cond (long (callsignText t)) 31 (cond (strange (callsignText t)) 32 (cond (wide (ssidValue t)) 34 0))))))
+unfolding textNumber callsignNumber
+text-rows t = refl
+
+pub print-rows : (a : Address) (room : ℕ) → printNumber a room ≡ cond (not (encodable a)) 22 (cond (short a room) 24 0)
+unfolding printNumber
+print-rows a room = refl

@@ -1,7 +1,7 @@
 -- What a plain frame spells is decoded as that frame, with its info; so two plain frames with the same octets are the same.
 use Prim.Native.Nat.{ℕ, zero, suc, _+_, _-_, _*_, _/_, _≤_, _<_}
 use mathlib.Core.Path.{_≡_, refl, ap, sym, _∙_}
-use mathlib.Core.Bool.{Bool, true, false, true≢false, false≢true}
+use mathlib.Core.Bool.{Bool, true, false, false≢true, not}
 use mathlib.Core.List.{List, [], _∷_, _++_, append-assoc}
 use mathlib.Core.Logic.{⊎-elim}
 use native.Mathlib.Nat.{add-zero, eq-or-lt-of-le, le-of-suc-le-suc, not-suc-le-zero}
@@ -166,3 +166,13 @@ unique f g i j p q e =
     let a : decode (spell f i) ≡ decode (spell g j) = ap decode e in
     let b : infoIn (spell f i) (decode (spell f i)) ≡ infoIn (spell g j) (decode (spell g j)) = ap (λ (s : List ℕ). infoIn s (decode s)) e in
     (sym (frame-spell f i p) ∙ ap (λ (d : Decoded). d .frame) a ∙ frame-spell g j q, sym (info-spell f i p) ∙ b ∙ info-spell g j q)
+
+-- exactly one of the first two marks is set
+pub spelled-marks : (f : Ax25Frame) (i : List ℕ) (p : Plain f i) → markOf (groupAt (spell f i) 0) ≡ not (markOf (groupAt (spell f i) 7))
+spelled-marks f i p =
+    rw (after-dest f i p, in-order f i p, group-front, group-front (f .source) _ _ _, mark-written, mark-written) (opposite (f .«command_or_response»))
+  where
+    opposite : (m : Mark) → destinationMark m ≡ not (sourceMark m)
+    opposite Command = refl
+    opposite Response = refl
+    opposite Absent = refl

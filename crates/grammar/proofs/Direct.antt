@@ -58,7 +58,7 @@ module _ (f : Ax25Frame) (i : List ℕ) (p : Plain f i) where
   n = f .«route_count»
 
   -- a group of what a plain frame spells has its reserved bits set
-  spelled-reserved : (j : ℕ) → j < n + 2 → reserved (groupAt s (7 * j)) ≡ true
+  pub spelled-reserved : (j : ℕ) → j < n + 2 → reserved (groupAt s (7 * j)) ≡ true
   spelled-reserved zero h = rw (in-order f i p, group-front) (group-reserved _ _ _)
   spelled-reserved (suc zero) h = rw (after-dest f i p, group-front) (group-reserved _ _ _)
   spelled-reserved (suc (suc j)) h =

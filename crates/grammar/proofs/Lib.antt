@@ -5,3 +5,4 @@ pub mod Accepted
 pub mod Plain
 pub mod Respell
 pub mod Direct
+pub mod Refused

@@ -1,18 +1,25 @@
 -- Decoding gives each number, with its details, exactly when its row of the table holds.
-use Prim.Native.Nat.{ℕ, _+_}
+use Prim.Native.Nat.{ℕ, _+_, _<_}
 use mathlib.Core.Path.{_≡_, refl, ap, sym, _∙_}
 use mathlib.Core.List.{List}
-use lib.Dec.{eqb}
-use lib.ListN.{length, drop}
+use mathlib.Core.Bool.{Bool, cond, not}
+use native.Mathlib.Omega.{arith}
+use borrow.Author.Tests.{eqb-false}
+use lib.Dec.{eqb, ltb}
+use lib.ListN.{length, length-drop, drop}
 use Rattle.octets.specs.Octet.{bit}
-use Rattle.octets.proofs.Choice.{either}
-use Rattle.octets.proofs.First.{first-all}
+use Rattle.octets.proofs.Choice.{by, either}
+use Rattle.octets.proofs.First.{first-all, first-le}
 use Rattle.content.specs.Content as content
-use Rattle.content.specs.Numbers.{rows}
-use Rattle.content.proofs.Laws.{numbers}
+use Rattle.content.specs.Encode.{strayInfo}
+use Rattle.content.specs.Numbers.{rows, lacksPid, strangeS, strangeU, wrongFrmr}
+use Rattle.content.proofs.Laws.{numbers, rows-some}
 use Rattle.content.specs.declared.ContentAnswer.{ContentAnswer}
 use Rattle.content.specs.declared.ContentAnswer.the-variants.{Accepted, ContentZeroLength, MissingPidField, UnrecognisedSFieldType, UnrecognisedUFieldType, WrongSizeFrmrInfo}
-use Rattle.frame.specs.Frame.{Report, number, reportOf}
+use Rattle.frame.specs.Frame.{Report, number, reportOf, numberOf, writeNumber}
+use Rattle.frame.specs.Spell.{spell}
+use Rattle.frame.specs.Write.{frameEncodable, writeAnswer}
+use Rattle.frame.specs.declared.Ax25Frame.{Ax25Frame}
 use Rattle.frame.specs.Read.{nonzero, startOf, endOf, repeatersOf, refusedWith, acceptedWith, refusalOf, withContent, decodeField, decode}
 use Rattle.frame.specs.Numbers.{noStart, noEnd, shortField, noContent, manyRepeaters, reported}
 use Rattle.frame.specs.declared.Decoded.{Decoded}
@@ -40,3 +47,32 @@ decode-report s =
     (λ c. either P (noContent s) (λ d. rw (sym one ∙ a, sym two ∙ b, c, d) refl)
     (λ d. either P (manyRepeaters s) (λ e. rw (sym one ∙ a, sym two ∙ b, c, d, e) refl)
     (λ e. rw (sym one ∙ a, sym two ∙ b, c, d, e) (content-report _ _ _ _ (content.contentOf (drop (endOf s + 1) s)) ∙ ap number (numbers (drop (endOf s + 1) s))))))))
+
+-- the numbers alone, row by row: 4 comes from the frame, never from its content
+pub decode-rows : (s : List ℕ)
+    → numberOf (decode s .answer)
+    ≡ cond (noStart s) 1 (cond (noEnd s) 2 (cond (shortField s) 3 (cond (noContent s) 4 (cond (manyRepeaters s) 9
+    (cond (lacksPid (drop (endOf s + 1) s)) 5 (cond (strangeS (drop (endOf s + 1) s)) 6
+    (cond (strangeU (drop (endOf s + 1) s)) 7 (cond (wrongFrmr (drop (endOf s + 1) s)) 8 0))))))))
+unfolding reported
+decode-rows s =
+    let c : List ℕ = drop (endOf s + 1) s in
+    ap (λ (r : Report). r .number) (decode-report s)
+    ∙ by (noStart s) (λ a. simp a)
+    (λ a. by (noEnd s) (λ b. simp (a, b))
+    (λ b. by (noContent s) (λ d. simp (a, b, d) (by (shortField s) (λ q. simp q) (λ q. simp q)))
+    (λ d. let in-it : (endOf s ≡ length s → ⊥) = eqb-false (endOf s) (length s) (first-all (bit 0) s ∙ b) in
+    let past : (endOf s + 1 ≡ length s → ⊥) = eqb-false (endOf s + 1) (length s) d in
+    let some : 0 < length c = rw length-drop (omega (arith, first-le (bit 0) s)) in
+    simp (a, b, d, rows-some c some) (by (shortField s) (λ q. simp q) (λ q. simp q (by (manyRepeaters s) (λ r. simp r) (λ r. simp r)))))))
+
+pub write-rows : (f : Ax25Frame) (info : List ℕ) (room : ℕ)
+    → writeNumber (writeAnswer f info room)
+    ≡ cond (ltb 8 (f .«route_count»)) 21 (cond (not (frameEncodable f)) 22 (cond (strayInfo (f .content) (length info)) 23
+    (cond (ltb room (length (spell f info))) 24 0)))
+unfolding writeAnswer
+write-rows f info room =
+    by (ltb 8 (f .«route_count»)) (λ a. simp a)
+    (λ a. simp a (by (not (frameEncodable f)) (λ b. simp b)
+    (λ b. simp b (by (strayInfo (f .content) (length info)) (λ c. simp c)
+    (λ c. simp c (by (ltb room (length (spell f info))) (λ d. simp d) (λ d. simp d)))))))

@@ -26,7 +26,7 @@ use Rattle.grammar.proofs.Respell.{mark-spell, use-spell, use-mark, accepted-sp
 use Rattle.grammar.proofs.Direct.{direct-spelled, direct-again}
 use Rattle.spelling.specs.Canonical.{again, canonical}
 use Rattle.spelling.specs.Reencode.{due, reencodeAnswer, reencoded, reencode, answerBy}
-use Rattle.spelling.specs.declared.ReencodeAnswer.the-variants.{Refused}
+use Rattle.spelling.specs.declared.ReencodeAnswer.the-variants.{Written, Refused}
 
 -- what a plain frame spells is re-encoded as itself
 again-spell : (f : Ax25Frame) (i : List ℕ) → Plain f i → again (spell f i) ≡ spell f i
@@ -100,3 +100,22 @@ accepted-answer s room o e =
 pub due-fits : (s : List ℕ) → Octets s → isAccepted (decode s .answer) ≡ true → length (due s) ≤ length s
 due-fits s o e =
     rw (due-accepted s e, ← mark-spell (decode s .frame) (infoIn s (decode s))) (read s o e .fits)
+
+-- an accepted input re-encoded: accepted, canonical, no longer, the same frame with a mark, the same info
+pub again-facts : (s : List ℕ) → Octets s → isAccepted (decode s .answer) ≡ true
+    → (isAccepted (decode (again s) .answer) ≡ true) × (canonical (again s) ≡ true) × (length (again s) ≤ length s)
+    × (decode (again s) .frame ≡ withMark (decode s .frame)) × (infoIn (again s) (decode (again s)) ≡ infoIn s (decode s))
+unfolding again
+again-facts s o e =
+    let r = read s o e in
+    let i = infoIn s (decode s) in
+    rw (← mark-spell (decode s .frame) i)
+    (accepted-spell _ i (r .plain), spell-canonical _ i (r .plain), r .fits, frame-spell _ i (r .plain) ∙ use-mark _ (r .kept), info-spell _ i (r .plain))
+
+-- and written where there is room for the input's length
+pub again-room : (s : List ℕ) (room : ℕ) → Octets s → isAccepted (decode s .answer) ≡ true → length s ≤ room
+    → (reencodeAnswer s room ≡ Written) × (reencoded s room ≡ again s)
+unfolding reencodeAnswer reencoded again
+again-room s room o e h =
+    let fits : ltb room (length (due s)) ≡ false = le-ltb room (length (due s)) (omega (arith, due-fits s o e)) in
+    (simp (e, fits), simp fits (due-accepted s e))

@@ -1,0 +1,5 @@
+pub mod Table
+pub mod Numbers
+pub mod OneSpelling
+pub mod Shape
+pub mod Examples

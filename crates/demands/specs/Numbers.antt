@@ -1,0 +1,47 @@
+-- Demand 1: document 01's table of numbers, a row a line, each condition in the table's words, in the order that it gives.
+use Prim.Native.Nat.{ℕ, _+_}
+use mathlib.Core.Bool.{Bool, not}
+use mathlib.Core.List.{List, [], _∷_}
+use lib.Dec.{ltb}
+use lib.ListN.{length, drop}
+use Rattle.address.specs.Address.{encodable}
+use Rattle.address.specs.Text.{high, manyHyphens, badSsid, empty, long, strange, wide, short, callsignText, ssidValue}
+use Rattle.address.specs.declared.Address.{Address}
+use Rattle.content.specs.Encode.{strayInfo}
+use Rattle.content.specs.Numbers.{lacksPid, strangeS, strangeU, wrongFrmr}
+use Rattle.frame.specs.Read.{endOf}
+use Rattle.frame.specs.Numbers.{noStart, noEnd, shortField, noContent, manyRepeaters}
+use Rattle.frame.specs.Spell.{spell}
+use Rattle.frame.specs.Write.{frameEncodable}
+use Rattle.frame.specs.declared.Ax25Frame.{Ax25Frame}
+use Rattle.demands.specs.Table.{Table}
+
+-- the content: what stands after the end
+abbrev content : List ℕ → List ℕ
+content s = drop (endOf s + 1) s
+
+-- decoding
+abbrev pub decodeTable : List ℕ → Table
+decodeTable s =
+    (1, noStart s) ∷ (2, noEnd s) ∷ (3, shortField s) ∷ (4, noContent s) ∷ (9, manyRepeaters s)
+    ∷ (5, lacksPid (content s)) ∷ (6, strangeS (content s)) ∷ (7, strangeU (content s)) ∷ (8, wrongFrmr (content s)) ∷ []
+
+-- writing a frame with its info into so much room
+abbrev pub writeTable : Ax25Frame → List ℕ → ℕ → Table
+writeTable f info room =
+    (21, ltb 8 (f .«route_count»)) ∷ (22, not (frameEncodable f)) ∷ (23, strayInfo (f .content) (length info))
+    ∷ (24, ltb room (length (spell f info))) ∷ []
+
+-- printing an address into so much room
+abbrev pub printTable : Address → ℕ → Table
+printTable a room = (22, not (encodable a)) ∷ (24, short a room) ∷ []
+
+-- a callsign and an SSID
+abbrev pub partsTable : List ℕ → ℕ → Table
+partsTable c ssid = (35, high c) ∷ (32, empty c) ∷ (31, long c) ∷ (32, strange c) ∷ (34, wide ssid) ∷ []
+
+-- text
+abbrev pub textTable : List ℕ → Table
+textTable t =
+    (35, high t) ∷ (32, manyHyphens t) ∷ (33, badSsid t)
+    ∷ (32, empty (callsignText t)) ∷ (31, long (callsignText t)) ∷ (32, strange (callsignText t)) ∷ (34, wide (ssidValue t)) ∷ []

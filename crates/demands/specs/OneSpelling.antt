@@ -1,0 +1,42 @@
+-- Demand 3: one spelling.
+use Prim.Native.Nat.{ℕ, _≤_}
+use mathlib.Core.Path.{_≡_}
+use mathlib.Core.Bool.{true}
+use mathlib.Core.List.{List}
+use mathlib.Core.Logic.{_↔_}
+use lib.ListN.{length}
+use Rattle.frame.specs.Frame.{isAccepted}
+use Rattle.frame.specs.Read.{decode, infoIn}
+use Rattle.frame.specs.Spell.{spell, Plain, withMark, inUse}
+use Rattle.frame.specs.declared.Ax25Frame.{Ax25Frame}
+use Rattle.spelling.specs.Canonical.{again, canonical}
+use Rattle.spelling.specs.Reencode.{reencodeAnswer, reencoded}
+use Rattle.spelling.specs.declared.ReencodeAnswer.the-variants.{Written}
+
+-- a plain frame that spells these octets by the grammar
+pub record Spelled (s : List ℕ) : Type 0 where
+  pub frame : Ax25Frame
+  pub info : List ℕ
+  pub plain : Plain frame info
+  pub spells : spell frame info ≡ s
+
+-- t is s respelled: canonical, no longer, and with the same meaning
+pub record Respelled (s t : List ℕ) : Type 0 where
+  pub accepted : isAccepted (decode t .answer) ≡ true
+  pub yes : canonical t ≡ true
+  pub shorter : length t ≤ length s
+  -- the same frame, an absent mark made Command
+  pub frame : decode t .frame ≡ withMark (decode s .frame)
+  -- the same info octets
+  pub info : infoIn t (decode t) ≡ infoIn s (decode s)
+
+pub record OneSpelling (s : List ℕ) : Type 0 where
+  -- exact: the canonical check says yes exactly when some plain frame spells those octets
+  pub exact : canonical s ≡ true ↔ Spelled s
+  -- one: that frame is the only one, in all that is in use and in info
+  pub one : (a b : Spelled s) → (inUse (a .frame) ≡ inUse (b .frame)) × (a .info ≡ b .info)
+  -- again: every accepted input is respelled
+  pub respelled : isAccepted (decode s .answer) ≡ true → Respelled s (again s)
+  -- and room of the input's length is enough to write that
+  pub written : isAccepted (decode s .answer) ≡ true → (room : ℕ) → length s ≤ room
+      → (reencodeAnswer s room ≡ Written) × (reencoded s room ≡ again s)

@@ -1,0 +1,1 @@
+// No code: the customer's demands as statements (specs/), proved (proofs/).

@@ -1,0 +1,67 @@
+-- A refused decode is its answer with the default frame and no info; nothing decodes to `UnknownContent`.
+use Prim.Native.Nat.{ℕ, _+_, _-_}
+use mathlib.Core.Path.{_≡_, refl, ap, sym, _∙_}
+use mathlib.Core.Bool.{Bool, true, false, true≢false, cond}
+use mathlib.Core.List.{List}
+use native.Mathlib.Omega.{arith}
+use lib.Dec.{eqb, ltb}
+use lib.ListN.{length, drop}
+use Rattle.octets.proofs.Choice.{by, either}
+use Rattle.content.specs.Content.{contentOf}
+use Rattle.content.specs.declared.FrameContent.{FrameContent}
+use Rattle.content.specs.declared.FrameContent.the-variants as kind
+use Rattle.content.specs.declared.UnnumberedInformation.{UnnumberedInformation}
+use Rattle.content.specs.declared.ContentAnswer.{ContentAnswer}
+use Rattle.content.specs.declared.ContentAnswer.the-variants as content
+use Rattle.content.proofs.Laws.{never-unknown}
+use Rattle.frame.specs.Frame.{isAccepted, simpleUi, defaultFrame}
+use Rattle.frame.specs.Read.{startOf, endOf, repeatersOf, frameAt, refusedWith, acceptedWith, withContent, decodeField, decode}
+use Rattle.frame.specs.declared.Ax25Frame.{Ax25Frame}
+use Rattle.frame.specs.declared.Decoded.{Decoded}
+use Rattle.frame.specs.declared.DecodeAnswer.{DecodeAnswer}
+use Rattle.grammar.proofs.Accepted.{Accepts, accepts}
+
+abbrev Bare : Decoded → Type 0
+Bare d = isAccepted (d .answer) ≡ false → d ≡ refusedWith (d .answer)
+
+bare : (a : DecodeAnswer) → Bare (refusedWith a)
+unfolding refusedWith
+bare a e = refl
+
+bare-content : (s : List ℕ) (start n control : ℕ) (a : ContentAnswer) → Bare (withContent s start n control a)
+unfolding withContent acceptedWith
+bare-content s start n control (content.Accepted k) e = absurd (true≢false e)
+bare-content s start n control content.ContentZeroLength e = bare _ e
+bare-content s start n control content.MissingPidField e = bare _ e
+bare-content s start n control content.UnrecognisedSFieldType e = bare _ e
+bare-content s start n control content.UnrecognisedUFieldType e = bare _ e
+bare-content s start n control content.WrongSizeFrmrInfo e = bare _ e
+
+pub refused-is : (s : List ℕ) → isAccepted (decode s .answer) ≡ false → decode s ≡ refusedWith (decode s .answer)
+unfolding decode decodeField
+refused-is s =
+    either Bare (eqb (startOf s) (length s)) (λ _. bare _)
+    (λ _. either Bare (eqb (endOf s) (length s)) (λ _. bare _)
+    (λ _. either Bare (ltb (endOf s + 1 - startOf s) 14) (λ _. bare _)
+    (λ _. either Bare (eqb (endOf s + 1) (length s)) (λ _. bare _)
+    (λ _. either Bare (ltb 8 (repeatersOf (startOf s) (endOf s))) (λ _. bare _)
+    (λ _. bare-content s _ _ _ (contentOf (drop (endOf s + 1) s)))))))
+
+pub refused-frame : (s : List ℕ) → isAccepted (decode s .answer) ≡ false → decode s .frame ≡ defaultFrame
+unfolding refusedWith
+refused-frame s e = ap (λ (d : Decoded). d .frame) (refused-is s e)
+
+made-kind : (s : List ℕ) (a : Accepts s (decode s)) → decode s .frame .content ≡ a .kind
+unfolding acceptedWith frameAt
+made-kind s a = ap (λ (d : Decoded). d .frame .content) (a .made)
+
+default-known : defaultFrame .content ≡ kind.UnknownContent → ⊥
+unfolding defaultFrame simpleUi
+default-known u = let z : _≡_ {A = ℕ} 0 1 = cc u in omega arith
+
+-- an accepted input has what its content read as, a refused one the default frame's UI
+pub decoded-known : (s : List ℕ) → decode s .frame .content ≡ kind.UnknownContent → ⊥
+decoded-known s u =
+    by (isAccepted (decode s .answer))
+    (λ e. let a = accepts s e in never-unknown (drop (endOf s + 1) s) (a .read ∙ ap content.Accepted (sym (made-kind s a) ∙ u)))
+    (λ e. default-known (sym (ap (λ (f : Ax25Frame). f .content) (refused-frame s e)) ∙ u))
