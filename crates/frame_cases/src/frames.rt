@@ -1,4 +1,6 @@
 // A frame and its fields as text.
+use address::Address;
+use content::FrameContent;
 use frame::Ax25Frame;
 use frame::DecodeAnswer;
 use frame::Mark;
@@ -61,38 +63,34 @@ fn places(route: [RouteEntry; 8]) {
     }
 }
 
-fn ends(frame: Ax25Frame) {
-    let destination = frame.destination;
+fn ends(destination: Address, source: Address) {
     show::text(b" to ");
     show::station(destination);
-    let source = frame.source;
     show::text(b" from ");
     show::station(source);
 }
 
-fn rest(frame: Ax25Frame) {
-    let m = frame.command_or_response;
+// The places where one is in use, or where the unused ones are wanted.
+fn way(route: [RouteEntry; 8], count: usize, unused: bool) {
+    show::field(b"count", count as u64);
+    if (count > 0) | unused {
+        places(route);
+    }
+}
+
+fn rest(m: Mark, content: FrameContent) {
     mark(m);
-    let content = frame.content;
     show::kind(content);
 }
 
-// Every field, the unused places too.
-pub fn whole(frame: Ax25Frame) {
-    ends(frame);
-    show::field(b"count", frame.route_count as u64);
+// Every field.
+pub fn fields(frame: Ax25Frame, unused: bool) {
+    let destination = frame.destination;
+    let source = frame.source;
+    ends(destination, source);
     let route = frame.route;
-    places(route);
-    rest(frame);
-}
-
-// Every field; no places where the route is empty.
-pub fn fields(frame: Ax25Frame) {
-    if frame.route_count > 0 {
-        whole(frame);
-        return;
-    }
-    ends(frame);
-    show::field(b"count", 0);
-    rest(frame);
+    way(route, frame.route_count, unused);
+    let m = frame.command_or_response;
+    let content = frame.content;
+    rest(m, content);
 }

@@ -3,6 +3,17 @@ use super::cutting::first;
 use frame::Ax25Frame;
 use frame::Written;
 
+// Shown: number, length, and the lent octets with the three behind them.
+fn outcome(room: usize, w: Written, octets: &[u8]) {
+    let answer = w.answer;
+    show::field(b"room", room as u64);
+    show::field(b"number", answer.number() as u64);
+    show::field(b"length", w.length as u64);
+    show::text(b" :");
+    show::octets(octets);
+    show::text(b"\n");
+}
+
 // The first `room` octets are lent.
 fn lend(frame: Ax25Frame, info: &[u8], out: &mut [u8], room: usize) -> Written {
     if out.len() < room {
@@ -11,29 +22,18 @@ fn lend(frame: Ax25Frame, info: &[u8], out: &mut [u8], room: usize) -> Written {
     frame.to_bytes(info, &mut out[..room])
 }
 
-fn outcome(w: Written) {
-    let answer = w.answer;
-    show::field(b"number", answer.number() as u64);
-    show::field(b"length", w.length as u64);
-    show::text(b" :");
-}
-
-// Shown: number, length, and the lent octets with the three behind them.
 fn room(frame: Ax25Frame, info: &[u8], room: usize) {
-    if 125 < room {
+    if 93 < room {
         return;
     }
-    let mut out = [0xEEu8; 128];
+    let mut out = [0xEEu8; 96];
     let w = lend(frame, info, &mut out, room);
-    show::field(b"room", room as u64);
-    outcome(w);
-    show::octets(first(&out, room + 3));
-    show::text(b"\n");
+    outcome(room, w, first(&out, room + 3));
 }
 
 // How many octets are written where there is room.
 fn needed(frame: Ax25Frame, info: &[u8]) -> usize {
-    let mut out = [0u8; 128];
+    let mut out = [0u8; 96];
     let w = frame.to_bytes(info, &mut out);
     w.length
 }
@@ -43,10 +43,10 @@ pub fn rooms(frame: Ax25Frame, info: &[u8]) {
     let n = needed(frame, info);
     if n == 0 {
         room(frame, info, 0);
-        room(frame, info, 100);
+        room(frame, info, 90);
         return;
     }
-    if 122 < n {
+    if 90 < n {
         return;
     }
     room(frame, info, n);
