@@ -70,9 +70,13 @@ fn ends(destination: Address, source: Address) {
     show::station(source);
 }
 
+fn counted(count: usize) {
+    show::field(b"count", count as u64);
+}
+
 // The places where one is in use, or where the unused ones are wanted.
 fn way(route: [RouteEntry; 8], count: usize, unused: bool) {
-    show::field(b"count", count as u64);
+    counted(count);
     if (count > 0) | unused {
         places(route);
     }
@@ -81,6 +85,10 @@ fn way(route: [RouteEntry; 8], count: usize, unused: bool) {
 fn rest(m: Mark, content: FrameContent) {
     mark(m);
     show::kind(content);
+}
+
+pub fn end_line() {
+    show::text(b"\n");
 }
 
 // Every field.

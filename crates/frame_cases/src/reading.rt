@@ -1,5 +1,6 @@
 // Octets read, and what was accepted written again.
 use super::cutting::first;
+use super::cutting::part;
 use super::cutting::place;
 use super::frames;
 use super::rooms::rooms;
@@ -12,26 +13,17 @@ fn line(d: Decoded) {
     frames::outcome(answer, d.info_start, d.info_len);
     let frame = d.frame;
     frames::fields(frame, false);
-    show::text(b"\n");
+    frames::end_line();
 }
 
-// An accepted frame with the info that lies in the input.
+// An accepted frame with its info, which lies in the input.
 fn again(d: Decoded, input: &[u8]) {
     let answer = d.answer;
-    let start = d.info_start;
-    let len = d.info_len;
     if answer.number() > 0 {
         return;
     }
-    if input.len() < start {
-        return;
-    }
-    if input.len() - start < len {
-        return;
-    }
-    let end = start + len;
     let frame = d.frame;
-    rooms(frame, &input[start..end]);
+    rooms(frame, part(input, d.info_start, d.info_len));
 }
 
 // One line, and three more where the input is accepted.

@@ -13,6 +13,10 @@ use frame::Mark;
 use frame::RouteEntry;
 use protocol::ProtocolIdentifier;
 
+fn title() {
+    show::text(b"record");
+}
+
 fn info_line(info: &[u8]) {
     show::text(b" info");
     show::octets(info);
@@ -21,7 +25,7 @@ fn info_line(info: &[u8]) {
 
 // Every field, the info, and the lines of its rooms.
 fn record(frame: Ax25Frame, info: &[u8]) {
-    show::text(b"record");
+    title();
     frames::fields(frame, true);
     info_line(info);
     rooms(frame, info);

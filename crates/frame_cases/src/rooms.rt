@@ -23,12 +23,9 @@ fn lend(frame: Ax25Frame, info: &[u8], out: &mut [u8], room: usize) -> Written {
 }
 
 fn room(frame: Ax25Frame, info: &[u8], room: usize) {
-    if 93 < room {
-        return;
-    }
     let mut out = [0xEEu8; 96];
     let w = lend(frame, info, &mut out, room);
-    outcome(room, w, first(&out, room + 3));
+    outcome(room, w, first(&out, longer(room)));
 }
 
 // How many octets are written where there is room.
@@ -38,18 +35,29 @@ fn needed(frame: Ax25Frame, info: &[u8]) -> usize {
     w.length
 }
 
+fn shorter(n: usize) -> usize {
+    if n == 0 {
+        return 0;
+    }
+    n - 1
+}
+
+// Three more, within a buffer.
+fn longer(n: usize) -> usize {
+    if 93 < n {
+        return 96;
+    }
+    n + 3
+}
+
 // Exactly full, one octet short, and three octets longer; for a frame that is refused, no room and much.
 pub fn rooms(frame: Ax25Frame, info: &[u8]) {
     let n = needed(frame, info);
+    room(frame, info, n);
     if n == 0 {
-        room(frame, info, 0);
         room(frame, info, 90);
         return;
     }
-    if 90 < n {
-        return;
-    }
-    room(frame, info, n);
-    room(frame, info, n - 1);
-    room(frame, info, n + 3);
+    room(frame, info, shorter(n));
+    room(frame, info, longer(n));
 }
