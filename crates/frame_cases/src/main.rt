@@ -1,9 +1,6 @@
 // Frames read, written again, written from records that reading never gives, and the hops of routes. The stored output comes
 // from the unchanged Rust; what the Rust has no counterpart for comes from document 01's rules, as the first lines say.
-mod cutting; // cutting.rt: a list of cases, cut into lines and parts
-mod frames; // frames.rt: a frame and its fields as text
 mod reading; // reading.rt: octets read
-mod rooms; // rooms.rt: a frame written into rooms of several sizes
 mod records; // records.rt: records that reading never gives
 mod spans; // spans.rt: address fields of many lengths
 mod routes; // routes.rt: the hops of routes, and equal stations

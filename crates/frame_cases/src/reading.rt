@@ -1,11 +1,11 @@
 // Octets read, and what was accepted written again.
-use super::cutting::first;
-use super::cutting::part;
-use super::cutting::place;
-use super::frames;
-use super::rooms::rooms;
 use frame::Ax25Frame;
 use frame::Decoded;
+use show_frame::cutting::first;
+use show_frame::cutting::part;
+use show_frame::cutting::place;
+use show_frame::frames;
+use show_frame::rooms::rooms;
 
 // The frame of a refusal is the default one.
 fn line(d: Decoded) {

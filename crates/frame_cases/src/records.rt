@@ -1,6 +1,4 @@
 // Records that reading never gives, written.
-use super::frames;
-use super::rooms::rooms;
 use address::Address;
 use content::CommandResponse;
 use content::FrameContent;
@@ -12,6 +10,8 @@ use frame::Ax25Frame;
 use frame::Mark;
 use frame::RouteEntry;
 use protocol::ProtocolIdentifier;
+use show_frame::frames;
+use show_frame::rooms::rooms;
 
 fn title() {
     show::text(b"record");

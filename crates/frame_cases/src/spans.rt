@@ -1,6 +1,6 @@
 // Address fields of many lengths, cut from one field of twelve stations.
-use super::cutting::first;
 use super::reading::read;
+use show_frame::cutting::first;
 
 // The low bit set in the last of the first n octets.
 fn set_end(out: &mut [u8], n: usize) {

@@ -1,4 +1,4 @@
-// A list of cases, cut into lines and parts.
+// Parts of octets.
 ghost use Prim.Native.Nat.{_≤_};
 ghost use lib.ListN.{length};
 
