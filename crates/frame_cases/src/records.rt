@@ -13,10 +13,6 @@ use protocol::ProtocolIdentifier;
 use show_frame::frames;
 use show_frame::rooms::rooms;
 
-fn title() {
-    show::text(b"record");
-}
-
 fn info_line(info: &[u8]) {
     show::text(b" info");
     show::octets(info);
@@ -25,7 +21,7 @@ fn info_line(info: &[u8]) {
 
 // Every field, the info, and the lines of its rooms.
 fn record(frame: Ax25Frame, info: &[u8]) {
-    title();
+    show::text(b"record");
     frames::fields(frame, true);
     info_line(info);
     rooms(frame, info);
