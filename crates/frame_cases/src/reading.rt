@@ -1,36 +1,15 @@
 // Octets read, and what was accepted written again.
 use frame::Ax25Frame;
-use frame::Decoded;
 use show_frame::cutting::first;
-use show_frame::cutting::part;
 use show_frame::cutting::place;
 use show_frame::frames;
-use show_frame::rooms::rooms;
-
-// The frame of a refusal is the default one.
-fn line(d: Decoded) {
-    let answer = d.answer;
-    frames::outcome(answer, d.info_start, d.info_len);
-    let frame = d.frame;
-    frames::fields(frame, false);
-    frames::end_line();
-}
-
-// An accepted frame with its info, which lies in the input.
-fn again(d: Decoded, input: &[u8]) {
-    let answer = d.answer;
-    if answer.number() > 0 {
-        return;
-    }
-    let frame = d.frame;
-    rooms(frame, part(input, d.info_start, d.info_len));
-}
+use show_frame::rooms;
 
 // One line, and three more where the input is accepted.
 pub fn read(input: &[u8]) {
     let d = Ax25Frame::from_bytes(input);
-    line(d);
-    again(d, input);
+    frames::line(d);
+    rooms::again(d, input);
 }
 
 // The case's octets behind those in front.

@@ -3,6 +3,7 @@ use address::Address;
 use content::FrameContent;
 use frame::Ax25Frame;
 use frame::DecodeAnswer;
+use frame::Decoded;
 use frame::Mark;
 use frame::RouteEntry;
 
@@ -30,7 +31,7 @@ fn answer(a: DecodeAnswer) {
 }
 
 // The number, its details and the place of the info.
-pub fn outcome(a: DecodeAnswer, info_start: usize, info_len: usize) {
+fn outcome(a: DecodeAnswer, info_start: usize, info_len: usize) {
     answer(a);
     show::field(b"info_start", info_start as u64);
     show::field(b"info_len", info_len as u64);
@@ -87,10 +88,6 @@ fn rest(m: Mark, content: FrameContent) {
     show::kind(content);
 }
 
-pub fn end_line() {
-    show::text(b"\n");
-}
-
 // Every field.
 pub fn fields(frame: Ax25Frame, unused: bool) {
     let destination = frame.destination;
@@ -101,4 +98,13 @@ pub fn fields(frame: Ax25Frame, unused: bool) {
     let m = frame.command_or_response;
     let content = frame.content;
     rest(m, content);
+}
+
+// What reading gave, as one line. The frame of a refusal is the default one.
+pub fn line(d: Decoded) {
+    let answer = d.answer;
+    outcome(answer, d.info_start, d.info_len);
+    let frame = d.frame;
+    fields(frame, false);
+    show::text(b"\n");
 }

@@ -1,6 +1,8 @@
 // A frame written into rooms of several sizes: guard octets EE show what stays.
 use super::cutting::first;
+use super::cutting::part;
 use frame::Ax25Frame;
+use frame::Decoded;
 use frame::Written;
 
 // Shown: number, length, and the lent octets with the three behind them.
@@ -60,4 +62,14 @@ pub fn rooms(frame: Ax25Frame, info: &[u8]) {
     }
     room(frame, info, shorter(n));
     room(frame, info, longer(n));
+}
+
+// An accepted frame with its info, which lies in the input.
+pub fn again(d: Decoded, input: &[u8]) {
+    let answer = d.answer;
+    if answer.number() > 0 {
+        return;
+    }
+    let frame = d.frame;
+    rooms(frame, part(input, d.info_start, d.info_len));
 }
