@@ -8,7 +8,7 @@ mod routes; // routes.rt: the hops of routes, and equal stations
 // How the expected lines were made.
 fn heading() {
     show::text(
-        b"Frames read and written again: expected lines from the unchanged Rust. From document 01's rules, not from the Rust:\nnumbers 9 and 21 to 24, info's place, untouched octets, records the Rust can't hold, hops and equal stations.\n",
+        b"Frames read and written again: expected lines from the unchanged Rust. From document 01's rules, not from the Rust:\nnumbers 9 and 21 to 24, info's place, a refusal's frame, unused places, untouched octets, records the Rust can't hold, hops and equal stations.\n",
     );
 }
 
