@@ -1,9 +1,6 @@
 // Frames read, written again, written from records that reading never gives, and the hops of routes. The stored output comes
 // from the unchanged Rust; what the Rust has no counterpart for comes from document 01's rules, as the first lines say.
-mod cutting; // cutting.rt: a list of cases, cut into lines and parts
-mod frames; // frames.rt: a frame and its fields as text
 mod reading; // reading.rt: octets read
-mod rooms; // rooms.rt: a frame written into rooms of several sizes
 mod records; // records.rt: records that reading never gives
 mod spans; // spans.rt: address fields of many lengths
 mod routes; // routes.rt: the hops of routes, and equal stations
@@ -11,7 +8,7 @@ mod routes; // routes.rt: the hops of routes, and equal stations
 // How the expected lines were made.
 fn heading() {
     show::text(
-        b"Frames read and written again: expected lines from the unchanged Rust. From document 01's rules, not from the Rust:\nnumbers 9 and 21 to 24, info's place, untouched octets, records the Rust can't hold, hops and equal stations.\n",
+        b"Frames read and written again: expected lines from the unchanged Rust. From document 01's rules, not from the Rust:\nnumbers 9 and 21 to 24, info's place, a refusal's frame, unused places, untouched octets, records the Rust can't hold, hops and equal stations.\n",
     );
 }
 

@@ -1,41 +1,15 @@
 // Octets read, and what was accepted written again.
-use super::cutting::first;
-use super::cutting::place;
-use super::frames;
-use super::rooms::rooms;
 use frame::Ax25Frame;
-use frame::Decoded;
-
-// The frame with the info that lies in the input.
-fn again(frame: Ax25Frame, input: &[u8], start: usize, len: usize) {
-    if input.len() < start {
-        return;
-    }
-    if input.len() - start < len {
-        return;
-    }
-    let end = start + len;
-    rooms(frame, &input[start..end]);
-}
-
-// The frame's fields, and the lines of its rooms.
-fn accepted(d: Decoded, input: &[u8]) {
-    let frame = d.frame;
-    frames::fields(frame);
-    show::text(b"\n");
-    again(frame, input, d.info_start, d.info_len);
-}
+use show_frame::cutting::first;
+use show_frame::cutting::place;
+use show_frame::frames;
+use show_frame::rooms;
 
 // One line, and three more where the input is accepted.
 pub fn read(input: &[u8]) {
     let d = Ax25Frame::from_bytes(input);
-    let answer = d.answer;
-    frames::outcome(answer, d.info_start, d.info_len);
-    if answer.number() > 0 {
-        show::text(b"\n");
-        return;
-    }
-    accepted(d, input);
+    frames::line(d);
+    rooms::again(d, input);
 }
 
 // The case's octets behind those in front.
@@ -95,20 +69,7 @@ fn contents() {
     );
 }
 
-fn whole(d: Decoded) {
-    let frame = d.frame;
-    frames::whole(frame);
-    show::text(b"\n");
-}
-
-// The default frame, unused places and all.
-fn refused_frame() {
-    show::text(b"The frame of a refusal:");
-    whole(Ax25Frame::from_bytes(b""));
-}
-
 pub fn all() {
-    refused_frame();
     whole_inputs();
     contents();
 }

@@ -1,6 +1,4 @@
 // Records that reading never gives, written.
-use super::frames;
-use super::rooms::rooms;
 use address::Address;
 use content::CommandResponse;
 use content::FrameContent;
@@ -12,14 +10,20 @@ use frame::Ax25Frame;
 use frame::Mark;
 use frame::RouteEntry;
 use protocol::ProtocolIdentifier;
+use show_frame::frames;
+use show_frame::rooms::rooms;
+
+fn info_line(info: &[u8]) {
+    show::text(b" info");
+    show::octets(info);
+    show::text(b"\n");
+}
 
 // Every field, the info, and the lines of its rooms.
 fn record(frame: Ax25Frame, info: &[u8]) {
     show::text(b"record");
-    frames::whole(frame);
-    show::text(b" info");
-    show::octets(info);
-    show::text(b"\n");
+    frames::fields(frame, true);
+    info_line(info);
     rooms(frame, info);
 }
 
@@ -37,14 +41,8 @@ fn station() -> Address {
     }
 }
 
-// The given repeater in place 1, where the unused ones stand in the others.
-fn built(repeater: Address, count: usize, mark: Mark, content: FrameContent) -> Ax25Frame {
-    let unused = RouteEntry::default();
-    let mut route = [unused; 8];
-    route[1] = RouteEntry {
-        repeater,
-        has_repeated: true,
-    };
+// From BOX12-3 to GAUGE.
+pub fn built(route: [RouteEntry; 8], count: usize, mark: Mark, content: FrameContent) -> Ax25Frame {
     Ax25Frame {
         source: station(),
         destination: gauge(),
@@ -55,7 +53,26 @@ fn built(repeater: Address, count: usize, mark: Mark, content: FrameContent) -> 
     }
 }
 
-fn ui() -> FrameContent {
+// The given repeater in place 1, where the unused ones stand in the others.
+fn route(repeater: Address) -> [RouteEntry; 8] {
+    let unused = RouteEntry::default();
+    let marked = RouteEntry {
+        repeater,
+        has_repeated: true,
+    };
+    [
+        unused,
+        marked,
+        unused,
+        unused,
+        unused,
+        unused,
+        unused,
+        unused,
+    ]
+}
+
+pub fn ui() -> FrameContent {
     FrameContent::UnnumberedInformation(UnnumberedInformation {
         pid: ProtocolIdentifier::None,
         poll_or_final: false,
@@ -93,7 +110,7 @@ fn frmr(receive_sequence: u8, send_sequence: u8) -> FrameContent {
 }
 
 fn given(repeater: Address, count: usize, mark: Mark, content: FrameContent, info: &[u8]) {
-    record(built(repeater, count, mark, content), info);
+    record(built(route(repeater), count, mark, content), info);
 }
 
 fn simple_ui(source: Address, destination: Address, info: &[u8]) {

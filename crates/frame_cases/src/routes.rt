@@ -1,7 +1,7 @@
 // The hops of routes, and equal stations.
+use super::records::built;
+use super::records::ui;
 use address::Address;
-use content::Disconnect;
-use content::FrameContent;
 use frame::Ax25Frame;
 use frame::Mark;
 use frame::RouteEntry;
@@ -28,14 +28,7 @@ fn route(marks: u8) -> [RouteEntry; 8] {
 }
 
 fn frame(marks: u8, count: usize) -> Ax25Frame {
-    Ax25Frame {
-        source: Address::default(),
-        destination: Address::default(),
-        route: route(marks),
-        route_count: count,
-        command_or_response: Mark::Command,
-        content: FrameContent::Disconnect(Disconnect { poll: false }),
-    }
+    built(route(marks), count, Mark::Command, ui())
 }
 
 fn set(marks: u8, count: usize) -> u8 {

@@ -1,6 +1,6 @@
 // Address fields of many lengths, cut from one field of twelve stations.
-use super::cutting::first;
 use super::reading::read;
+use show_frame::cutting::first;
 
 // The low bit set in the last of the first n octets.
 fn set_end(out: &mut [u8], n: usize) {
@@ -48,14 +48,11 @@ fn with_and_without(nulls: usize, part: &[u8]) {
     cut(nulls, part, b"");
 }
 
-fn behind_nulls(part: &[u8]) {
+fn behind_nulls(field: &[u8], span: usize) {
+    let part = first(field, span);
     with_and_without(0, part);
     with_and_without(1, part);
     with_and_without(3, part);
-}
-
-fn span(field: &[u8], span: usize) {
-    behind_nulls(first(field, span));
 }
 
 fn spans(field: &[u8]) {
@@ -81,7 +78,7 @@ fn spans(field: &[u8]) {
     ];
     let mut i = 0;
     while i < 18 {
-        span(field, lengths[i]);
+        behind_nulls(field, lengths[i]);
         i += 1;
     }
 }

@@ -13,14 +13,14 @@ abbrev μ-loop : tie.MeasureT-loop
 loop-holds : tie.Need-loop-holds Inv-loop μ-loop
 loop-holds c = search needs
 
-mul-span : tie.Need-mul-span Inv-loop μ-loop
-mul-span c = search needs
+mul-behind-nulls : tie.Need-mul-behind-nulls Inv-loop μ-loop
+mul-behind-nulls c = search needs
 
-array-read-span : tie.Need-array-read-span Inv-loop μ-loop
-array-read-span c = search needs
+array-read-behind-nulls : tie.Need-array-read-behind-nulls Inv-loop μ-loop
+array-read-behind-nulls c = search needs
 
-span-requires : tie.Need-span-requires Inv-loop μ-loop
-span-requires c κs = search needs
+behind-nulls-requires : tie.Need-behind-nulls-requires Inv-loop μ-loop
+behind-nulls-requires c κs = search needs
 
 add-i : tie.Need-add-i Inv-loop μ-loop
 add-i c = search needs
@@ -41,9 +41,9 @@ spans-spec =
     Inv-loop
     μ-loop
     loop-holds
-    mul-span
-    array-read-span
-    span-requires
+    mul-behind-nulls
+    array-read-behind-nulls
+    behind-nulls-requires
     add-i
     loop-less
     loop-again

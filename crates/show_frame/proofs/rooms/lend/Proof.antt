@@ -2,8 +2,8 @@
 use mathlib.Core.Path.{sym}
 use lib.Seq.{length-take-le}
 use borrow.Author.Needs.{needs}
-use Rattle.frame_cases.proofs.rooms.lend.Statement.{statement}
-use Rattle.frame_cases.proofs.rooms.lend.Tie as tie
+use Rattle.show_frame.proofs.rooms.lend.Statement.{statement}
+use Rattle.show_frame.proofs.rooms.lend.Tie as tie
 
 to-bytes-requires : tie.Need-to-bytes-requires
 to-bytes-requires c κs = search needs

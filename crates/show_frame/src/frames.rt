@@ -1,6 +1,9 @@
 // A frame and its fields as text.
+use address::Address;
+use content::FrameContent;
 use frame::Ax25Frame;
 use frame::DecodeAnswer;
+use frame::Decoded;
 use frame::Mark;
 use frame::RouteEntry;
 
@@ -28,7 +31,7 @@ fn answer(a: DecodeAnswer) {
 }
 
 // The number, its details and the place of the info.
-pub fn outcome(a: DecodeAnswer, info_start: usize, info_len: usize) {
+fn outcome(a: DecodeAnswer, info_start: usize, info_len: usize) {
     answer(a);
     show::field(b"info_start", info_start as u64);
     show::field(b"info_len", info_len as u64);
@@ -61,38 +64,47 @@ fn places(route: [RouteEntry; 8]) {
     }
 }
 
-fn ends(frame: Ax25Frame) {
-    let destination = frame.destination;
+fn ends(destination: Address, source: Address) {
     show::text(b" to ");
     show::station(destination);
-    let source = frame.source;
     show::text(b" from ");
     show::station(source);
 }
 
-fn rest(frame: Ax25Frame) {
-    let m = frame.command_or_response;
+fn counted(count: usize) {
+    show::field(b"count", count as u64);
+}
+
+// The places where one is in use, or where the unused ones are wanted.
+fn way(route: [RouteEntry; 8], count: usize, unused: bool) {
+    counted(count);
+    if (count > 0) | unused {
+        places(route);
+    }
+}
+
+fn rest(m: Mark, content: FrameContent) {
     mark(m);
-    let content = frame.content;
     show::kind(content);
 }
 
-// Every field, the unused places too.
-pub fn whole(frame: Ax25Frame) {
-    ends(frame);
-    show::field(b"count", frame.route_count as u64);
+// Every field.
+pub fn fields(frame: Ax25Frame, unused: bool) {
+    let destination = frame.destination;
+    let source = frame.source;
+    ends(destination, source);
     let route = frame.route;
-    places(route);
-    rest(frame);
+    way(route, frame.route_count, unused);
+    let m = frame.command_or_response;
+    let content = frame.content;
+    rest(m, content);
 }
 
-// Every field; no places where the route is empty.
-pub fn fields(frame: Ax25Frame) {
-    if frame.route_count > 0 {
-        whole(frame);
-        return;
-    }
-    ends(frame);
-    show::field(b"count", 0);
-    rest(frame);
+// What reading gave, as one line. The frame of a refusal is the default one.
+pub fn line(d: Decoded) {
+    let answer = d.answer;
+    outcome(answer, d.info_start, d.info_len);
+    let frame = d.frame;
+    fields(frame, false);
+    show::text(b"\n");
 }

@@ -2,8 +2,8 @@
 use Prim.Native.Nat.{_-_, _≤_}
 use lib.ListN.{length}
 use borrow.Author.Needs.{needs}
-use Rattle.frame_cases.proofs.cutting.place.Statement.{statement}
-use Rattle.frame_cases.proofs.cutting.place.Tie as tie
+use Rattle.show_frame.proofs.cutting.place.Statement.{statement}
+use Rattle.show_frame.proofs.cutting.place.Tie as tie
 
 abbrev Inv-loop : tie.InvT-loop
 Inv-loop s octet i₀ i = i ≤ length s

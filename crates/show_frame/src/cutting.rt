@@ -1,4 +1,4 @@
-// A list of cases, cut into lines and parts.
+// Parts of octets.
 ghost use Prim.Native.Nat.{_≤_};
 ghost use lib.ListN.{length};
 
@@ -8,6 +8,18 @@ pub fn first(s: &[u8], n: usize) -> &[u8] {
         return s;
     }
     &s[..n]
+}
+
+// A part of the octets; all where it does not lie in them.
+pub fn part(s: &[u8], start: usize, len: usize) -> &[u8] {
+    if s.len() < start {
+        return s;
+    }
+    if s.len() - start < len {
+        return s;
+    }
+    let end = start + len;
+    &s[start..end]
 }
 
 // The place of the first such octet, or the length.

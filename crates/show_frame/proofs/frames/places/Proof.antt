@@ -1,8 +1,8 @@
 -- `places` goes over the eight places one by one.
 use Prim.Native.Nat.{_-_, _≤_}
 use borrow.Author.Needs.{needs}
-use Rattle.frame_cases.proofs.frames.places.Statement.{statement}
-use Rattle.frame_cases.proofs.frames.places.Tie as tie
+use Rattle.show_frame.proofs.frames.places.Statement.{statement}
+use Rattle.show_frame.proofs.frames.places.Tie as tie
 
 abbrev Inv-loop : tie.InvT-loop
 Inv-loop route i₀ i = i ≤ 8
