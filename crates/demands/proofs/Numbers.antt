@@ -1,20 +1,26 @@
 -- Demand 1, proved: each number is given exactly when its row is the first of its table that holds; nothing decodes to
 -- `UnknownContent`.
 use Prim.Native.Nat.{ℕ}
-use mathlib.Core.Path.{_≡_, _∙_}
-use mathlib.Core.Bool.{true}
-use mathlib.Core.List.{List}
+use mathlib.Core.Path.{_≡_, refl, ap, _∙_}
+use mathlib.Core.Bool.{true, false}
+use mathlib.Core.List.{List, []}
 use mathlib.Core.Logic.{_↔_}
+use lib.ListN.{length}
+use Rattle.octets.specs.Splice.{splice}
+use Rattle.octets.proofs.Splice.{splice-none}
 use Rattle.address.specs.Text.{addressNumberOf, printNumberOf, readParts, readText, printed}
 use Rattle.address.specs.declared.Address.{Address}
 use Rattle.address.proofs.TextLaws.{text-numbers, parts-numbers, print-numbers, text-rows, parts-rows, print-rows}
 use Rattle.content.specs.declared.FrameContent.the-variants.{UnknownContent}
-use Rattle.frame.specs.Frame.{numberOf, writeNumber, isAccepted}
+use Rattle.frame.specs.Frame.{numberOf, reportOf, writeNumber, isAccepted, defaultFrame}
+use Rattle.frame.specs.Numbers.{reported}
 use Rattle.frame.specs.Read.{decode}
-use Rattle.frame.specs.Write.{writeAnswer}
+use Rattle.frame.specs.Write.{writeAnswer, octetsWritten, written}
+use Rattle.frame.specs.declared.Written.{Written}
 use Rattle.frame.specs.declared.Ax25Frame.{Ax25Frame}
-use Rattle.grammar.proofs.Numbers.{decode-rows, write-rows}
-use Rattle.grammar.proofs.Refused.{decoded-known}
+use Rattle.grammar.proofs.Numbers.{decode-report, decode-rows, write-rows}
+use Rattle.grammar.proofs.Refused.{refused-parts, refused-octets, decoded-known}
+use Rattle.grammar.proofs.Respell.{written-is}
 use Rattle.demands.specs.Table.{Table, given, FirstRow}
 use Rattle.demands.specs.Numbers.{decodeTable, writeTable, printTable, partsTable, textTable}
 use Rattle.demands.proofs.Table.{exactly}
@@ -42,6 +48,22 @@ parts c ssid n = by-table _ (partsTable c ssid) (parts-numbers c ssid ∙ parts-
 pub text : (t : List ℕ) (n : ℕ) → (addressNumberOf (readText t .answer) ≡ n) ↔ FirstRow (textTable t) n
 unfolding given
 text t n = by-table _ (textTable t) (text-numbers t ∙ text-rows t) n
+
+-- the details that decoding's numbers give
+pub details : (s : List ℕ) → reportOf (decode s .answer) ≡ reported s
+details s = decode-report s
+
+-- a refused decode is the default frame, with no info
+pub refused-decode : (s : List ℕ) → isAccepted (decode s .answer) ≡ false
+    → (decode s .frame ≡ defaultFrame) × (decode s .«info_start» ≡ 0) × (decode s .«info_len» ≡ 0)
+refused-decode s e = refused-parts s e
+
+-- a refused write has length 0, and what it leaves in a buffer is what was there
+pub refused-write : (f : Ax25Frame) (info : List ℕ) (room : ℕ) → (writeNumber (writeAnswer f info room) ≡ 0 → ⊥)
+    → (written f info room .length ≡ 0) × ((out : List ℕ) → splice out 0 (octetsWritten f info room) ≡ out)
+refused-write f info room n =
+    let e : octetsWritten f info room ≡ [] = refused-octets f info room n in
+    (ap (λ (w : Written). w .length) (written-is f info room) ∙ rw e refl, λ out. rw e (splice-none out 0))
 
 -- no input decodes to `UnknownContent`
 pub never-unknown : (s : List ℕ) → decode s .frame .content ≡ UnknownContent → ⊥

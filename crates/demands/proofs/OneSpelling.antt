@@ -1,16 +1,23 @@
 -- Demand 3, proved.
-use Prim.Native.Nat.{ℕ, _≤_}
+use Prim.Native.Nat.{ℕ, _+_, _≤_}
 use mathlib.Core.Path.{_≡_, refl, ap, sym, _∙_}
-use mathlib.Core.Bool.{Bool, true}
-use mathlib.Core.List.{List}
+use mathlib.Core.Bool.{true}
+use mathlib.Core.List.{List, _++_}
 use mathlib.Core.Logic.{_↔_}
+use native.Mathlib.Omega.{arith}
+use lib.ListN.{length, drop}
 use Rattle.octets.specs.Octet.{Octets}
+use Rattle.octets.specs.Splice.{splice}
+use Rattle.octets.proofs.Splice.{splice-in}
+use Rattle.frame.specs.Frame.{isAccepted}
 use Rattle.frame.specs.Read.{decode, infoIn}
 use Rattle.frame.specs.Spell.{withMark}
 use Rattle.grammar.proofs.Back.{unique}
-use Rattle.spelling.specs.Canonical.{canonical}
-use Rattle.spelling.proofs.Laws.{spell-canonical, canonical-plain, again-facts, again-room}
-use Rattle.demands.specs.OneSpelling.{Spelled, OneSpelling}
+use Rattle.spelling.specs.Canonical.{again, canonical}
+use Rattle.spelling.specs.Reencode.{reencode, reencoded}
+use Rattle.spelling.specs.declared.ReencodeAnswer.the-variants.{Written}
+use Rattle.spelling.proofs.Laws.{spell-canonical, canonical-plain, again-facts, again-room, answer-is}
+use Rattle.demands.specs.OneSpelling.{Spelled, Respelled, OneSpelling}
 
 pub one-spelling : (s : List ℕ) → Octets s → OneSpelling s
 one-spelling s o = record {
@@ -24,6 +31,13 @@ one-spelling s o = record {
   written = λ e room h. again-room s room o e h;
 }
 
--- and of what the functions give: any result that the contract of `is_canonical` allows says yes exactly for a spelled input
-pub is-canonical-exact : (s : List ℕ) → Octets s → (r : Bool) → r ≡ canonical s → (r ≡ true) ↔ Spelled s
-is-canonical-exact s o r e = rw e (one-spelling s o .exact)
+-- what the re-encoder leaves in a buffer with room of the input's length
+pub respelled-into : (s out : List ℕ) → Octets s → isAccepted (decode s .answer) ≡ true → length s ≤ length out
+    → (reencode s (length out) .answer ≡ Written)
+    × (splice out 0 (reencoded s (length out)) ≡ again s ++ drop (length (again s)) out) × Respelled s (again s)
+respelled-into s out o e h =
+    let d = one-spelling s o in
+    let w = d .written e (length out) h in
+    let r = d .respelled e in
+    let z : 0 + length (again s) ≡ length (again s) = omega arith in
+    (answer-is s (length out) ∙ w .0, rw (w .1) (splice-in out 0 (again s) (omega (arith, r .shorter)) ∙ rw z refl), r)

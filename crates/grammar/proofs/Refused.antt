@@ -2,7 +2,7 @@
 use Prim.Native.Nat.{ℕ, _+_, _-_}
 use mathlib.Core.Path.{_≡_, refl, ap, sym, _∙_}
 use mathlib.Core.Bool.{Bool, true, false, true≢false, cond}
-use mathlib.Core.List.{List}
+use mathlib.Core.List.{List, []}
 use native.Mathlib.Omega.{arith}
 use lib.Dec.{eqb, ltb}
 use lib.ListN.{length, drop}
@@ -14,7 +14,11 @@ use Rattle.content.specs.declared.UnnumberedInformation.{UnnumberedInformation}
 use Rattle.content.specs.declared.ContentAnswer.{ContentAnswer}
 use Rattle.content.specs.declared.ContentAnswer.the-variants as content
 use Rattle.content.proofs.Laws.{never-unknown}
-use Rattle.frame.specs.Frame.{isAccepted, simpleUi, defaultFrame}
+use Rattle.frame.specs.Frame.{isAccepted, writeNumber, simpleUi, defaultFrame}
+use Rattle.frame.specs.Spell.{spell}
+use Rattle.frame.specs.Write.{writeAnswer, octetsBy, octetsWritten}
+use Rattle.frame.specs.declared.WriteAnswer.{WriteAnswer}
+use Rattle.frame.specs.declared.WriteAnswer.the-variants as write
 use Rattle.frame.specs.Read.{startOf, endOf, repeatersOf, frameAt, refusedWith, acceptedWith, withContent, decodeField, decode}
 use Rattle.frame.specs.declared.Ax25Frame.{Ax25Frame}
 use Rattle.frame.specs.declared.Decoded.{Decoded}
@@ -47,9 +51,12 @@ refused-is s =
     (λ _. either Bare (ltb 8 (repeatersOf (startOf s) (endOf s))) (λ _. bare _)
     (λ _. bare-content s _ _ _ (contentOf (drop (endOf s + 1) s)))))))
 
-pub refused-frame : (s : List ℕ) → isAccepted (decode s .answer) ≡ false → decode s .frame ≡ defaultFrame
+pub refused-parts : (s : List ℕ) → isAccepted (decode s .answer) ≡ false
+    → (decode s .frame ≡ defaultFrame) × (decode s .«info_start» ≡ 0) × (decode s .«info_len» ≡ 0)
 unfolding refusedWith
-refused-frame s e = ap (λ (d : Decoded). d .frame) (refused-is s e)
+refused-parts s e =
+    let r = refused-is s e in
+    (ap (λ (d : Decoded). d .frame) r, ap (λ (d : Decoded). d .«info_start») r, ap (λ (d : Decoded). d .«info_len») r)
 
 made-kind : (s : List ℕ) (a : Accepts s (decode s)) → decode s .frame .content ≡ a .kind
 unfolding acceptedWith frameAt
@@ -64,4 +71,16 @@ pub decoded-known : (s : List ℕ) → decode s .frame .content ≡ kind.Unknown
 decoded-known s u =
     by (isAccepted (decode s .answer))
     (λ e. let a = accepts s e in never-unknown (drop (endOf s + 1) s) (a .read ∙ ap content.Accepted (sym (made-kind s a) ∙ u)))
-    (λ e. default-known (sym (ap (λ (f : Ax25Frame). f .content) (refused-frame s e)) ∙ u))
+    (λ e. default-known (sym (ap (λ (f : Ax25Frame). f .content) (refused-parts s e .0)) ∙ u))
+
+-- a refused write writes nothing
+nothing : (a : WriteAnswer) (s : List ℕ) → (writeNumber a ≡ 0 → ⊥) → octetsBy a s ≡ []
+nothing write.Accepted s n = absurd (n refl)
+nothing write.RouteTooLong s n = refl
+nothing write.NotEncodable s n = refl
+nothing write.InfoNotAllowed s n = refl
+nothing write.NoRoom s n = refl
+
+pub refused-octets : (f : Ax25Frame) (info : List ℕ) (room : ℕ) → (writeNumber (writeAnswer f info room) ≡ 0 → ⊥) → octetsWritten f info room ≡ []
+unfolding octetsWritten
+refused-octets f info room n = nothing (writeAnswer f info room) (spell f info) n

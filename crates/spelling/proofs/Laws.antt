@@ -119,3 +119,7 @@ unfolding reencodeAnswer reencoded again
 again-room s room o e h =
     let fits : ltb room (length (due s)) ≡ false = le-ltb room (length (due s)) (omega (arith, due-fits s o e)) in
     (simp (e, fits), simp fits (due-accepted s e))
+
+pub answer-is : (s : List ℕ) (room : ℕ) → reencode s room .answer ≡ reencodeAnswer s room
+unfolding reencode
+answer-is s room = refl
