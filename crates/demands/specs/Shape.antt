@@ -17,7 +17,7 @@ pub record Shape (f : Ax25Frame) (info : List ℕ) : Type 0 where
   pub even : (k : ℕ) → k < 13 + 7 * f .«route_count» → bit 0 (getD (spell f info) k 0) ≡ false
   pub last : bit 0 (getD (spell f info) (13 + 7 * f .«route_count») 0) ≡ true
   -- exactly one of the first two marks is set
-  pub marks : markOf (groupAt (spell f info) 0) ≡ not (markOf (groupAt (spell f info) 7))
+  pub marks : markOf (groupAt (spell f info) 7) ≡ not (markOf (groupAt (spell f info) 0))
   -- reserved bits are ones
   pub ones : (j : ℕ) → j < f .«route_count» + 2 → reserved (groupAt (spell f info) (7 * j)) ≡ true
   -- the layer 3 class appears as 10 hex only

@@ -27,6 +27,8 @@ use Rattle.frame.specs.Write.{routeEncodable, frameEncodable, writeAnswe
 use Rattle.frame.specs.declared.WriteAnswer.{WriteAnswer}
 use Rattle.frame.specs.declared.WriteAnswer.the-variants.{Accepted, RouteTooLong, NotEncodable, InfoNotAllowed, NoRoom}
 use Rattle.frame.proofs.WriteAnswer.{the-type}
+use Rattle.frame.specs.declared.Mark.{Mark}
+use Rattle.frame.specs.declared.Mark.the-variants.{Command, Response, Absent}
 use Rattle.frame.specs.declared.RouteEntry.{RouteEntry}
 use Rattle.frame.specs.declared.Ax25Frame.{Ax25Frame}
 
@@ -77,6 +79,12 @@ pub spell-length : (f : Ax25Frame) (info : List ℕ)
     → length (spell f info) ≡ 14 + 7 * f .«route_count» + length (front (f .content)) + length info
 unfolding spell
 spell-length f info = simp (length-append, field-length) (omega arith)
+
+-- exactly one of the two marks is set
+pub marks-differ : (m : Mark) → sourceMark m ≡ not (destinationMark m)
+marks-differ Command = refl
+marks-differ Response = refl
+marks-differ Absent = refl
 
 -- destination, source and route, written one after the other
 pub field-put : (l : List ℕ) (f : Ax25Frame) → 14 + 7 * f .«route_count» ≤ length l

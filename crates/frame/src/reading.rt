@@ -14,7 +14,7 @@ ghost use mathlib.Core.Bool.{true};
 ghost use Prim.Native.Nat.{_+_, _*_, _≤_, _<_};
 ghost use lib.ListN.{length, drop};
 ghost use Rattle.content.specs.Content.{contentOf, hasInfo};
-ghost use Rattle.frame.specs.Read.{groupAt, parsedAt, entryAt, routeAt, commandOf, frameAt, refusedWith, acceptedWith, refusalOf, withContent, decodeField, decode};
+ghost use Rattle.frame.specs.Read.{groupAt, parsedAt, routeAt, commandOf, frameAt, refusedWith, acceptedWith, refusalOf, withContent, decodeField, decode};
 
 // The seven octets from `at` on.
 fn group_at(bytes: &[u8], at: usize) -> [u8; 7]
@@ -40,18 +40,6 @@ fn parse_group(bytes: &[u8], at: usize) -> ParsedAddress
     address::group::parse_address(group)
 }
 
-fn parse_entry(bytes: &[u8], at: usize) -> RouteEntry
-    requires { ⌜ at + 7 ≤ length (now bytes) ⌝ }
-    ensures { λ r. ⌜ r ≡ entryAt (now (bytes .entry)) at ⌝ }
-{
-    let parsed = parse_group(bytes, at);
-    let repeater = parsed.address;
-    RouteEntry {
-        repeater,
-        has_repeated: parsed.high_bit,
-    }
-}
-
 fn parse_route(bytes: &[u8], at: usize, count: usize) -> [RouteEntry; 8]
     requires { ⌜ (count ≤ 8) × (at + 7 * count ≤ length (now bytes)) ⌝ }
     ensures { λ r. ⌜ r ≡ routeAt (now (bytes .entry)) at count ⌝ }
@@ -60,8 +48,13 @@ fn parse_route(bytes: &[u8], at: usize, count: usize) -> [RouteEntry; 8]
     let mut route = [unused; 8];
     let mut i = 0;
     while i < count {
-        let entry = parse_entry(bytes, at + 7 * i);
-        route[i] = entry;
+        let parsed = parse_group(bytes, at + 7 * i);
+        let repeater = parsed.address;
+        let has_repeated = parsed.high_bit;
+        route[i] = RouteEntry {
+            repeater,
+            has_repeated,
+        };
         i += 1;
     }
     route

@@ -13,9 +13,10 @@ ghost use lib.ListN.{length};
 ghost use Rattle.octets.specs.Splice.{splice};
 ghost use Rattle.address.specs.Address.{encodable};
 ghost use Rattle.address.specs.Group.{groupOf};
-ghost use Rattle.frame.specs.Spell.{groupsOf, destinationMark, sourceMark, addressField, spell};
+ghost use Rattle.frame.specs.Spell.{groupsOf, destinationMark, addressField, spell};
 ghost use Rattle.frame.specs.Write.{routeEncodable, frameEncodable, writeAnswer, Taken, octetsWritten, written};
 
+// The mark of the destination; that of the source is the other.
 fn destination_mark(mark: Mark) -> bool
     ensures { λ r. ⌜ r ≡ destinationMark mark ⌝ }
 {
@@ -23,16 +24,6 @@ fn destination_mark(mark: Mark) -> bool
         Mark::Command => true,
         Mark::Response => false,
         Mark::Absent => true,
-    }
-}
-
-fn source_mark(mark: Mark) -> bool
-    ensures { λ r. ⌜ r ≡ sourceMark mark ⌝ }
-{
-    match mark {
-        Mark::Command => false,
-        Mark::Response => true,
-        Mark::Absent => false,
     }
 }
 
@@ -132,8 +123,9 @@ fn put_addresses(out: &mut [u8], frame: Ax25Frame)
     let destination = frame.destination;
     let source = frame.source;
     let route = frame.route;
-    put_group(out, 0, destination, destination_mark(mark), false);
-    put_group(out, 7, source, source_mark(mark), count == 0);
+    let to = destination_mark(mark);
+    put_group(out, 0, destination, to, false);
+    put_group(out, 7, source, !to, count == 0);
     put_route(out, 14, route, count);
 }
 

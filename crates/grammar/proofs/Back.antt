@@ -27,7 +27,7 @@ use Rattle.frame.specs.declared.RouteEntry.{RouteEntry}
 use Rattle.frame.specs.declared.Ax25Frame.{Ax25Frame}
 use Rattle.frame.specs.declared.Decoded.{Decoded}
 use Rattle.grammar.proofs.Ends.{end-past, end-route, start-here}
-use Rattle.frame.proofs.Write.{groups-length, field-length, spell-length}
+use Rattle.frame.proofs.Write.{groups-length, spell-length, marks-differ}
 
 -- to read further on is to read what is left when the front is dropped
 parsed-drop : (s : List ℕ) (n at : ℕ) → parsedAt s (n + at) ≡ parsedAt (drop n s) at
@@ -168,11 +168,6 @@ unique f g i j p q e =
     (sym (frame-spell f i p) ∙ ap (λ (d : Decoded). d .frame) a ∙ frame-spell g j q, sym (info-spell f i p) ∙ b ∙ info-spell g j q)
 
 -- exactly one of the first two marks is set
-pub spelled-marks : (f : Ax25Frame) (i : List ℕ) (p : Plain f i) → markOf (groupAt (spell f i) 0) ≡ not (markOf (groupAt (spell f i) 7))
+pub spelled-marks : (f : Ax25Frame) (i : List ℕ) (p : Plain f i) → markOf (groupAt (spell f i) 7) ≡ not (markOf (groupAt (spell f i) 0))
 spelled-marks f i p =
-    rw (after-dest f i p, in-order f i p, group-front, group-front (f .source) _ _ _, mark-written, mark-written) (opposite (f .«command_or_response»))
-  where
-    opposite : (m : Mark) → destinationMark m ≡ not (sourceMark m)
-    opposite Command = refl
-    opposite Response = refl
-    opposite Absent = refl
+    rw (after-dest f i p, in-order f i p, group-front, group-front (f .destination) _ _ _, mark-written, mark-written) (marks-differ (f .«command_or_response»))

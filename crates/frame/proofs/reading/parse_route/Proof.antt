@@ -2,7 +2,7 @@
 use Prim.Native.Nat.{ℕ, _+_, _-_, _≤_}
 use mathlib.Core.Path.{_≡_, _∙_}
 use native.Mathlib.Omega.{arith}
-use Rattle.frame.specs.Read.{routeAt, placeAt}
+use Rattle.frame.specs.Read.{entryAt, routeAt, placeAt}
 use Rattle.frame.proofs.Read.{route-next}
 use borrow.Author.Needs.{needs}
 use Rattle.frame.proofs.reading.parse_route.Statement.{statement}
@@ -21,14 +21,14 @@ loop-holds : tie.Need-loop-holds Inv-loop μ-loop
 unfolding routeAt placeAt
 loop-holds c = (omega arith, simp (c .default .ensures))
 
-mul-parse-entry : tie.Need-mul-parse-entry Inv-loop μ-loop
-mul-parse-entry c = search needs
+mul-parse-group : tie.Need-mul-parse-group Inv-loop μ-loop
+mul-parse-group c = search needs
 
-add-parse-entry : tie.Need-add-parse-entry Inv-loop μ-loop
-add-parse-entry c = search needs
+add-parse-group : tie.Need-add-parse-group Inv-loop μ-loop
+add-parse-group c = search needs
 
-parse-entry-requires : tie.Need-parse-entry-requires Inv-loop μ-loop
-parse-entry-requires c κs = search needs
+parse-group-requires : tie.Need-parse-group-requires Inv-loop μ-loop
+parse-group-requires c κs = search needs
 
 mul-route : tie.Need-mul-route Inv-loop μ-loop
 mul-route c = search needs
@@ -43,10 +43,11 @@ loop-less : tie.Need-loop-less Inv-loop μ-loop
 loop-less c = search needs
 
 loop-again : tie.Need-loop-again Inv-loop μ-loop
+unfolding entryAt
 loop-again c =
-    let a = c .before .before .before .before .before .args in
-    let l = c .before .before .loop in
-    (search needs, simp (c .parse-entry .ensures, l .inv .1) (route-next (a .bytes .now) (a .at) (l .i) (omega arith)))
+    let a = c .before .before .before .before .before .before .args in
+    let l = c .before .before .before .loop in
+    (search needs, simp (c .before .parse-group .ensures, l .inv .1) (route-next (a .bytes .now) (a .at) (l .i) (omega arith)))
 
 returns : tie.Need-returns Inv-loop μ-loop
 returns c =
@@ -61,9 +62,9 @@ parse-route-spec =
     μ-loop
     default-requires
     loop-holds
-    mul-parse-entry
-    add-parse-entry
-    parse-entry-requires
+    mul-parse-group
+    add-parse-group
+    parse-group-requires
     mul-route
     array-set-from-route
     add-i

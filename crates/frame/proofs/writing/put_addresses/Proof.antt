@@ -1,10 +1,9 @@
 -- Each group is written at its place, and the three parts one after the other are the address field.
-use mathlib.Core.Path.{_≡_, refl, sym, _∙_}
-use mathlib.Core.Bool.{true}
-use native.Mathlib.Omega.{arith}
+use mathlib.Core.Path.{_≡_, sym, _∙_}
+use mathlib.Core.Bool.{not}
 use Rattle.octets.proofs.Splice.{splice-length}
-use Rattle.address.specs.Address.{encodable}
-use Rattle.frame.proofs.Write.{frame-each, field-put}
+use Rattle.frame.specs.Spell.{destinationMark, sourceMark}
+use Rattle.frame.proofs.Write.{frame-each, marks-differ, field-put}
 use borrow.Author.Needs.{needs}
 use Rattle.frame.proofs.writing.put_addresses.Statement.{statement}
 use Rattle.frame.proofs.writing.put_addresses.Tie as tie
@@ -15,16 +14,13 @@ destination-mark-requires c κs = search needs
 put-group-requires : tie.Need-put-group-requires
 put-group-requires c κs = frame-each _ (c .before .before .before .before .before .before .pre .2) .0
 
-source-mark-requires : tie.Need-source-mark-requires
-source-mark-requires c κs = search needs
-
 put-group-requires-2 : tie.Need-put-group-requires-2
-put-group-requires-2 c κs = frame-each _ (c .before .before .before .before .before .before .before .before .before .before .before .pre .2) .1
+put-group-requires-2 c κs = frame-each _ (c .before .before .before .before .before .before .before .before .before .before .pre .2) .1
 
 put-route-requires : tie.Need-put-route-requires
 put-route-requires c κs =
-    let p = c .before .before .before .before .before .before .before .before .before .before .before .before .before .before .before .pre in
-    let one = c .before .before .before .before .before .before .before .before .put-group .ensures in
+    let p = c .before .before .before .before .before .before .before .before .before .before .before .before .before .before .pre in
+    let one = c .before .before .before .before .before .before .before .put-group .ensures in
     let two = c .before .before .before .put-group2 .ensures in
     (search needs, rw (two, splice-length, one, splice-length) (p .1), frame-each _ (p .2) .2)
 
@@ -35,10 +31,10 @@ returns : tie.Need-returns
 returns c =
     let r = c .before .before in
     let s = r .before .before .before .before in
-    let d = s .before .before .before .before .before in
+    let d = s .before .before .before .before in
+    let m = d .before .before .destination-mark .ensures in
     r .put-route .ensures
-    ∙ rw (s .put-group2 .ensures, s .before .source-mark .ensures, d .put-group .ensures, d .before .destination-mark .ensures)
-    (field-put _ _ (c .before .before .before .before .before .before .before .before .before .before .before .before .before .before .before .before .before .before .pre .1))
+    ∙ rw (s .put-group2 .ensures, d .put-group .ensures, m, ← marks-differ _) (field-put _ _ (c .before .before .before .before .before .before .before .before .before .before .before .before .before .before .before .before .before .pre .1))
 
 pub put-addresses-spec : {M : Type 1} → statement M
 put-addresses-spec =
@@ -46,7 +42,6 @@ put-addresses-spec =
     (tie.spec
     destination-mark-requires
     put-group-requires
-    source-mark-requires
     put-group-requires-2
     put-route-requires
     same-length
