@@ -13,10 +13,10 @@ use denote.Enum.Declared.{tagOf}
 use lib.Bits.{and-mask}
 use lib.ListN.{length, getD, set, drop}
 use lib.Seq.{drop-cons}
-use Rattle.octets.specs.Octet.{bit}
+use Rattle.octets.specs.Octet.{Octets, bit}
 use Rattle.octets.specs.First.{first}
 use Rattle.octets.proofs.Bits.{bit-test}
-use Rattle.octets.proofs.First.{first-sooner}
+use Rattle.octets.proofs.First.{first-sooner, first-same}
 use Rattle.content.proofs.ContentAnswer.{the-type}
 use Rattle.content.specs.declared.ContentAnswer.{ContentAnswer}
 use Rattle.content.specs.declared.ContentAnswer.the-variants as content
@@ -69,12 +69,12 @@ refused-content s start n control content.UnrecognisedSFieldType h = refl
 refused-content s start n control content.UnrecognisedUFieldType h = refl
 refused-content s start n control content.WrongSizeFrmrInfo h = refl
 
--- the code's tests by a mask, on octets: any bit of eight, and bit 0
-pub mask-nonzero : (b : ℕ) → b < 256 → masked 0xFF b ≡ nonzero b
-mask-nonzero b h = rw (and-mask b 8, mod-eq-of-lt h)
+-- the code's searches by a mask, on octets: any bit of eight, and bit 0
+pub start-masked : (s : List ℕ) → Octets s → first (masked 0xFF) s ≡ startOf s
+start-masked s o = first-same (masked 0xFF) nonzero s 0 (λ k h. rw (and-mask (getD s k 0) 8, mod-eq-of-lt (o k)))
 
-pub mask-low : (b : ℕ) → masked 0x01 b ≡ bit 0 b
-mask-low b = bit-test b 0
+pub end-masked : (s : List ℕ) → first (masked 0x01) s ≡ endOf s
+end-masked s = first-same (masked 0x01) (bit 0) s 0 (λ k h. bit-test (getD s k 0) 0)
 
 -- what a match on the answer tells where it is not the first case
 pub told-refused : (a : DecodeAnswer) → OneOf (1 ∷ 2 ∷ 3 ∷ 4 ∷ 5 ∷ 6 ∷ 7 ∷ 8 ∷ 9 ∷ []) (tagOf decode-type a) → isAccepted a ≡ false

@@ -4,8 +4,7 @@ use crate::DecodeAnswer;
 use crate::Decoded;
 use crate::Mark;
 use crate::RouteEntry;
-use crate::search::find_end;
-use crate::search::find_start;
+use crate::search::find;
 use address::group::ParsedAddress;
 use content::ContentAnswer;
 use content::FrameContent;
@@ -14,14 +13,14 @@ ghost use mathlib.Core.Bool.{true};
 ghost use Prim.Native.Nat.{_+_, _*_, _≤_, _<_};
 ghost use lib.ListN.{length, drop};
 ghost use Rattle.content.specs.Content.{contentOf, hasInfo};
-ghost use Rattle.frame.specs.Read.{groupAt, parsedAt, routeAt, commandOf, frameAt, refusedWith, acceptedWith, refusalOf, withContent, decodeField, decode};
+ghost use Rattle.frame.specs.Read.{parsedAt, routeAt, commandOf, frameAt, refusedWith, acceptedWith, refusalOf, withContent, decodeField, decode};
 
-// The seven octets from `at` on.
-fn group_at(bytes: &[u8], at: usize) -> [u8; 7]
+// The address and the mark in the seven octets from `at` on.
+fn parse_group(bytes: &[u8], at: usize) -> ParsedAddress
     requires { ⌜ at + 7 ≤ length (now bytes) ⌝ }
-    ensures { λ r. ⌜ r ≡ groupAt (now (bytes .entry)) at ⌝ }
+    ensures { λ r. ⌜ r ≡ parsedAt (now (bytes .entry)) at ⌝ }
 {
-    [
+    let group = [
         bytes[at],
         bytes[at + 1],
         bytes[at + 2],
@@ -29,14 +28,7 @@ fn group_at(bytes: &[u8], at: usize) -> [u8; 7]
         bytes[at + 4],
         bytes[at + 5],
         bytes[at + 6],
-    ]
-}
-
-fn parse_group(bytes: &[u8], at: usize) -> ParsedAddress
-    requires { ⌜ at + 7 ≤ length (now bytes) ⌝ }
-    ensures { λ r. ⌜ r ≡ parsedAt (now (bytes .entry)) at ⌝ }
-{
-    let group = group_at(bytes, at);
+    ];
     address::group::parse_address(group)
 }
 
@@ -176,11 +168,11 @@ impl Ax25Frame {
     pub fn from_bytes(bytes: &[u8]) -> Decoded
         ensures { λ r. ⌜ r ≡ decode (now (bytes .entry)) ⌝ }
     {
-        let start = find_start(bytes);
+        let start = find(bytes, 0xFF);
         if start == bytes.len() {
             return refused(DecodeAnswer::OnlyNullBytes);
         }
-        let end = find_end(bytes);
+        let end = find(bytes, 0x01);
         if end == bytes.len() {
             return refused(DecodeAnswer::NoEndToAddressField);
         }

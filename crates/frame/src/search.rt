@@ -4,10 +4,10 @@ ghost use Prim.Native.Nat.{_≤_};
 ghost use lib.ListN.{length};
 ghost use Rattle.octets.specs.First.{first};
 ghost use Rattle.frame.specs.Search.{masked};
-ghost use Rattle.frame.specs.Read.{startOf, endOf};
 
-// The place of the first octet in which a bit of the mask is set, or the length. Every octet is looked at, not every seventh.
-fn find(bytes: &[u8], mask: u8) -> usize
+// The place of the first octet in which a bit of the mask is set, or the length: with FF hex the start, with 01 hex the end.
+// Every octet is looked at, not every seventh.
+pub fn find(bytes: &[u8], mask: u8) -> usize
     ensures { λ r. ⌜ r ≡ first (masked mask) (now (bytes .entry)) ⌝ }
     ensures { λ r. ⌜ r ≤ length (now (bytes .entry)) ⌝ }
 {
@@ -20,20 +20,4 @@ fn find(bytes: &[u8], mask: u8) -> usize
         i += 1;
     }
     i
-}
-
-// The place of the first nonzero octet, or the length.
-pub fn find_start(bytes: &[u8]) -> usize
-    ensures { λ r. ⌜ r ≡ startOf (now (bytes .entry)) ⌝ }
-    ensures { λ r. ⌜ r ≤ length (now (bytes .entry)) ⌝ }
-{
-    find(bytes, 0xFF)
-}
-
-// The place of the first octet with its low bit set, or the length.
-pub fn find_end(bytes: &[u8]) -> usize
-    ensures { λ r. ⌜ r ≡ endOf (now (bytes .entry)) ⌝ }
-    ensures { λ r. ⌜ r ≤ length (now (bytes .entry)) ⌝ }
-{
-    find(bytes, 0x01)
 }
