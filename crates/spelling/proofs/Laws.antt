@@ -28,6 +28,14 @@ use Rattle.spelling.specs.Canonical.{again, canonical}
 use Rattle.spelling.specs.Reencode.{due, reencodeAnswer, reencoded, reencode, answerBy}
 use Rattle.spelling.specs.declared.ReencodeAnswer.the-variants.{Written, Refused}
 
+-- a canonical input is what some plain frame spells
+pub canonical-plain : (s : List ℕ) → Octets s → canonical s ≡ true
+    → Plain (withMark (decode s .frame)) (infoIn s (decode s)) × (spell (withMark (decode s .frame)) (infoIn s (decode s)) ≡ s)
+unfolding canonical again
+canonical-plain s o e =
+    let h = both (isAccepted (decode s .answer)) _ e in
+    (read s o (h .0) .plain, mark-spell _ _ ∙ same-eq _ s (h .1))
+
 -- what a plain frame spells is re-encoded as itself
 again-spell : (f : Ax25Frame) (i : List ℕ) → Plain f i → again (spell f i) ≡ spell f i
 unfolding again
@@ -38,14 +46,6 @@ unfolding canonical
 spell-canonical f i p = rw (again-spell f i p, same-refl, accepted-spell f i p)
 
 module _ (s : List ℕ) (o : Octets s) where
-  -- a canonical input is what some plain frame spells
-  pub canonical-plain : canonical s ≡ true
-      → Plain (withMark (decode s .frame)) (infoIn s (decode s)) × (spell (withMark (decode s .frame)) (infoIn s (decode s)) ≡ s)
-  unfolding canonical again
-  canonical-plain e =
-      let h = both (isAccepted (decode s .answer)) _ e in
-      (read s o (h .0) .plain, mark-spell _ _ ∙ same-eq _ s (h .1))
-
   again-canonical : isAccepted (decode s .answer) ≡ true → spell (decode s .frame) (infoIn s (decode s)) ≡ s → canonical s ≡ true
   unfolding canonical again
   again-canonical a e = rw (a, e, same-refl s)
@@ -55,7 +55,7 @@ module _ (s : List ℕ) (o : Octets s) where
       → canonical s ≡ direct s (decode s .frame .«route_count») (decode s .frame .«command_or_response»)
   canonical-direct a =
       equal (canonical s) _
-      (λ e. let w = canonical-plain e in rw (w .1) at (direct-spelled _ _ (w .0)))
+      (λ e. let w = canonical-plain s o e in rw (w .1) at (direct-spelled _ _ (w .0)))
       (λ e. again-canonical a (direct-again s o (accepts s a) e))
 
 pub refused-not-canonical : (s : List ℕ) → isAccepted (decode s .answer) ≡ false → canonical s ≡ false

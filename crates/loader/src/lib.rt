@@ -1,0 +1,47 @@
+// The calls that C links. A slice is a pointer and a length there; include/ax25.h says what the caller owes.
+use frame::Ax25Frame;
+ghost use mathlib.Core.Path.{_≡_};
+ghost use mathlib.Core.Bool.{cond};
+ghost use lib.ListN.{length};
+ghost use Rattle.octets.specs.Splice.{splice};
+ghost use Rattle.frame.specs.Frame.{numberOf};
+ghost use Rattle.frame.specs.Read.{decode};
+ghost use Rattle.spelling.specs.Canonical.{canonical};
+ghost use Rattle.spelling.specs.Reencode.{due, reencode, reencoded, reencodeNumber};
+
+// The decode number.
+#[no_mangle]
+pub extern "C" fn ax25_decode(input: &[u8]) -> u32
+    ensures { λ r. ⌜ r ≡ numberOf (decode (now (input .entry)) .answer) ⌝ }
+{
+    let decoded = Ax25Frame::from_bytes(input);
+    let answer = decoded.answer;
+    answer.number()
+}
+
+// 1 where the input is canonical, else 0.
+#[no_mangle]
+pub extern "C" fn ax25_canonical(input: &[u8]) -> u32
+    ensures { λ r. ⌜ r ≡ cond (canonical (now (input .entry))) 1 0 ⌝ }
+{
+    if spelling::is_canonical(input) { 1 } else { 0 }
+}
+
+// How many octets re-encoding gives; 0 where the input is refused.
+#[no_mangle]
+pub extern "C" fn ax25_reencoded_length(input: &[u8]) -> usize
+    ensures { λ r. ⌜ r ≡ length (due (now (input .entry))) ⌝ }
+{
+    spelling::reencoded_length(input)
+}
+
+// The input re-encoded at the start of the output: the decode number, or 24, or 0. A refusal leaves the output alone.
+#[no_mangle]
+pub extern "C" fn ax25_reencode(input: &[u8], output: &mut [u8]) -> u32
+    ensures { λ r. ⌜ r ≡ reencodeNumber (reencode (now (input .entry)) (length (now (output .entry))) .answer) ⌝ }
+    ensures { λ r. ⌜ now (output .exit) ≡ splice (now (output .entry)) 0 (reencoded (now (input .entry)) (length (now (output .entry)))) ⌝ }
+{
+    let done = spelling::reencode(input, output);
+    let answer = done.answer;
+    answer.number()
+}
