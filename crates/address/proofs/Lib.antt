@@ -1,4 +1,4 @@
 pub mod Laws
 pub mod TextLaws
 mod Reading
-mod Printing
+pub mod Printing

@@ -228,7 +228,7 @@ fn are_alphanumeric(callsign: &[u8]) -> bool
 }
 
 // The ranges of digits, upper case and lower case, from below.
-fn is_alphanumeric(c: u8) -> bool
+pub fn is_alphanumeric(c: u8) -> bool
     ensures { λ r. ⌜ r ≡ alphanumeric c ⌝ }
 {
     if c < b'0' {
@@ -327,7 +327,7 @@ fn put_text(address: Address, out: &mut [u8]) -> usize
 }
 
 // How many characters stand before the spaces at the end.
-fn callsign_length(callsign: &[u8]) -> usize
+pub fn callsign_length(callsign: &[u8]) -> usize
     ensures { λ r. ⌜ r ≡ used (now (callsign .entry)) ⌝ }
 {
     let mut n: usize = 0;
@@ -341,7 +341,7 @@ fn callsign_length(callsign: &[u8]) -> usize
     n
 }
 
-fn suffix_length(ssid: u8) -> usize
+pub fn suffix_length(ssid: u8) -> usize
     ensures { λ r. ⌜ r ≡ length (ssidSuffix ssid) ⌝ }
 {
     if ssid >= 10 {
@@ -354,7 +354,7 @@ fn suffix_length(ssid: u8) -> usize
 }
 
 // A hyphen and the SSID in decimal; nothing for SSID 0.
-fn put_suffix(out: &mut [u8], at: usize, ssid: u8)
+pub fn put_suffix(out: &mut [u8], at: usize, ssid: u8)
     ensures { λ r. ⌜ now (out .exit) ≡ splice (now (out .entry)) at (ssidSuffix ssid) ⌝ }
 {
     if ssid == 0 {

@@ -111,7 +111,7 @@ impl FrameContent {
     }
 
     // The octets before the info, zeros after them.
-    fn front(self) -> [u8; 4]
+    pub fn front(self) -> [u8; 4]
         ensures { λ r. ⌜ r ≡ four (front self) ⌝ }
     {
         match self {

@@ -25,6 +25,7 @@ use Rattle.frame.specs.Spell.{repeaterAt, marked, madeCommand, withMark, spell,
 use Rattle.frame.proofs.Write.{spell-length}
 use Rattle.frame.specs.declared.Mark.{Mark}
 use Rattle.frame.specs.declared.Mark.the-variants.{Command, Response, Absent}
+use Rattle.frame.specs.declared.Ax25Frame.{Ax25Frame}
 use Rattle.frame.specs.declared.Decoded.{Decoded}
 use Rattle.grammar.proofs.Accepted.{Accepts, accepts}
 
@@ -156,3 +157,15 @@ inside s e = let a = accepts s e in subst (λ (d : Decoded). Inside s d) (sym (a
 
 pub info-length : (s : List ℕ) (d : Decoded) → Inside s d → length (infoIn s d) ≡ d .«info_len»
 info-length s d i = length-take-le (d .«info_len») (drop (d .«info_start») s) (rw length-drop (omega (arith, i .info)))
+
+-- the stations of an accepted frame are plain
+pub record Stations (f : Ax25Frame) : Type 0 where
+  pub destination : PlainAddress (f .destination)
+  pub source : PlainAddress (f .source)
+  pub repeaters : (i : ℕ) → i < f .«route_count» → PlainAddress (repeaterAt (f .route) i .repeater)
+
+pub stations : (s : List ℕ) → Octets s → isAccepted (decode s .answer) ≡ true → Stations (decode s .frame)
+unfolding withMark
+stations s o e =
+    let p = read s o e .plain in
+    record { destination = p .destination; source = p .source; repeaters = p .repeaters }

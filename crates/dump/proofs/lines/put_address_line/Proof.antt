@@ -1,0 +1,43 @@
+use Rattle.dump.specs.Ascii.{ascii}
+use Rattle.dump.proofs.Laws.{fits-one, fits-two, fits-three, put-three}
+use Rattle.dump.specs.Text.{addressText}
+use borrow.Author.Needs.{needs}
+use Rattle.dump.proofs.lines.put_address_line.Statement.{statement}
+use Rattle.dump.proofs.lines.put_address_line.Tie as tie
+
+put-requires : tie.Need-put-requires
+put-requires c κs =
+    let g = c .before .before .before .args in
+    fits-one (g .out .now) (g .at) (g .key .now) (addressText (g .address)) (ascii "\n") (c .before .before .before .pre)
+
+put-address-requires : tie.Need-put-address-requires
+put-address-requires c κs =
+    let g = c .before .before .before .before .before .before .before .args in
+    fits-two (g .out .now) (g .at) (g .key .now) (addressText (g .address)) (ascii "\n") (c .before .before .before .before .before .before .before .pre) (c .before .before .before .put .ensures)
+
+slice-aggregate-put : tie.Need-slice-aggregate-put
+slice-aggregate-put c = search needs
+
+put-requires-2 : tie.Need-put-requires-2
+put-requires-2 c κs =
+    let g = c .before .before .before .before .before .before .before .before .before .before .before .before .args in
+    fits-three (g .out .now) (g .at) (g .key .now) (addressText (g .address)) (ascii "\n") (c .before .before .before .before .before .before .before .before .before .before .before .before .pre) (c .before .before .before .before .before .before .before .before .put .ensures) (c .before .before .before .before .put-address .ensures)
+
+same-length : tie.Need-same-length
+same-length c = search needs
+
+returns : tie.Need-returns
+returns c =
+    let g = c .before .before .before .before .before .before .before .before .before .before .before .before .before .before .before .args in
+    put-three (g .out .now) (g .at) (g .key .now) (addressText (g .address)) (ascii "\n") (c .before .before .before .before .before .before .before .before .before .before .before .before .before .before .before .pre) (c .before .before .before .before .before .before .before .before .before .before .before .put .ensures) (c .before .before .before .before .before .before .before .put-address .ensures) (c .before .before .put2 .ensures)
+
+pub put-address-line-spec : {M : Type 1} → statement M
+put-address-line-spec =
+    tie.close
+    (tie.spec
+    put-requires
+    put-address-requires
+    slice-aggregate-put
+    put-requires-2
+    same-length
+    returns)

@@ -1,0 +1,60 @@
+use mathlib.Core.Path.{_≡_, refl}
+use mathlib.Core.Bool.{Bool, true, false}
+use Rattle.frame.specs.Frame.{isAccepted}
+use Rattle.frame.specs.declared.Decoded.{Decoded}
+use Rattle.frame.proofs.Read.{told-refused}
+use Rattle.dump.specs.Dump.{frameText, refusalText, decodedText}
+use borrow.Author.Needs.{needs}
+use Rattle.dump.proofs.put_decoded.Statement.{statement}
+use Rattle.dump.proofs.put_decoded.Tie as tie
+
+refused : (d : Decoded) (c : Bool) → isAccepted (d .answer) ≡ false → decodedText d c ≡ refusalText (d .answer)
+unfolding decodedText
+refused d c e = rw e refl
+
+accepted : (d : Decoded) (c : Bool) → isAccepted (d .answer) ≡ true → decodedText d c ≡ frameText d c
+unfolding decodedText
+accepted d c e = rw e refl
+
+enum-told : tie.Need-enum-told
+enum-told c = search needs
+
+put-refusal-requires : tie.Need-put-refusal-requires
+put-refusal-requires c κs =
+    let g = c .before .before .before .args in
+    rw (refused (g .decoded) (g .canonical) (told-refused (g .decoded .answer) (c .before .match .keys2))) at (c .before .before .before .pre .1)
+
+same-length : tie.Need-same-length
+same-length c = search needs
+
+returns : tie.Need-returns
+returns c =
+    let g = c .before .before .before .before .before .before .args in
+    rw (refused (g .decoded) (g .canonical) (told-refused (g .decoded .answer) (c .before .before .before .before .match .keys2))) (c .before .before .put-refusal .ensures)
+
+put-frame-requires : tie.Need-put-frame-requires
+put-frame-requires c κs =
+    let g = c .before .before .before .before .args in
+    let p = c .before .before .before .before .pre in
+    let enum-told = c .before .enum-told in
+    (p .0 (rw (enum-told .given .1) refl), rw (accepted (g .decoded) (g .canonical) (rw (enum-told .given .1) refl)) at (p .1))
+
+same-length-2 : tie.Need-same-length-2
+same-length-2 c = search needs
+
+returns-2 : tie.Need-returns-2
+returns-2 c =
+    let g = c .before .before .before .before .before .before .before .args in
+    rw (accepted (g .decoded) (g .canonical) (rw (c .before .before .before .before .enum-told .given .1) refl)) (c .before .before .put-frame .ensures)
+
+pub put-decoded-spec : {M : Type 1} → statement M
+put-decoded-spec =
+    tie.close
+    (tie.spec
+    enum-told
+    put-refusal-requires
+    same-length
+    returns
+    put-frame-requires
+    same-length-2
+    returns-2)

@@ -1,0 +1,68 @@
+use Prim.Native.Nat.{ℕ, _≤_, _<_}
+use mathlib.Core.Path.{_≡_, refl, ap, sym, _∙_}
+use native.Mathlib.Omega.{arith}
+use mathlib.Core.List.{List}
+use borrow.Author.Tests.{lt-ltb, le-ltb}
+use lib.ListN.{length}
+use Rattle.frame.specs.Read.{decode}
+use Rattle.grammar.proofs.Plain.{inside}
+use Rattle.spelling.specs.Canonical.{canonical}
+use Rattle.dump.specs.Text.{decimal}
+use Rattle.dump.specs.Dump.{line, decodedText, dumpText}
+use Rattle.dump.proofs.Short.{decoded-short, fifty-short}
+use borrow.Author.Needs.{needs}
+use Rattle.dump.proofs.put_dump.Statement.{statement}
+use Rattle.dump.proofs.put_dump.Tie as tie
+
+over : (s : List ℕ) → 4096 < length s → dumpText s ≡ line "answer=" (decimal 50)
+unfolding dumpText
+over s h = rw (lt-ltb 4096 (length s) h) refl
+
+within : (s : List ℕ) → length s ≤ 4096 → dumpText s ≡ decodedText (decode s) (canonical s)
+unfolding dumpText
+within s h = rw (le-ltb 4096 (length s) h) refl
+
+slice-aggregate-put-number-line : tie.Need-slice-aggregate-put-number-line
+slice-aggregate-put-number-line c = search needs
+
+put-number-line-requires : tie.Need-put-number-line-requires
+put-number-line-requires c κs = omega (arith, fifty-short, c .before .before .before .before .before .pre)
+
+same-length : tie.Need-same-length
+same-length c = search needs
+
+returns : tie.Need-returns
+returns c =
+    rw (over (c .before .before .before .before .before .before .before .before .args .input .now) (c .before .before .before .before .before .if1 .taken)) (c .before .before .put-number-line .ensures)
+
+from-bytes-requires : tie.Need-from-bytes-requires
+from-bytes-requires c κs = search needs
+
+is-canonical-requires : tie.Need-is-canonical-requires
+is-canonical-requires c κs = search needs
+
+put-decoded-requires : tie.Need-put-decoded-requires
+put-decoded-requires c κs =
+    let g = c .before .before .before .before .before .before .args in
+    rw (c .before .before .from-bytes .ensures) ((λ e. inside (g .input .now) e .few), omega (arith, decoded-short (g .input .now) (λ k. c .before .before .before .before .shared-slice-known .given k .fits) (c .before .is-canonical .result), c .before .before .before .before .before .before .pre))
+
+same-length-2 : tie.Need-same-length-2
+same-length-2 c = search needs
+
+returns-2 : tie.Need-returns-2
+returns-2 c =
+    rw (within (c .before .before .before .before .before .before .before .before .before .args .input .now) (c .before .before .before .before .before .before .if1 .left), ← c .before .before .before .before .before .from-bytes .ensures, ← c .before .before .before .before .is-canonical .ensures) (c .before .before .put-decoded .ensures)
+
+pub put-dump-spec : {M : Type 1} → statement M
+put-dump-spec =
+    tie.close
+    (tie.spec
+    slice-aggregate-put-number-line
+    put-number-line-requires
+    same-length
+    returns
+    from-bytes-requires
+    is-canonical-requires
+    put-decoded-requires
+    same-length-2
+    returns-2)

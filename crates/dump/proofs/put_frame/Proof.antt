@@ -1,0 +1,122 @@
+-- Each text is put where the one before it ends.
+use mathlib.Core.Path.{_≡_}
+use mathlib.Core.Bool.{Bool}
+use native.Mathlib.Omega.{arith}
+use Prim.Native.Nat.{ℕ, _+_, _≤_}
+use mathlib.Core.List.{List, _++_}
+use lib.ListN.{length}
+use Rattle.frame.specs.declared.Decoded.{Decoded}
+use Rattle.dump.specs.Text.{decimal, textIn}
+use Rattle.dump.specs.Dump.{line, yesNo, stationLines, contentLines, frameText}
+use Rattle.dump.proofs.Short.{yes-no-short}
+use Rattle.dump.proofs.Laws.{from-zero, fits-first, fits-next, put-then, fits-one, fits-two, fits-three, put-three, word-is}
+use borrow.Author.Needs.{needs}
+use Rattle.dump.proofs.put_frame.Statement.{statement}
+use Rattle.dump.proofs.put_frame.Tie as tie
+
+abbrev head : List ℕ
+head = line "answer=" (decimal 0)
+
+abbrev infoLine : Decoded → List ℕ
+infoLine d = line "info_length=" (decimal (d .«info_len»))
+
+abbrev lastLine : Bool → List ℕ
+lastLine y = line "canonical=" (yesNo y)
+
+-- what follows the stations
+abbrev rest : Decoded → Bool → List ℕ
+rest d y = contentLines (d .frame .content) ++ (infoLine d ++ lastLine y)
+
+room : (c : tie.After-slice-known) →
+    let g = c .before .args in
+    0 + length (head ++ (stationLines (g .decoded .frame) ++ rest (g .decoded) (g .canonical))) ≤ length (g .out .now)
+unfolding frameText
+room c =
+    let g = c .before .args in
+    from-zero (frameText (g .decoded) (g .canonical)) (g .out .now) (c .before .pre .1)
+
+room-stations : (c : tie.After-put-number-line) →
+    let g = c .before .before .before .before .before .args in
+    c .put-number-line .result + length (stationLines (g .decoded .frame) ++ rest (g .decoded) (g .canonical)) ≤ length (c .put-number-line .last .0)
+room-stations c = fits-next _ 0 head _ (room (c .before .before .before .before)) (c .put-number-line .ensures)
+
+room-content : (c : tie.After-put-station-lines) →
+    let g = c .before .before .before .before .before .before .before .before .before .args in
+    c .put-station-lines .result + length (rest (g .decoded) (g .canonical)) ≤ length (c .put-station-lines .last .0)
+room-content c =
+    fits-next _ _ (stationLines (c .before .before .before .before .before .before .before .before .before .args .decoded .frame)) _ (room-stations (c .before .before .before .before)) (c .put-station-lines .ensures)
+
+spelled : (c : tie.After-yes-no) →
+    let y = c .before .before .before .before .before .before .before .before .before .before .before .before .before .before .before .before .before .before .before .before .before .before .before .args .canonical in
+    (c .yes-no .result .length ≤ 8) × (textIn (c .yes-no .result) ≡ yesNo y)
+spelled c =
+    word-is _ _ (c .yes-no .ensures) (omega (arith, yes-no-short (c .before .before .before .before .before .before .before .before .before .before .before .before .before .before .before .before .before .before .before .before .before .before .before .args .canonical)))
+
+slice-aggregate-put-number-line : tie.Need-slice-aggregate-put-number-line
+slice-aggregate-put-number-line c = search needs
+
+put-number-line-requires : tie.Need-put-number-line-requires
+put-number-line-requires c κs =
+    let g = c .before .before .before .before .args in
+    let d = g .decoded in
+    fits-first (g .out .now) 0 head (stationLines (d .frame) ++ rest d (g .canonical)) (room (c .before .before .before))
+
+put-station-lines-requires : tie.Need-put-station-lines-requires
+put-station-lines-requires c κs =
+    let g = c .before .before .before .before .before .before .before .before .args in
+    (c .before .before .before .before .before .before .before .before .pre .0, fits-first (c .before .before .before .put-number-line .last .0) _ (stationLines (g .decoded .frame)) (rest (g .decoded) (g .canonical)) (room-stations (c .before .before .before)))
+
+put-content-lines-requires : tie.Need-put-content-lines-requires
+put-content-lines-requires c κs =
+    let g = c .before .before .before .before .before .before .before .before .before .before .before .before .args in
+    let d = g .decoded in
+    fits-one (c .before .before .before .put-station-lines .last .0) _ (contentLines (d .frame .content)) (infoLine d) (lastLine (g .canonical)) (room-content (c .before .before .before))
+
+slice-aggregate-put-number-line-2 : tie.Need-slice-aggregate-put-number-line-2
+slice-aggregate-put-number-line-2 c = search needs
+
+put-number-line-requires-2 : tie.Need-put-number-line-requires-2
+put-number-line-requires-2 c κs =
+    let g = c .before .before .before .before .before .before .before .before .before .before .before .before .before .before .before .before .before .args in
+    let d = g .decoded in
+    fits-two _ _ (contentLines (d .frame .content)) (infoLine d) (lastLine (g .canonical)) (room-content (c .before .before .before .before .before .before .before .before)) (c .before .before .before .before .put-content-lines .ensures)
+
+slice-aggregate-put-word-line : tie.Need-slice-aggregate-put-word-line
+slice-aggregate-put-word-line c = search needs
+
+yes-no-requires : tie.Need-yes-no-requires
+yes-no-requires c κs = search needs
+
+put-word-line-requires : tie.Need-put-word-line-requires
+put-word-line-requires c κs =
+    let g = c .before .before .before .before .before .before .before .before .before .before .before .before .before .before .before .before .before .before .before .before .before .before .before .args in
+    let d = g .decoded in
+    let w = spelled (c) in
+    (w .0, rw (w .1) (fits-three _ _ (contentLines (d .frame .content)) (infoLine d) (lastLine (g .canonical)) (room-content (c .before .before .before .before .before .before .before .before .before .before .before .before .before .before)) (c .before .before .before .before .before .before .before .before .before .before .put-content-lines .ensures) (c .before .before .before .before .before .put-number-line2 .ensures)))
+
+same-length : tie.Need-same-length
+same-length c = search needs
+
+returns : tie.Need-returns
+unfolding frameText
+returns c =
+    let g = c .before .before .before .before .before .before .before .before .before .before .before .before .before .before .before .before .before .before .before .before .before .before .before .before .before .before .args in
+    let d = g .decoded in
+    let y = g .canonical in
+    put-then _ 0 head (stationLines (d .frame) ++ rest d y) (room (c .before .before .before .before .before .before .before .before .before .before .before .before .before .before .before .before .before .before .before .before .before .before .before .before .before)) (c .before .before .before .before .before .before .before .before .before .before .before .before .before .before .before .before .before .before .before .before .before .put-number-line .ensures) (put-then _ _ (stationLines (d .frame)) (rest d y) (room-stations (c .before .before .before .before .before .before .before .before .before .before .before .before .before .before .before .before .before .before .before .before .before)) (c .before .before .before .before .before .before .before .before .before .before .before .before .before .before .before .before .before .put-station-lines .ensures) (put-three _ _ (contentLines (d .frame .content)) (infoLine d) (lastLine y) (room-content (c .before .before .before .before .before .before .before .before .before .before .before .before .before .before .before .before .before)) (c .before .before .before .before .before .before .before .before .before .before .before .before .before .put-content-lines .ensures) (c .before .before .before .before .before .before .before .before .put-number-line2 .ensures) (rw (spelled (c .before .before .before) .1) at (c .before .before .put-word-line .ensures))))
+
+pub put-frame-spec : {M : Type 1} → statement M
+put-frame-spec =
+    tie.close
+    (tie.spec
+    slice-aggregate-put-number-line
+    put-number-line-requires
+    put-station-lines-requires
+    put-content-lines-requires
+    slice-aggregate-put-number-line-2
+    put-number-line-requires-2
+    slice-aggregate-put-word-line
+    yes-no-requires
+    put-word-line-requires
+    same-length
+    returns)

@@ -1,0 +1,106 @@
+-- What the dumper prints (document 01, Loader calls and dumper): key=value lines in a fixed order.
+use Prim.Native.Nat.{ℕ}
+use Prim.Native.String.{String}
+use mathlib.Core.Bool.{Bool, cond}
+use mathlib.Core.List.{List, [], _++_}
+use lib.Dec.{ltb}
+use lib.ListN.{length, getD}
+use Rattle.content.specs.Content.{hasInfo}
+use Rattle.content.specs.Spell.{front}
+use Rattle.content.specs.declared.FrameContent.{FrameContent}
+use Rattle.content.specs.declared.FrameContent.the-variants as kind
+use Rattle.frame.specs.Frame.{numberOf, isAccepted}
+use Rattle.frame.specs.Read.{decode}
+use Rattle.frame.specs.declared.Ax25Frame.{Ax25Frame}
+use Rattle.frame.specs.declared.DecodeAnswer.{DecodeAnswer}
+use Rattle.frame.specs.declared.DecodeAnswer.the-variants as answer
+use Rattle.frame.specs.declared.Decoded.{Decoded}
+use Rattle.frame.specs.declared.Mark.{Mark}
+use Rattle.frame.specs.declared.Mark.the-variants.{Command, Response, Absent}
+use Rattle.spelling.specs.Canonical.{canonical}
+use Rattle.dump.specs.Ascii.{ascii}
+use Rattle.dump.specs.Text.{hex, decimal, addressText, routeText}
+use Rattle.dump.specs.declared.DumpAnswer.{DumpAnswer}
+use Rattle.dump.specs.declared.DumpAnswer.the-variants.{Done, NoRoom}
+use Rattle.dump.specs.declared.Dumped.{Dumped}
+
+-- a key, its value and a line feed
+abbrev pub line : String → List ℕ → List ℕ
+line key value = ascii key ++ (value ++ ascii "\n")
+
+abbrev pub markText : Mark → List ℕ
+markText Command = ascii "command"
+markText Response = ascii "response"
+markText Absent = ascii "none"
+
+-- the kinds; reading never gives `UnknownContent`
+abbrev pub kindText : FrameContent → List ℕ
+kindText (kind.Information k) = ascii "I"
+kindText (kind.ReceiveReady k) = ascii "RR"
+kindText (kind.ReceiveNotReady k) = ascii "RNR"
+kindText (kind.Reject k) = ascii "REJ"
+kindText (kind.SetAsynchronousBalancedMode k) = ascii "SABM"
+kindText (kind.Disconnect k) = ascii "DISC"
+kindText (kind.DisconnectedMode k) = ascii "DM"
+kindText (kind.UnnumberedAcknowledge k) = ascii "UA"
+kindText (kind.FrameReject k) = ascii "FRMR"
+kindText (kind.UnnumberedInformation k) = ascii "UI"
+kindText kind.UnknownContent = ascii "-"
+
+-- control and PID as re-encoded: the first two octets of what the content spells
+abbrev pub controlText : FrameContent → List ℕ
+controlText k = hex (getD (front k) 0 0)
+
+abbrev pub pidText : FrameContent → List ℕ
+pidText k = cond (hasInfo k) (hex (getD (front k) 1 0)) (ascii "-")
+
+abbrev pub yesNo : Bool → List ℕ
+yesNo b = cond b (ascii "yes") (ascii "no")
+
+-- the address field's lines
+unfoldable pub stationLines : Ax25Frame → List ℕ
+stationLines f =
+    line "destination=" (addressText (f .destination))
+    ++ (line "source=" (addressText (f .source)) ++ (line "route=" (routeText (f .route) (f .«route_count»)) ++ line "mark=" (markText (f .«command_or_response»))))
+
+-- the content's lines
+unfoldable pub contentLines : FrameContent → List ℕ
+contentLines k = line "kind=" (kindText k) ++ (line "control=" (controlText k) ++ line "pid=" (pidText k))
+
+-- the lines of an accepted frame
+unfoldable pub frameText : Decoded → Bool → List ℕ
+frameText d c =
+    line "answer=" (decimal 0)
+    ++ (stationLines (d .frame) ++ (contentLines (d .frame .content) ++ (line "info_length=" (decimal (d .«info_len»)) ++ line "canonical=" (yesNo c))))
+
+-- the details that a refusal's number gives
+abbrev pub detailText : DecodeAnswer → List ℕ
+detailText answer.Accepted = []
+detailText answer.OnlyNullBytes = []
+detailText answer.NoEndToAddressField = []
+detailText (answer.AddressFieldTooShort start end) = line "start=" (decimal start) ++ line "end=" (decimal end)
+detailText (answer.FrameTooShort len) = line "length=" (decimal len)
+detailText answer.MissingPidField = []
+detailText answer.UnrecognisedSFieldType = []
+detailText answer.UnrecognisedUFieldType = []
+detailText answer.WrongSizeFrmrInfo = []
+detailText answer.TooManyRepeaters = []
+
+unfoldable pub refusalText : DecodeAnswer → List ℕ
+refusalText a = line "answer=" (decimal (numberOf a)) ++ detailText a
+
+unfoldable pub decodedText : Decoded → Bool → List ℕ
+decodedText d c = cond (isAccepted (d .answer)) (frameText d c) (refusalText (d .answer))
+
+-- the whole: over 4,096 octets, answer 50 alone
+unfoldable pub dumpText : List ℕ → List ℕ
+dumpText s = cond (ltb 4096 (length s)) (line "answer=" (decimal 50)) (decodedText (decode s) (canonical s))
+
+-- all of it where there is room, else 24
+unfoldable pub dumped : List ℕ → ℕ → Dumped
+dumped text room =
+    cond (ltb room (length text)) (record { answer = NoRoom; length = 0 }) (record { answer = Done; length = length text })
+
+abbrev pub dumpNumber : DumpAnswer → ℕ
+dumpNumber Done = 0
+dumpNumber NoRoom = 24

@@ -1,0 +1,158 @@
+// Short words by value.
+use content::FrameContent;
+use frame::Mark;
+ghost use mathlib.Core.Path.{_≡_};
+ghost use Prim.Native.Nat.{_<_};
+ghost use lib.ListN.{getD};
+ghost use Rattle.content.specs.Spell.{front};
+ghost use Rattle.dump.specs.Text.{hexDigit, hex, character, wordOf};
+ghost use Rattle.dump.specs.Dump.{markText, kindText, controlText, pidText, yesNo};
+
+// Up to eight characters, zeros after them.
+pub struct Word {
+    pub letters: [u8; 8],
+    pub length: usize,
+}
+
+fn hex_digit(d: u8) -> u8
+    requires { ⌜ d < 16 ⌝ }
+    ensures { λ r. ⌜ r ≡ hexDigit d ⌝ }
+{
+    if d < 10 { b'0' + d } else { b'a' - 10 + d }
+}
+
+pub fn hex(b: u8) -> Word
+    ensures { λ r. ⌜ r ≡ wordOf (hex b) ⌝ }
+{
+    let high = hex_digit(b / 16);
+    let low = hex_digit(b % 16);
+    Word {
+        letters: [high, low, 0, 0, 0, 0, 0, 0],
+        length: 2,
+    }
+}
+
+// An address character: a letter or digit as itself, any other as % and two hex digits.
+pub fn character(c: u8) -> Word
+    ensures { λ r. ⌜ r ≡ wordOf (character c) ⌝ }
+{
+    if address::text::is_alphanumeric(c) {
+        return Word {
+            letters: [c, 0, 0, 0, 0, 0, 0, 0],
+            length: 1,
+        };
+    }
+    let high = hex_digit(c / 16);
+    let low = hex_digit(c % 16);
+    Word {
+        letters: [b'%', high, low, 0, 0, 0, 0, 0],
+        length: 3,
+    }
+}
+
+pub fn mark(mark: Mark) -> Word
+    ensures { λ r. ⌜ r ≡ wordOf (markText mark) ⌝ }
+{
+    match mark {
+        Mark::Command => Word {
+            letters: *b"command\0",
+            length: 7,
+        },
+        Mark::Response => Word {
+            letters: *b"response",
+            length: 8,
+        },
+        Mark::Absent => Word {
+            letters: *b"none\0\0\0\0",
+            length: 4,
+        },
+    }
+}
+
+pub fn kind(content: FrameContent) -> Word
+    ensures { λ r. ⌜ r ≡ wordOf (kindText content) ⌝ }
+{
+    match content {
+        FrameContent::Information(_) => Word {
+            letters: *b"I\0\0\0\0\0\0\0",
+            length: 1,
+        },
+        FrameContent::ReceiveReady(_) => Word {
+            letters: *b"RR\0\0\0\0\0\0",
+            length: 2,
+        },
+        FrameContent::ReceiveNotReady(_) => Word {
+            letters: *b"RNR\0\0\0\0\0",
+            length: 3,
+        },
+        FrameContent::Reject(_) => Word {
+            letters: *b"REJ\0\0\0\0\0",
+            length: 3,
+        },
+        FrameContent::SetAsynchronousBalancedMode(_) => Word {
+            letters: *b"SABM\0\0\0\0",
+            length: 4,
+        },
+        FrameContent::Disconnect(_) => Word {
+            letters: *b"DISC\0\0\0\0",
+            length: 4,
+        },
+        FrameContent::DisconnectedMode(_) => Word {
+            letters: *b"DM\0\0\0\0\0\0",
+            length: 2,
+        },
+        FrameContent::UnnumberedAcknowledge(_) => Word {
+            letters: *b"UA\0\0\0\0\0\0",
+            length: 2,
+        },
+        FrameContent::FrameReject(_) => Word {
+            letters: *b"FRMR\0\0\0\0",
+            length: 4,
+        },
+        FrameContent::UnnumberedInformation(_) => Word {
+            letters: *b"UI\0\0\0\0\0\0",
+            length: 2,
+        },
+        FrameContent::UnknownContent => Word {
+            letters: *b"-\0\0\0\0\0\0\0",
+            length: 1,
+        },
+    }
+}
+
+// The control octet as re-encoded.
+pub fn control(content: FrameContent) -> Word
+    ensures { λ r. ⌜ r ≡ wordOf (controlText content) ⌝ }
+{
+    let front = content.front();
+    hex(front[0])
+}
+
+// The PID as re-encoded; a hyphen where there is none.
+pub fn pid(content: FrameContent) -> Word
+    ensures { λ r. ⌜ r ≡ wordOf (pidText content) ⌝ }
+{
+    if content.has_info() {
+        let front = content.front();
+        return hex(front[1]);
+    }
+    Word {
+        letters: *b"-\0\0\0\0\0\0\0",
+        length: 1,
+    }
+}
+
+pub fn yes_no(yes: bool) -> Word
+    ensures { λ r. ⌜ r ≡ wordOf (yesNo yes) ⌝ }
+{
+    if yes {
+        return Word {
+            letters: *b"yes\0\0\0\0\0",
+            length: 3,
+        };
+    }
+    Word {
+        letters: *b"no\0\0\0\0\0\0",
+        length: 2,
+    }
+}

@@ -1,0 +1,108 @@
+// Long inputs, and buffers that are short, exactly full and longer.
+use super::shown;
+
+// The example frame, with as much info of nulls as the input has room for.
+fn frame_of(input: &mut [u8]) {
+    lent::put(
+        input,
+        0,
+        b"\x8E\x82\xAA\x8E\x8A\x40\xE0\x84\x9E\xB0\x62\x64\x40\x67\x03\xF0",
+    );
+}
+
+// 4,096 octets are read, 4,097 are not, whatever they hold.
+fn long() {
+    let mut most = [0u8; 4096];
+    frame_of(&mut most);
+    shown(&most);
+    let mut over = [0u8; 4097];
+    shown_over(&mut over);
+}
+
+fn shown_over(over: &mut [u8]) {
+    frame_of(over);
+    shown(over);
+    let nulls = [0u8; 4097];
+    shown(&nulls);
+}
+
+// Details of four digits.
+fn far() {
+    let mut short = [0u8; 4096];
+    lent::put(
+        &mut short,
+        4000,
+        b"\x8E\x82\xAA\x8E\x8A\x40\xE0\x84\x9E\xB0\x62\x64\x41",
+    );
+    shown(&short);
+    let mut bare = [0u8; 4096];
+    lent::put(
+        &mut bare,
+        4082,
+        b"\x8E\x82\xAA\x8E\x8A\x40\xE0\x84\x9E\xB0\x62\x64\x40\x67",
+    );
+    shown(&bare);
+}
+
+// Whether every octet is 0xAA.
+fn untouched(out: &[u8]) -> bool {
+    let mut i = 0;
+    while i < out.len() {
+        if out[i] != 0xAA {
+            return false;
+        }
+        i += 1;
+    }
+    true
+}
+
+fn told(dumped: dump::Dumped, out: &[u8]) {
+    let answer = dumped.answer;
+    let n = dumped.length;
+    show::field(b"answer", answer.number() as u64);
+    show::field(b"length", n as u64);
+    if out.len() < n {
+        return;
+    }
+    if untouched(&out[n..]) {
+        show::text(b" untouched");
+    }
+    if 0 < n {
+        show::text(b" after it");
+    }
+    show::text(b"\n");
+}
+
+fn into(input: &[u8], out: &mut [u8]) {
+    show::text(b"room=");
+    show::number(out.len() as u64);
+    let dumped = dump::dump(input, out);
+    told(dumped, out);
+}
+
+fn rooms(frame: &[u8]) {
+    let mut none = [0xAAu8; 0];
+    into(frame, &mut none);
+    let mut short = [0xAAu8; 115];
+    into(frame, &mut short);
+    let mut full = [0xAAu8; 116];
+    into(frame, &mut full);
+    let mut longer = [0xAAu8; 512];
+    into(frame, &mut longer);
+}
+
+fn refusal_rooms() {
+    show::text(b"refusal ");
+    let mut short = [0xAAu8; 8];
+    into(b"", &mut short);
+    show::text(b"refusal ");
+    let mut full = [0xAAu8; 9];
+    into(b"", &mut full);
+}
+
+pub fn all() {
+    long();
+    far();
+    rooms(b"\x8E\x82\xAA\x8E\x8A\x40\xE0\x84\x9E\xB0\x62\x64\x40\x67\x03\xF0OK");
+    refusal_rooms();
+}
