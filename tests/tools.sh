@@ -36,9 +36,14 @@ tools_twice() { # tools_apt|tools_apt_host WORDS..
     "$@" >>"$tools_dir/apt.log" 2>&1
 }
 
-tools_can_fetch() { # WHAT
-    mkdir -p "$tools_dir" 2>/dev/null && [ -w "$tools_dir" ] || { tools_say "$1 is missing, and the folder $tools_dir can't be written to fetch it into"; return 1; }
-    tools_has apt-get && tools_has dpkg-deb || { tools_say "$1 is missing, and there is no apt-get to fetch it from Debian's packages: install it"; return 1; }
+# Makes the folder tools/bin.
+tools_folder() {
+    mkdir -p "$tools_dir/bin" 2>/dev/null && [ -w "$tools_dir/bin" ] || { tools_say "the folder $tools_dir can't be made or written"; return 1; }
+}
+
+tools_can_fetch() { # PACKAGES
+    tools_folder || return 1
+    tools_has apt-get && tools_has dpkg-deb || { tools_say "missing: $1; and there is no apt-get to fetch it from Debian's packages"; return 1; }
     : >"$tools_dir/apt.log"
 }
 
@@ -66,30 +71,30 @@ tools_unpacked() { # NAME PACKAGE..
     tools_twice tools_apt --download-only --no-install-recommends install "$@"
     got=$?
     tools_status=
-    [ $got -eq 0 ] && cp "$tools_dir"/apt/cache/archives/*.deb "$into.part/debs/" || return 1
+    [ $got -eq 0 ] && cp "$tools_dir"/apt/cache/archives/*.deb "$into.part/debs/" 2>/dev/null || return 1
     rm -f "$into.part"/debs/libc6_* "$into.part"/debs/libgcc-s1_* "$into.part"/debs/libstdc++6_*
     tools_unpack "$into.part" && mv "$into.part" "$into"
 }
 
 # Has packages installed or unpacked.
 tools_fetch() { # NAME PACKAGE..
-    tools_can_fetch "$1" || return 1
     what=$1
     shift
+    tools_can_fetch "$*" || return 1
     if [ "$(id -u)" = 0 ]; then
         tools_say "installing $*"
         tools_twice tools_apt_host install --no-install-recommends "$@" && return
     fi
     tools_say "unpacking $* into $tools_dir/$what"
     tools_unpacked "$what" "$@" && return
-    tools_say "$what is missing and could not be fetched ($tools_dir/apt.log says why): install the packages $*"
+    tools_say "missing: $*; and it could not be fetched ($tools_dir/apt.log says why)"
     return 1
 }
 
 # Writes tools/bin/NAME, which runs a program of the unpacked packages with their libraries. It finds them from its own
 # place, so that the repository may be moved.
 tools_wrap() { # PACKAGES PROGRAM [WORDS, in which $at is the packages' folder]
-    mkdir -p "$tools_dir/bin" || return 1
+    tools_folder || return 1
     cat >"$tools_dir/bin/$2" <<WRAPPER
 #!/bin/sh
 at=\$(dirname -- "\$(readlink -f -- "\$0")")/../$1/root
@@ -138,7 +143,7 @@ run_linked() { "$RUN_X86" "$KIT_TOOLS/lib/ld-linux-x86-64.so.2" --library-path "
 
 # NM, OBJDUMP, OBJCOPY, READELF: LLVM's, which the kit's compiler is too when it is called by their names.
 need_llvm() {
-    need_kit && mkdir -p "$tools_dir/bin" || return 1
+    need_kit && tools_folder || return 1
     for tool in nm objdump objcopy readelf; do
         ln -sf "$KIT_TOOLS/bin/clang" "$tools_dir/bin/llvm-$tool" || return 1
     done
@@ -217,7 +222,7 @@ tools_rust_works() { # RUSTC [WORDS..]
 # Unpacks a Rust compiler for this host with the standard library of x86-64 into tools/rust. Debian has that library for
 # an amd64 host alone, so it can't be installed beside an arm64 compiler.
 tools_fetch_rust() {
-    tools_can_fetch rustc || return 1
+    tools_can_fetch 'rustc with the target x86_64-unknown-linux-gnu' || return 1
     tools_say "unpacking rustc-web and its x86-64 library into $tools_dir/rust (about 400 MB)"
     into=$tools_dir/rust.part
     rm -rf "$into" "$tools_dir/rust" "$tools_dir/apt/cache/archives"
@@ -232,13 +237,13 @@ tools_fetch_rust() {
         tools_apt --download-only --no-install-recommends install "$library" >>"$tools_dir/apt.log" 2>&1 || exit 1
         cp "$tools_dir"/apt/cache/archives/*.deb .
     ) && tools_unpack "$into" && mv "$into" "$tools_dir/rust" && return
-    tools_say "a Rust compiler is missing and could not be fetched ($tools_dir/apt.log says why): install rustc with the target x86_64-unknown-linux-gnu"
+    tools_say "missing: rustc with the target x86_64-unknown-linux-gnu; and it could not be fetched ($tools_dir/apt.log says why)"
     return 1
 }
 
 # RUSTC_X86: a Rust compiler that makes x86-64 programs without being told the target.
 need_rustc() {
-    mkdir -p "$tools_dir/bin" || return 1
+    tools_folder || return 1
     RUSTC_X86=$tools_dir/bin/rustc-x86
     if tools_has rustc && tools_rust_works rustc --target x86_64-unknown-linux-gnu; then
         printf '#!/bin/sh\nexec rustc --target x86_64-unknown-linux-gnu "$@"\n' >"$RUSTC_X86" && chmod +x "$RUSTC_X86"
