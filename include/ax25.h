@@ -6,7 +6,7 @@
    What every call asks of its caller:
    - `in` points to `in_len` octets that may be read, `out` to `out_len` octets that may be written. No octet is kept or looked
      at after the return, and the input is never written.
-   - A pointer is never null. Where a length is 0 any other pointer will do, for instance one to an empty array's place.
+   - No pointer is null. Where a length is 0, any pointer that is not null will do.
    - `in` and `out` do not overlap, not even in part.
    - No alignment is asked, and no length is too long or too short: whatever can't be read as a frame gets a number.
    - The calling convention is that of System V for x86-64: a stack aligned to 16 octets, and SSE2 usable.
@@ -24,13 +24,11 @@
 extern "C" {
 #endif
 
-/* No call uses more stack than this, in octets, its return address included and a call of memcpy or memset with it, whose
-   own stack comes on top. */
+/* No call uses more stack than this, in octets, its return address included. What memcpy and memset use comes on top. */
 #define AX25_STACK 1024
 
 /* Every number that the component gives. The four calls give 0 to 9 and 24; the others belong to parts that C does not
-   reach: writing records, text and the dumper. Conditions are looked at in the order of this list, but 9 comes after 4 and
-   before 5: the first that holds gives the number. */
+   reach: writing records, text and the dumper. */
 enum ax25_number {
     AX25_ACCEPTED = 0,
 
