@@ -1,11 +1,14 @@
 #!/usr/bin/env python3
 """Writes the octets that come over one TCP connection to a file, until the other end closes.
 
-usage: record.py listen FILE PORTFILE      on a free port, whose number it writes to PORTFILE
-       record.py connect FILE PORT         to a port of this host, as soon as something listens there
-       record.py port                      prints a port that is free
-       record.py count FILE                prints how many frames a KISS log holds"""
+usage: record.py listen FILE PORTFILE READY      on a free port, whose number it writes to PORTFILE
+       record.py connect FILE PORT READY         to a port of this host, as soon as something listens there
+       record.py port                            prints a port that is free, below 32768: direwolf takes none above 49151
+       record.py count FILE                      prints how many frames a KISS log holds
+
+It makes the file READY once it is connected."""
 import os
+import random
 import socket
 import sys
 import time
@@ -13,19 +16,35 @@ import time
 PATIENCE = 60  # seconds without a word
 
 
-def listening():
+def listening(port=0):
     server = socket.socket()
-    server.bind(('127.0.0.1', 0))
+    server.bind(('127.0.0.1', port))
     server.listen(1)
     server.settimeout(PATIENCE)
     return server, server.getsockname()[1]
 
 
+def free_port():
+    for _ in range(100):
+        port = random.randrange(20000, 32768)
+        try:
+            listening(port)[0].close()
+            return port
+        except OSError:
+            pass
+    sys.exit('record: no free port was found')
+
+
+def tell(path, text):
+    """Writes a file that appears whole."""
+    with open(path + '.part', 'w') as f:
+        print(text, file=f)
+    os.rename(path + '.part', path)
+
+
 def accepted(port_file):
     server, port = listening()
-    with open(port_file + '.part', 'w') as f:
-        print(port, file=f)
-    os.rename(port_file + '.part', port_file)
+    tell(port_file, port)
     return server.accept()[0]
 
 
@@ -38,8 +57,9 @@ def connected(port):
     sys.exit(f'record: nothing listens on port {port}')
 
 
-def record(connection, path):
+def record(connection, path, ready):
     connection.settimeout(PATIENCE)
+    tell(ready, 'connected')
     with open(path, 'wb') as f:
         while True:
             octets = connection.recv(4096)
@@ -56,14 +76,14 @@ def is_frame(part):
 
 def main():
     if sys.argv[1:] == ['port']:
-        print(listening()[1])
+        print(free_port())
     elif len(sys.argv) == 3 and sys.argv[1] == 'count':
         with open(sys.argv[2], 'rb') as f:
             print(sum(is_frame(part) for part in f.read().split(b'\xC0')))
-    elif len(sys.argv) == 4 and sys.argv[1] == 'listen':
-        record(accepted(sys.argv[3]), sys.argv[2])
-    elif len(sys.argv) == 4 and sys.argv[1] == 'connect':
-        record(connected(int(sys.argv[3])), sys.argv[2])
+    elif len(sys.argv) == 5 and sys.argv[1] == 'listen':
+        record(accepted(sys.argv[3]), sys.argv[2], sys.argv[4])
+    elif len(sys.argv) == 5 and sys.argv[1] == 'connect':
+        record(connected(int(sys.argv[3])), sys.argv[2], sys.argv[4])
     else:
         sys.exit(__doc__)
 
