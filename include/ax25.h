@@ -1,0 +1,94 @@
+/* AX.25 frames for the relay box: the calls of libax25.a, for x86-64.
+
+   Four calls on octets that the caller lends. Each is proved to give exactly the answer that its contract states, for every
+   input, to read and write nothing but what is lent to it, and to return.
+
+   What every call asks of its caller:
+   - `in` points to `in_len` octets that may be read, `out` to `out_len` octets that may be written. No octet is kept or looked
+     at after the return, and the input is never written.
+   - No pointer is null. Where a length is 0, any pointer that is not null will do.
+   - `in` and `out` do not overlap, not even in part.
+   - No alignment is asked, and no length is too long or too short: whatever can't be read as a frame gets a number.
+   - The calling convention is that of System V for x86-64: a stack aligned to 16 octets, and SSE2 usable.
+
+   What every call leaves alone: there is no heap, no state, no input or output and no lock. So any call may run at the same time
+   as any other, in another thread or in an interrupt, as long as nobody writes what is lent meanwhile. The archive asks
+   whoever links it for memcpy and memset, and for nothing else. */
+#ifndef AX25_H
+#define AX25_H
+
+#include <stddef.h>
+#include <stdint.h>
+
+#ifdef __cplusplus
+extern "C" {
+#endif
+
+/* No call uses more stack than this, in octets, its return address included. What memcpy and memset use comes on top. */
+#define AX25_STACK 1024
+
+/* Every number that the component gives. The four calls give 0 to 9 and 24; the others belong to parts that C does not
+   reach: writing records, text and the dumper. */
+enum ax25_number {
+    AX25_ACCEPTED = 0,
+
+    /* Reading a frame. The start is the first nonzero octet, the end is the first octet with its low bit set, the span is
+       end - start + 1. */
+    AX25_ONLY_NULL_BYTES = 1,          /* no nonzero octet; the empty input too */
+    AX25_NO_END_TO_ADDRESS_FIELD = 2,  /* no octet with its low bit set */
+    AX25_ADDRESS_FIELD_TOO_SHORT = 3,  /* the span is below 14 */
+    AX25_FRAME_TOO_SHORT = 4,          /* nothing after the end */
+    AX25_MISSING_PID_FIELD = 5,        /* an I or UI frame without its PID octet */
+    AX25_UNRECOGNISED_S_FIELD = 6,     /* a supervisory frame other than RR, RNR, REJ */
+    AX25_UNRECOGNISED_U_FIELD = 7,     /* an unnumbered frame other than SABM, DISC, DM, UA, FRMR, UI */
+    AX25_WRONG_SIZE_FRMR_INFO = 8,     /* an FRMR whose content is not four octets */
+    AX25_TOO_MANY_REPEATERS = 9,       /* nine or more repeaters */
+
+    /* Writing a frame, and printing an address. */
+    AX25_ROUTE_TOO_LONG = 21,          /* a route count over 8 */
+    AX25_NOT_ENCODABLE = 22,           /* an address in use has a character of 128 or more, or an SSID over 15 */
+    AX25_INFO_NOT_ALLOWED = 23,        /* info for a kind that has none */
+    AX25_NO_ROOM = 24,                 /* the output is shorter than needed */
+
+    /* Reading an address from text, or from a callsign and an SSID. */
+    AX25_CALLSIGN_TOO_LONG = 31,       /* more than six characters */
+    AX25_INVALID_FORMAT = 32,          /* two or more hyphens, an empty callsign, or a character that is no letter or digit */
+    AX25_INVALID_SSID = 33,            /* the SSID's text is no 8-bit number */
+    AX25_SSID_OUT_OF_RANGE = 34,       /* an SSID of 16 to 255 */
+    AX25_NOT_ASCII = 35,               /* an octet of 128 or more */
+
+    /* The dumper alone. */
+    AX25_INPUT_TOO_LONG = 50           /* more than 4,096 octets */
+};
+
+/* Whether the input can be read as a frame: AX25_ACCEPTED, or the first of 1, 2, 3, 4, 9, 5, 6, 7, 8 that holds. */
+uint32_t ax25_decode(const uint8_t *in, size_t in_len);
+
+/* 1 where the input is canonical, else 0. Canonical means: accepted, and exactly what re-encoding it would give. There is
+   one such spelling of each frame. */
+uint32_t ax25_canonical(const uint8_t *in, size_t in_len);
+
+/* How many octets re-encoding gives; 0 where the input is refused, and never 0 otherwise. It is never more than in_len. */
+size_t ax25_reencoded_length(const uint8_t *in, size_t in_len);
+
+/* Writes the frame anew, in its canonical spelling, to the start of `out`. Gives the number of ax25_decode where that is not 0;
+   AX25_NO_ROOM where out_len is below ax25_reencoded_length(in, in_len); else AX25_ACCEPTED. The octets of `out` beyond
+   that length stay as they were, and a refusal leaves all of them as they were. Room of in_len octets is always enough.
+
+   RE-ENCODED FRAMES ARE NOT FOR FORWARDING. A relay that sends what it re-encoded changes the frame. Forward the octets that were
+   received. Re-encoding
+   - drops null octets before the frame,
+   - drops octets left over between the last whole address and the end of the address field,
+   - writes an absent command/response mark (both bits equal) as Command,
+   - sets the two reserved bits of every address,
+   - writes every PID of the layer 3 class (bits 5 and 4 are 01 or 10) as 10 hex, so that 20 hex becomes 10 hex,
+   - drops the octets after the control octet of RR, RNR, REJ, SABM, DISC, DM and UA frames,
+   - clears FRMR's unnamed bits.
+   A canonical frame has none of these and re-encodes as itself. */
+uint32_t ax25_reencode(const uint8_t *in, size_t in_len, uint8_t *out, size_t out_len);
+
+#ifdef __cplusplus
+}
+#endif
+
+#endif
