@@ -29,8 +29,9 @@ same-length c = search needs
 
 returns : tie.Need-returns
 returns c =
+    let match = c .before .before .before .before .match in
     let g = c .before .before .before .before .before .before .args in
-    rw (refused (g .decoded) (g .canonical) (told-refused (g .decoded .answer) (c .before .before .before .before .match .keys2))) (c .before .before .put-refusal .ensures)
+    rw (refused (g .decoded) (g .canonical) (told-refused (g .decoded .answer) (match .keys2))) (c .before .before .put-refusal .ensures)
 
 put-frame-requires : tie.Need-put-frame-requires
 put-frame-requires c κs =
@@ -44,8 +45,9 @@ same-length-2 c = search needs
 
 returns-2 : tie.Need-returns-2
 returns-2 c =
+    let enum-told = c .before .before .before .before .enum-told in
     let g = c .before .before .before .before .before .before .before .args in
-    rw (accepted (g .decoded) (g .canonical) (rw (c .before .before .before .before .enum-told .given .1) refl)) (c .before .before .put-frame .ensures)
+    rw (accepted (g .decoded) (g .canonical) (rw (enum-told .given .1) refl)) (c .before .before .put-frame .ensures)
 
 pub put-decoded-spec : {M : Type 1} → statement M
 put-decoded-spec =

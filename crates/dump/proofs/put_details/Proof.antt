@@ -23,18 +23,23 @@ slice-aggregate-put-number-line c = search needs
 
 put-number-line-requires : tie.Need-put-number-line-requires
 put-number-line-requires c κs =
+    let p = c .before .before .before .before .before .before .pre in
     let g = c .before .before .before .before .before .before .args in
     let answer = c .before .before .before .answer in
-    fits-first (g .out .now) (g .at) (line "start=" (decimal (answer .given .0 .0))) (line "end=" (decimal (answer .given .0 .1 .0))) (rw (answer .given .1) at (c .before .before .before .before .before .before .pre))
+    fits-first (g .out .now) (g .at) (line "start=" (decimal (answer .given .0 .0))) (line "end=" (decimal (answer .given .0 .1 .0)))
+    (rw (answer .given .1) at (p))
 
 slice-aggregate-put-number-line-2 : tie.Need-slice-aggregate-put-number-line-2
 slice-aggregate-put-number-line-2 c = search needs
 
 put-number-line-requires-2 : tie.Need-put-number-line-requires-2
 put-number-line-requires-2 c κs =
+    let put-number-line = c .before .before .before .before .put-number-line in
+    let p = c .before .before .before .before .before .before .before .before .before .before .before .pre in
     let g = c .before .before .before .before .before .before .before .before .before .before .before .args in
     let answer = c .before .before .before .before .before .before .before .before .answer in
-    fits-next (g .out .now) (g .at) (line "start=" (decimal (answer .given .0 .0))) (line "end=" (decimal (answer .given .0 .1 .0))) (rw (answer .given .1) at (c .before .before .before .before .before .before .before .before .before .before .before .pre)) (c .before .before .before .before .put-number-line .ensures)
+    fits-next (g .out .now) (g .at) (line "start=" (decimal (answer .given .0 .0))) (line "end=" (decimal (answer .given .0 .1 .0)))
+    (rw (answer .given .1) at (p)) (put-number-line .ensures)
 
 enum-known-answer-2 : tie.Need-enum-known-answer-2
 enum-known-answer-2 c = search needs
@@ -75,9 +80,12 @@ same-length c = search needs
 
 returns-4 : tie.Need-returns-4
 returns-4 c =
+    let put-number-line = c .before .before .before .before .before .before .before .put-number-line in
+    let p = c .before .before .before .before .before .before .before .before .before .before .before .before .before .before .pre in
     let g = c .before .before .before .before .before .before .before .before .before .before .before .before .before .before .args in
     let answer = c .before .before .before .before .before .before .before .before .before .before .before .answer in
-    rw (answer .given .1) (put-then (g .out .now) (g .at) (line "start=" (decimal (answer .given .0 .0))) (line "end=" (decimal (answer .given .0 .1 .0))) (rw (answer .given .1) at (c .before .before .before .before .before .before .before .before .before .before .before .before .before .before .pre)) (c .before .before .before .before .before .before .before .put-number-line .ensures) (c .before .before .put-number-line2 .ensures))
+    rw (answer .given .1)
+    (put-then (g .out .now) (g .at) (line "start=" (decimal (answer .given .0 .0))) (line "end=" (decimal (answer .given .0 .1 .0))) (rw (answer .given .1) at (p)) (put-number-line .ensures) (c .before .before .put-number-line2 .ensures))
 
 same-length-2 : tie.Need-same-length-2
 same-length-2 c = search needs

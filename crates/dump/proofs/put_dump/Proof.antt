@@ -33,7 +33,9 @@ same-length c = search needs
 
 returns : tie.Need-returns
 returns c =
-    rw (over (c .before .before .before .before .before .before .before .before .args .input .now) (c .before .before .before .before .before .if1 .taken)) (c .before .before .put-number-line .ensures)
+    let if1 = c .before .before .before .before .before .if1 in
+    let g = c .before .before .before .before .before .before .before .before .args in
+    rw (over (g .input .now) (if1 .taken)) (c .before .before .put-number-line .ensures)
 
 from-bytes-requires : tie.Need-from-bytes-requires
 from-bytes-requires c κs = search needs
@@ -43,15 +45,22 @@ is-canonical-requires c κs = search needs
 
 put-decoded-requires : tie.Need-put-decoded-requires
 put-decoded-requires c κs =
+    let shared-slice-known = c .before .before .before .before .shared-slice-known in
+    let p = c .before .before .before .before .before .before .pre in
     let g = c .before .before .before .before .before .before .args in
-    rw (c .before .before .from-bytes .ensures) ((λ e. inside (g .input .now) e .few), omega (arith, decoded-short (g .input .now) (λ k. c .before .before .before .before .shared-slice-known .given k .fits) (c .before .is-canonical .result), c .before .before .before .before .before .before .pre))
+    rw (c .before .before .from-bytes .ensures)
+    ((λ e. inside (g .input .now) e .few), omega (arith, decoded-short (g .input .now) (λ k. shared-slice-known .given k .fits) (c .before .is-canonical .result), p))
 
 same-length-2 : tie.Need-same-length-2
 same-length-2 c = search needs
 
 returns-2 : tie.Need-returns-2
 returns-2 c =
-    rw (within (c .before .before .before .before .before .before .before .before .before .args .input .now) (c .before .before .before .before .before .before .if1 .left), ← c .before .before .before .before .before .from-bytes .ensures, ← c .before .before .before .before .is-canonical .ensures) (c .before .before .put-decoded .ensures)
+    let is-canonical = c .before .before .before .before .is-canonical in
+    let from-bytes = c .before .before .before .before .before .from-bytes in
+    let if1 = c .before .before .before .before .before .before .if1 in
+    let g = c .before .before .before .before .before .before .before .before .before .args in
+    rw (within (g .input .now) (if1 .left), ← from-bytes .ensures, ← is-canonical .ensures) (c .before .before .put-decoded .ensures)
 
 pub put-dump-spec : {M : Type 1} → statement M
 put-dump-spec =

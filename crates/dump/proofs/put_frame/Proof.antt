@@ -44,13 +44,15 @@ room-content : (c : tie.After-put-station-lines) →
     let g = c .before .before .before .before .before .before .before .before .before .args in
     c .put-station-lines .result + length (rest (g .decoded) (g .canonical)) ≤ length (c .put-station-lines .last .0)
 room-content c =
-    fits-next _ _ (stationLines (c .before .before .before .before .before .before .before .before .before .args .decoded .frame)) _ (room-stations (c .before .before .before .before)) (c .put-station-lines .ensures)
+    let g = c .before .before .before .before .before .before .before .before .before .args in
+    fits-next _ _ (stationLines (g .decoded .frame)) _ (room-stations (c .before .before .before .before)) (c .put-station-lines .ensures)
 
 spelled : (c : tie.After-yes-no) →
     let y = c .before .before .before .before .before .before .before .before .before .before .before .before .before .before .before .before .before .before .before .before .before .before .before .args .canonical in
     (c .yes-no .result .length ≤ 8) × (textIn (c .yes-no .result) ≡ yesNo y)
 spelled c =
-    word-is _ _ (c .yes-no .ensures) (omega (arith, yes-no-short (c .before .before .before .before .before .before .before .before .before .before .before .before .before .before .before .before .before .before .before .before .before .before .before .args .canonical)))
+    let g = c .before .before .before .before .before .before .before .before .before .before .before .before .before .before .before .before .before .before .before .before .before .before .before .args in
+    word-is _ _ (c .yes-no .ensures) (omega (arith, yes-no-short (g .canonical)))
 
 slice-aggregate-put-number-line : tie.Need-slice-aggregate-put-number-line
 slice-aggregate-put-number-line c = search needs
@@ -63,23 +65,29 @@ put-number-line-requires c κs =
 
 put-station-lines-requires : tie.Need-put-station-lines-requires
 put-station-lines-requires c κs =
+    let put-number-line = c .before .before .before .put-number-line in
+    let p = c .before .before .before .before .before .before .before .before .pre in
     let g = c .before .before .before .before .before .before .before .before .args in
-    (c .before .before .before .before .before .before .before .before .pre .0, fits-first (c .before .before .before .put-number-line .last .0) _ (stationLines (g .decoded .frame)) (rest (g .decoded) (g .canonical)) (room-stations (c .before .before .before)))
+    (p .0, fits-first (put-number-line .last .0) _ (stationLines (g .decoded .frame)) (rest (g .decoded) (g .canonical)) (room-stations (c .before .before .before)))
 
 put-content-lines-requires : tie.Need-put-content-lines-requires
 put-content-lines-requires c κs =
+    let put-station-lines = c .before .before .before .put-station-lines in
     let g = c .before .before .before .before .before .before .before .before .before .before .before .before .args in
     let d = g .decoded in
-    fits-one (c .before .before .before .put-station-lines .last .0) _ (contentLines (d .frame .content)) (infoLine d) (lastLine (g .canonical)) (room-content (c .before .before .before))
+    fits-one (put-station-lines .last .0) _ (contentLines (d .frame .content)) (infoLine d) (lastLine (g .canonical))
+    (room-content (c .before .before .before))
 
 slice-aggregate-put-number-line-2 : tie.Need-slice-aggregate-put-number-line-2
 slice-aggregate-put-number-line-2 c = search needs
 
 put-number-line-requires-2 : tie.Need-put-number-line-requires-2
 put-number-line-requires-2 c κs =
+    let put-content-lines = c .before .before .before .before .put-content-lines in
     let g = c .before .before .before .before .before .before .before .before .before .before .before .before .before .before .before .before .before .args in
     let d = g .decoded in
-    fits-two _ _ (contentLines (d .frame .content)) (infoLine d) (lastLine (g .canonical)) (room-content (c .before .before .before .before .before .before .before .before)) (c .before .before .before .before .put-content-lines .ensures)
+    fits-two _ _ (contentLines (d .frame .content)) (infoLine d) (lastLine (g .canonical))
+    (room-content (c .before .before .before .before .before .before .before .before)) (put-content-lines .ensures)
 
 slice-aggregate-put-word-line : tie.Need-slice-aggregate-put-word-line
 slice-aggregate-put-word-line c = search needs
@@ -89,10 +97,12 @@ yes-no-requires c κs = search needs
 
 put-word-line-requires : tie.Need-put-word-line-requires
 put-word-line-requires c κs =
+    let put-number-line2 = c .before .before .before .before .before .put-number-line2 in
+    let put-content-lines = c .before .before .before .before .before .before .before .before .before .before .put-content-lines in
     let g = c .before .before .before .before .before .before .before .before .before .before .before .before .before .before .before .before .before .before .before .before .before .before .before .args in
     let d = g .decoded in
     let w = spelled (c) in
-    (w .0, rw (w .1) (fits-three _ _ (contentLines (d .frame .content)) (infoLine d) (lastLine (g .canonical)) (room-content (c .before .before .before .before .before .before .before .before .before .before .before .before .before .before)) (c .before .before .before .before .before .before .before .before .before .before .put-content-lines .ensures) (c .before .before .before .before .before .put-number-line2 .ensures)))
+    (w .0, rw (w .1) (fits-three _ _ (contentLines (d .frame .content)) (infoLine d) (lastLine (g .canonical)) (room-content (c .before .before .before .before .before .before .before .before .before .before .before .before .before .before)) (put-content-lines .ensures) (put-number-line2 .ensures)))
 
 same-length : tie.Need-same-length
 same-length c = search needs
@@ -100,10 +110,17 @@ same-length c = search needs
 returns : tie.Need-returns
 unfolding frameText
 returns c =
+    let put-number-line2 = c .before .before .before .before .before .before .before .before .put-number-line2 in
+    let put-content-lines = c .before .before .before .before .before .before .before .before .before .before .before .before .before .put-content-lines in
+    let put-station-lines = c .before .before .before .before .before .before .before .before .before .before .before .before .before .before .before .before .before .put-station-lines in
+    let put-number-line = c .before .before .before .before .before .before .before .before .before .before .before .before .before .before .before .before .before .before .before .before .before .put-number-line in
     let g = c .before .before .before .before .before .before .before .before .before .before .before .before .before .before .before .before .before .before .before .before .before .before .before .before .before .before .args in
     let d = g .decoded in
     let y = g .canonical in
-    put-then _ 0 head (stationLines (d .frame) ++ rest d y) (room (c .before .before .before .before .before .before .before .before .before .before .before .before .before .before .before .before .before .before .before .before .before .before .before .before .before)) (c .before .before .before .before .before .before .before .before .before .before .before .before .before .before .before .before .before .before .before .before .before .put-number-line .ensures) (put-then _ _ (stationLines (d .frame)) (rest d y) (room-stations (c .before .before .before .before .before .before .before .before .before .before .before .before .before .before .before .before .before .before .before .before .before)) (c .before .before .before .before .before .before .before .before .before .before .before .before .before .before .before .before .before .put-station-lines .ensures) (put-three _ _ (contentLines (d .frame .content)) (infoLine d) (lastLine y) (room-content (c .before .before .before .before .before .before .before .before .before .before .before .before .before .before .before .before .before)) (c .before .before .before .before .before .before .before .before .before .before .before .before .before .put-content-lines .ensures) (c .before .before .before .before .before .before .before .before .put-number-line2 .ensures) (rw (spelled (c .before .before .before) .1) at (c .before .before .put-word-line .ensures))))
+    put-then _ 0 head (stationLines (d .frame) ++ rest d y)
+    (room (c .before .before .before .before .before .before .before .before .before .before .before .before .before .before .before .before .before .before .before .before .before .before .before .before .before))
+    (put-number-line .ensures)
+    (put-then _ _ (stationLines (d .frame)) (rest d y) (room-stations (c .before .before .before .before .before .before .before .before .before .before .before .before .before .before .before .before .before .before .before .before .before)) (put-station-lines .ensures) (put-three _ _ (contentLines (d .frame .content)) (infoLine d) (lastLine y) (room-content (c .before .before .before .before .before .before .before .before .before .before .before .before .before .before .before .before .before)) (put-content-lines .ensures) (put-number-line2 .ensures) (rw (spelled (c .before .before .before) .1) at (c .before .before .put-word-line .ensures))))
 
 pub put-frame-spec : {M : Type 1} → statement M
 put-frame-spec =

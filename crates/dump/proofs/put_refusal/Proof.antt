@@ -16,11 +16,14 @@ head a = line "answer=" (decimal (numberOf a))
 
 room : (c : tie.After-slice-known) → 0 + length (head (c .before .args .answer) ++ detailText (c .before .args .answer)) ≤ length (c .before .args .out .now)
 unfolding refusalText
-room c = from-zero (refusalText (c .before .args .answer)) (c .before .args .out .now) (c .before .pre)
+room c =
+    from-zero (refusalText (c .before .args .answer)) (c .before .args .out .now) (c .before .pre)
 
 answered : (c : tie.After-put-number-line) →
     Put (c .before .before .before .before .before .args .out .now) (c .put-number-line .last .0) 0 (c .put-number-line .result) (head (c .before .before .before .before .before .args .answer))
-answered c = rw (c .before .before .before .number .ensures) at (c .put-number-line .ensures)
+answered c =
+    let number = c .before .before .before .number in
+    rw (number .ensures) at (c .put-number-line .ensures)
 
 number-requires : tie.Need-number-requires
 number-requires c κs = search needs
@@ -34,11 +37,13 @@ cast-put-number-line c = search needs
 put-number-line-requires : tie.Need-put-number-line-requires
 put-number-line-requires c κs =
     let g = c .before .before .before .before .args in
-    rw (c .before .before .number .ensures) (fits-first (g .out .now) 0 (head (g .answer)) (detailText (g .answer)) (room (c .before .before .before)))
+    rw (c .before .before .number .ensures)
+    (fits-first (g .out .now) 0 (head (g .answer)) (detailText (g .answer)) (room (c .before .before .before)))
 
 put-details-requires : tie.Need-put-details-requires
 put-details-requires c κs =
-    fits-next _ 0 (head (c .before .before .before .before .before .before .before .before .args .answer)) _ (room (c .before .before .before .before .before .before .before)) (answered (c .before .before .before))
+    let g = c .before .before .before .before .before .before .before .before .args in
+    fits-next _ 0 (head (g .answer)) _ (room (c .before .before .before .before .before .before .before)) (answered (c .before .before .before))
 
 same-length : tie.Need-same-length
 same-length c = search needs
@@ -46,7 +51,9 @@ same-length c = search needs
 returns : tie.Need-returns
 unfolding refusalText
 returns c =
-    put-then _ 0 (head (c .before .before .before .before .before .before .before .before .before .before .before .args .answer)) _ (room (c .before .before .before .before .before .before .before .before .before .before)) (answered (c .before .before .before .before .before .before)) (c .before .before .put-details .ensures)
+    let g = c .before .before .before .before .before .before .before .before .before .before .before .args in
+    put-then _ 0 (head (g .answer)) _ (room (c .before .before .before .before .before .before .before .before .before .before))
+    (answered (c .before .before .before .before .before .before)) (c .before .before .put-details .ensures)
 
 pub put-refusal-spec : {M : Type 1} → statement M
 put-refusal-spec =

@@ -21,8 +21,10 @@ slice-aggregate-put-characters c = rw (c .before .before .callsign-length .ensur
 
 put-characters-requires : tie.Need-put-characters-requires
 put-characters-requires c κs =
+    let p = c .before .before .before .before .before .before .pre in
     let g = c .before .before .before .before .before .before .args in
-    rw (c .before .before .callsign-length .ensures) (fits-first (g .out .now) (g .at) (characters (trimmed (g .address .callsign))) (ssidSuffix (g .address .ssid)) (rw (address-text (g .address)) at (c .before .before .before .before .before .before .pre)))
+    rw (c .before .before .callsign-length .ensures)
+    (fits-first (g .out .now) (g .at) (characters (trimmed (g .address .callsign))) (ssidSuffix (g .address .ssid)) (rw (address-text (g .address)) at (p)))
 
 put-suffix-requires : tie.Need-put-suffix-requires
 put-suffix-requires c κs = search needs
@@ -41,8 +43,13 @@ same-length c = search needs
 
 returns : tie.Need-returns
 returns c =
+    let put-suffix = c .before .before .before .put-suffix in
+    let put-characters = c .before .before .before .before .before .before .before .put-characters in
+    let callsign-length = c .before .before .before .before .before .before .before .before .before .before .callsign-length in
+    let p = c .before .before .before .before .before .before .before .before .before .before .before .before .before .before .pre in
     let g = c .before .before .before .before .before .before .before .before .before .before .before .before .before .before .args in
-    rw (address-text (g .address)) (put-then (g .out .now) (g .at) (characters (trimmed (g .address .callsign))) (ssidSuffix (g .address .ssid)) (rw (address-text (g .address)) at (c .before .before .before .before .before .before .before .before .before .before .before .before .before .before .pre)) (rw (c .before .before .before .before .before .before .before .before .before .before .callsign-length .ensures) at (c .before .before .before .before .before .before .before .put-characters .ensures)) (c .before .before .before .put-suffix .ensures, rw (c .suffix-length .ensures) refl))
+    rw (address-text (g .address))
+    (put-then (g .out .now) (g .at) (characters (trimmed (g .address .callsign))) (ssidSuffix (g .address .ssid)) (rw (address-text (g .address)) at (p)) (rw (callsign-length .ensures) at (put-characters .ensures)) (put-suffix .ensures, rw (c .suffix-length .ensures) refl))
 
 pub put-address-spec : {M : Type 1} → statement M
 put-address-spec =

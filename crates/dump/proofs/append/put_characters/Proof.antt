@@ -62,10 +62,11 @@ loop-less c = search needs
 
 loop-again : tie.Need-loop-again Inv-loop μ-loop
 loop-again c =
+    let t = c .before .before .before .before .before .before .loop-test in
     let l = c .before .before .before .before .before .before .before .loop in
     let a = c .before .before .before .before .before .before .before .before .before .before .args in
     let w = spelled (c .before .before .before .before) in
-    (search needs, rw (characters-next (a .text .now) (l .i) (c .before .before .before .before .before .before .loop-test .taken)) (put-then (a .out .now) (a .at) (characters (take (l .i) (a .text .now))) (character (getD (a .text .now) (l .i) 0)) (room (c .before .before .before .before)) (l .inv .1) (rw (w .1) at (c .before .before .put-word .ensures))))
+    (search needs, rw (characters-next (a .text .now) (l .i) (t .taken)) (put-then (a .out .now) (a .at) (characters (take (l .i) (a .text .now))) (character (getD (a .text .now) (l .i) 0)) (room (c .before .before .before .before)) (l .inv .1) (rw (w .1) at (c .before .before .put-word .ensures))))
 
 same-length : tie.Need-same-length Inv-loop μ-loop
 same-length c = rw (c .before .loop .inv .1 .0) (splice-length _ _ _)

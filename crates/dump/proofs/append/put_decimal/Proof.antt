@@ -14,7 +14,9 @@ shown : (c : tie.After-leading) →
     take (4 - n) (drop n (c .before .before .before .before .digit .result ∷ c .before .before .before .digit2 .result ∷ c .before .before .digit3 .result ∷ c .before .digit4 .result ∷ []))
     ≡ decimal (c .before .before .before .before .before .before .args .n)
 shown c =
-    rw (c .leading .ensures .0, c .before .before .before .before .digit .ensures, c .before .before .before .digit2 .ensures, c .before .before .digit3 .ensures, c .before .digit4 .ensures)
+    let digit2 = c .before .before .before .digit2 in
+    let digit = c .before .before .before .before .digit in
+    rw (c .leading .ensures .0, digit .ensures, digit2 .ensures, c .before .before .digit3 .ensures, c .before .digit4 .ensures)
     (part-from (fourDigits _) (leading _))
 
 digit-requires : tie.Need-digit-requires

@@ -32,15 +32,23 @@ slice-aggregate-put-if c = search needs
 
 put-if-requires : tie.Need-put-if-requires Inv-loop μ-loop
 put-if-requires c κs =
+    let t = c .before .before .before .loop-test in
+    let p = c .before .before .before .before .before .before .pre in
     let g = c .before .before .before .before .before .before .args in
     let l = c .before .before .before .before .loop in
-    rw (comma-if (eqb (l .i) 0) (ascii ",")) (fits-two (g .out .now) (g .at) (routeText (g .t3) (l .i)) (comma (l .i)) (entryText (repeaterAt (g .t3) (l .i))) (route-fit (g .out .now) (g .at) (g .t3) (l .i) (g .count) (c .before .before .before .loop-test .taken) (c .before .before .before .before .before .before .pre .1)) (l .inv .1))
+    rw (comma-if (eqb (l .i) 0) (ascii ","))
+    (fits-two (g .out .now) (g .at) (routeText (g .t3) (l .i)) (comma (l .i)) (entryText (repeaterAt (g .t3) (l .i))) (route-fit (g .out .now) (g .at) (g .t3) (l .i) (g .count) (t .taken) (p .1)) (l .inv .1))
 
 put-entry-requires : tie.Need-put-entry-requires Inv-loop μ-loop
 put-entry-requires c κs =
+    let put-if = c .before .before .before .put-if in
+    let t = c .before .before .before .before .before .before .before .loop-test in
+    let p = c .before .before .before .before .before .before .before .before .before .before .pre in
     let g = c .before .before .before .before .before .before .before .before .before .before .args in
     let l = c .before .before .before .before .before .before .before .before .loop in
-    fits-three (g .out .now) (g .at) (routeText (g .t3) (l .i)) (comma (l .i)) (entryText (repeaterAt (g .t3) (l .i))) (route-fit (g .out .now) (g .at) (g .t3) (l .i) (g .count) (c .before .before .before .before .before .before .before .loop-test .taken) (c .before .before .before .before .before .before .before .before .before .before .pre .1)) (l .inv .1) (rw (comma-if (eqb (l .i) 0) (ascii ",")) at (c .before .before .before .put-if .ensures))
+    fits-three (g .out .now) (g .at) (routeText (g .t3) (l .i)) (comma (l .i)) (entryText (repeaterAt (g .t3) (l .i)))
+    (route-fit (g .out .now) (g .at) (g .t3) (l .i) (g .count) (t .taken) (p .1)) (l .inv .1)
+    (rw (comma-if (eqb (l .i) 0) (ascii ",")) at (put-if .ensures))
 
 add-i : tie.Need-add-i Inv-loop μ-loop
 add-i c = search needs
@@ -50,9 +58,12 @@ loop-less c = search needs
 
 loop-again : tie.Need-loop-again Inv-loop μ-loop
 loop-again c =
+    let put-if = c .before .before .before .before .before .before .put-if in
+    let t = c .before .before .before .before .before .before .before .before .before .before .loop-test in
+    let p = c .before .before .before .before .before .before .before .before .before .before .before .before .before .pre in
     let g = c .before .before .before .before .before .before .before .before .before .before .before .before .before .args in
     let l = c .before .before .before .before .before .before .before .before .before .before .before .loop in
-    (search needs, rw (route-next (g .t3) (l .i)) (put-three (g .out .now) (g .at) (routeText (g .t3) (l .i)) (comma (l .i)) (entryText (repeaterAt (g .t3) (l .i))) (route-fit (g .out .now) (g .at) (g .t3) (l .i) (g .count) (c .before .before .before .before .before .before .before .before .before .before .loop-test .taken) (c .before .before .before .before .before .before .before .before .before .before .before .before .before .pre .1)) (l .inv .1) (rw (comma-if (eqb (l .i) 0) (ascii ",")) at (c .before .before .before .before .before .before .put-if .ensures)) (c .before .before .put-entry .ensures)))
+    (search needs, rw (route-next (g .t3) (l .i)) (put-three (g .out .now) (g .at) (routeText (g .t3) (l .i)) (comma (l .i)) (entryText (repeaterAt (g .t3) (l .i))) (route-fit (g .out .now) (g .at) (g .t3) (l .i) (g .count) (t .taken) (p .1)) (l .inv .1) (rw (comma-if (eqb (l .i) 0) (ascii ",")) at (put-if .ensures)) (c .before .before .put-entry .ensures)))
 
 same-length : tie.Need-same-length Inv-loop μ-loop
 same-length c = rw (c .before .loop .inv .1 .0) (splice-length _ _ _)

@@ -12,24 +12,33 @@ put-requires c κs =
 
 put-address-requires : tie.Need-put-address-requires
 put-address-requires c κs =
+    let put = c .before .before .before .put in
+    let p = c .before .before .before .before .before .before .before .pre in
     let g = c .before .before .before .before .before .before .before .args in
-    fits-two (g .out .now) (g .at) (g .key .now) (addressText (g .address)) (ascii "\n") (c .before .before .before .before .before .before .before .pre) (c .before .before .before .put .ensures)
+    fits-two (g .out .now) (g .at) (g .key .now) (addressText (g .address)) (ascii "\n") p (put .ensures)
 
 slice-aggregate-put : tie.Need-slice-aggregate-put
 slice-aggregate-put c = search needs
 
 put-requires-2 : tie.Need-put-requires-2
 put-requires-2 c κs =
+    let put-address = c .before .before .before .before .put-address in
+    let put = c .before .before .before .before .before .before .before .before .put in
+    let p = c .before .before .before .before .before .before .before .before .before .before .before .before .pre in
     let g = c .before .before .before .before .before .before .before .before .before .before .before .before .args in
-    fits-three (g .out .now) (g .at) (g .key .now) (addressText (g .address)) (ascii "\n") (c .before .before .before .before .before .before .before .before .before .before .before .before .pre) (c .before .before .before .before .before .before .before .before .put .ensures) (c .before .before .before .before .put-address .ensures)
+    fits-three (g .out .now) (g .at) (g .key .now) (addressText (g .address)) (ascii "\n") p (put .ensures) (put-address .ensures)
 
 same-length : tie.Need-same-length
 same-length c = search needs
 
 returns : tie.Need-returns
 returns c =
+    let put-address = c .before .before .before .before .before .before .before .put-address in
+    let put = c .before .before .before .before .before .before .before .before .before .before .before .put in
+    let p = c .before .before .before .before .before .before .before .before .before .before .before .before .before .before .before .pre in
     let g = c .before .before .before .before .before .before .before .before .before .before .before .before .before .before .before .args in
-    put-three (g .out .now) (g .at) (g .key .now) (addressText (g .address)) (ascii "\n") (c .before .before .before .before .before .before .before .before .before .before .before .before .before .before .before .pre) (c .before .before .before .before .before .before .before .before .before .before .before .put .ensures) (c .before .before .before .before .before .before .before .put-address .ensures) (c .before .before .put2 .ensures)
+    put-three (g .out .now) (g .at) (g .key .now) (addressText (g .address)) (ascii "\n") p (put .ensures) (put-address .ensures)
+    (c .before .before .put2 .ensures)
 
 pub put-address-line-spec : {M : Type 1} → statement M
 put-address-line-spec =

@@ -11,15 +11,19 @@ use Rattle.dump.proofs.lines.put_content_lines.Statement.{statement}
 use Rattle.dump.proofs.lines.put_content_lines.Tie as tie
 
 kind-in : (c : tie.After-kind) → (c .kind .result .length ≤ 8) × (textIn (c .kind .result) ≡ kindText (c .before .before .before .before .args .content))
-kind-in c = word-is _ _ (c .kind .ensures) (omega (arith, kind-short (c .before .before .before .before .args .content)))
+kind-in c =
+    let g = c .before .before .before .before .args in
+    word-is _ _ (c .kind .ensures) (omega (arith, kind-short (g .content)))
 
 control-in : (c : tie.After-control) → (c .control .result .length ≤ 8) × (textIn (c .control .result) ≡ controlText (c .before .before .before .before .before .before .before .before .before .before .args .content))
 control-in c =
-    word-is _ _ (c .control .ensures) (omega (arith, kind-short (c .before .before .before .before .before .before .before .before .before .before .args .content)))
+    let g = c .before .before .before .before .before .before .before .before .before .before .args in
+    word-is _ _ (c .control .ensures) (omega (arith, kind-short (g .content)))
 
 pid-in : (c : tie.After-pid) → (c .pid .result .length ≤ 8) × (textIn (c .pid .result) ≡ pidText (c .before .before .before .before .before .before .before .before .before .before .before .before .before .before .before .before .args .content))
 pid-in c =
-    word-is _ _ (c .pid .ensures) (omega (arith, pid-short (c .before .before .before .before .before .before .before .before .before .before .before .before .before .before .before .before .args .content)))
+    let g = c .before .before .before .before .before .before .before .before .before .before .before .before .before .before .before .before .args in
+    word-is _ _ (c .pid .ensures) (omega (arith, pid-short (g .content)))
 
 slice-aggregate-put-word-line : tie.Need-slice-aggregate-put-word-line
 slice-aggregate-put-word-line c = search needs
@@ -30,10 +34,11 @@ kind-requires c κs = search needs
 put-word-line-requires : tie.Need-put-word-line-requires
 unfolding contentLines
 put-word-line-requires c κs =
+    let p = c .before .before .before .before .pre in
     let g = c .before .before .before .before .args in
     let k = g .content in
     let w = kind-in (c) in
-    (w .0, rw (w .1) (fits-one (g .out .now) _ (line "kind=" (kindText k)) (line "control=" (controlText k)) (line "pid=" (pidText k)) (c .before .before .before .before .pre)))
+    (w .0, rw (w .1) (fits-one (g .out .now) _ (line "kind=" (kindText k)) (line "control=" (controlText k)) (line "pid=" (pidText k)) (p)))
 
 slice-aggregate-put-word-line-2 : tie.Need-slice-aggregate-put-word-line-2
 slice-aggregate-put-word-line-2 c = search needs
@@ -44,9 +49,11 @@ control-requires c κs = search needs
 put-word-line-requires-2 : tie.Need-put-word-line-requires-2
 unfolding contentLines
 put-word-line-requires-2 c κs =
+    let put-word-line = c .before .before .before .before .before .put-word-line in
+    let p = c .before .before .before .before .before .before .before .before .before .before .pre in
     let k = c .before .before .before .before .before .before .before .before .before .before .args .content in
     let w = control-in (c) in
-    (w .0, rw (w .1) (fits-two _ _ (line "kind=" (kindText k)) (line "control=" (controlText k)) (line "pid=" (pidText k)) (c .before .before .before .before .before .before .before .before .before .before .pre) (rw (kind-in (c .before .before .before .before .before .before) .1) at (c .before .before .before .before .before .put-word-line .ensures))))
+    (w .0, rw (w .1) (fits-two _ _ (line "kind=" (kindText k)) (line "control=" (controlText k)) (line "pid=" (pidText k)) p (rw (kind-in (c .before .before .before .before .before .before) .1) at (put-word-line .ensures))))
 
 slice-aggregate-put-word-line-3 : tie.Need-slice-aggregate-put-word-line-3
 slice-aggregate-put-word-line-3 c = search needs
@@ -57,9 +64,12 @@ pid-requires c κs = search needs
 put-word-line-requires-3 : tie.Need-put-word-line-requires-3
 unfolding contentLines
 put-word-line-requires-3 c κs =
+    let put-word-line2 = c .before .before .before .before .before .put-word-line2 in
+    let put-word-line = c .before .before .before .before .before .before .before .before .before .before .before .put-word-line in
+    let p = c .before .before .before .before .before .before .before .before .before .before .before .before .before .before .before .before .pre in
     let k = c .before .before .before .before .before .before .before .before .before .before .before .before .before .before .before .before .args .content in
     let w = pid-in (c) in
-    (w .0, rw (w .1) (fits-three _ _ (line "kind=" (kindText k)) (line "control=" (controlText k)) (line "pid=" (pidText k)) (c .before .before .before .before .before .before .before .before .before .before .before .before .before .before .before .before .pre) (rw (kind-in (c .before .before .before .before .before .before .before .before .before .before .before .before) .1) at (c .before .before .before .before .before .before .before .before .before .before .before .put-word-line .ensures)) (rw (control-in (c .before .before .before .before .before .before) .1) at (c .before .before .before .before .before .put-word-line2 .ensures))))
+    (w .0, rw (w .1) (fits-three _ _ (line "kind=" (kindText k)) (line "control=" (controlText k)) (line "pid=" (pidText k)) p (rw (kind-in (c .before .before .before .before .before .before .before .before .before .before .before .before) .1) at (put-word-line .ensures)) (rw (control-in (c .before .before .before .before .before .before) .1) at (put-word-line2 .ensures))))
 
 same-length : tie.Need-same-length
 same-length c = search needs
@@ -67,8 +77,14 @@ same-length c = search needs
 returns : tie.Need-returns
 unfolding contentLines
 returns c =
+    let put-word-line2 = c .before .before .before .before .before .before .before .before .put-word-line2 in
+    let put-word-line = c .before .before .before .before .before .before .before .before .before .before .before .before .before .before .put-word-line in
+    let p = c .before .before .before .before .before .before .before .before .before .before .before .before .before .before .before .before .before .before .before .pre in
     let k = c .before .before .before .before .before .before .before .before .before .before .before .before .before .before .before .before .before .before .before .args .content in
-    put-three _ _ (line "kind=" (kindText k)) (line "control=" (controlText k)) (line "pid=" (pidText k)) (c .before .before .before .before .before .before .before .before .before .before .before .before .before .before .before .before .before .before .before .pre) (rw (kind-in (c .before .before .before .before .before .before .before .before .before .before .before .before .before .before .before) .1) at (c .before .before .before .before .before .before .before .before .before .before .before .before .before .before .put-word-line .ensures)) (rw (control-in (c .before .before .before .before .before .before .before .before .before) .1) at (c .before .before .before .before .before .before .before .before .put-word-line2 .ensures)) (rw (pid-in (c .before .before .before) .1) at (c .before .before .put-word-line3 .ensures))
+    put-three _ _ (line "kind=" (kindText k)) (line "control=" (controlText k)) (line "pid=" (pidText k)) (p)
+    (rw (kind-in (c .before .before .before .before .before .before .before .before .before .before .before .before .before .before .before) .1) at (put-word-line .ensures))
+    (rw (control-in (c .before .before .before .before .before .before .before .before .before) .1) at (put-word-line2 .ensures))
+    (rw (pid-in (c .before .before .before) .1) at (c .before .before .put-word-line3 .ensures))
 
 pub put-content-lines-spec : {M : Type 1} → statement M
 put-content-lines-spec =

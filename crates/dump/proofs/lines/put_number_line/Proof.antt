@@ -12,24 +12,33 @@ put-requires c κs =
 
 put-decimal-requires : tie.Need-put-decimal-requires
 put-decimal-requires c κs =
+    let put = c .before .before .before .put in
+    let p = c .before .before .before .before .before .before .before .pre in
     let g = c .before .before .before .before .before .before .before .args in
-    fits-two (g .out .now) (g .at) (g .key .now) (decimal (g .n)) (ascii "\n") (c .before .before .before .before .before .before .before .pre) (c .before .before .before .put .ensures)
+    fits-two (g .out .now) (g .at) (g .key .now) (decimal (g .n)) (ascii "\n") p (put .ensures)
 
 slice-aggregate-put : tie.Need-slice-aggregate-put
 slice-aggregate-put c = search needs
 
 put-requires-2 : tie.Need-put-requires-2
 put-requires-2 c κs =
+    let put-decimal = c .before .before .before .before .put-decimal in
+    let put = c .before .before .before .before .before .before .before .before .put in
+    let p = c .before .before .before .before .before .before .before .before .before .before .before .before .pre in
     let g = c .before .before .before .before .before .before .before .before .before .before .before .before .args in
-    fits-three (g .out .now) (g .at) (g .key .now) (decimal (g .n)) (ascii "\n") (c .before .before .before .before .before .before .before .before .before .before .before .before .pre) (c .before .before .before .before .before .before .before .before .put .ensures) (c .before .before .before .before .put-decimal .ensures)
+    fits-three (g .out .now) (g .at) (g .key .now) (decimal (g .n)) (ascii "\n") p (put .ensures) (put-decimal .ensures)
 
 same-length : tie.Need-same-length
 same-length c = search needs
 
 returns : tie.Need-returns
 returns c =
+    let put-decimal = c .before .before .before .before .before .before .before .put-decimal in
+    let put = c .before .before .before .before .before .before .before .before .before .before .before .put in
+    let p = c .before .before .before .before .before .before .before .before .before .before .before .before .before .before .before .pre in
     let g = c .before .before .before .before .before .before .before .before .before .before .before .before .before .before .before .args in
-    put-three (g .out .now) (g .at) (g .key .now) (decimal (g .n)) (ascii "\n") (c .before .before .before .before .before .before .before .before .before .before .before .before .before .before .before .pre) (c .before .before .before .before .before .before .before .before .before .before .before .put .ensures) (c .before .before .before .before .before .before .before .put-decimal .ensures) (c .before .before .put2 .ensures)
+    put-three (g .out .now) (g .at) (g .key .now) (decimal (g .n)) (ascii "\n") p (put .ensures) (put-decimal .ensures)
+    (c .before .before .put2 .ensures)
 
 pub put-number-line-spec : {M : Type 1} → statement M
 put-number-line-spec =

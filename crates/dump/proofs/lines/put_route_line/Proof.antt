@@ -12,25 +12,33 @@ put-requires c κs =
 
 put-route-requires : tie.Need-put-route-requires
 put-route-requires c κs =
+    let put = c .before .before .before .put in
     let g = c .before .before .before .before .before .before .before .args in
     let p = c .before .before .before .before .before .before .before .pre in
-    (p .0, fits-two (g .out .now) (g .at) (g .key .now) (routeText (g .route) (g .count)) (ascii "\n") (p .1) (c .before .before .before .put .ensures))
+    (p .0, fits-two (g .out .now) (g .at) (g .key .now) (routeText (g .route) (g .count)) (ascii "\n") (p .1) (put .ensures))
 
 slice-aggregate-put : tie.Need-slice-aggregate-put
 slice-aggregate-put c = search needs
 
 put-requires-2 : tie.Need-put-requires-2
 put-requires-2 c κs =
+    let put-route = c .before .before .before .before .put-route in
+    let put = c .before .before .before .before .before .before .before .before .put in
+    let p = c .before .before .before .before .before .before .before .before .before .before .before .before .pre in
     let g = c .before .before .before .before .before .before .before .before .before .before .before .before .args in
-    fits-three (g .out .now) (g .at) (g .key .now) (routeText (g .route) (g .count)) (ascii "\n") (c .before .before .before .before .before .before .before .before .before .before .before .before .pre .1) (c .before .before .before .before .before .before .before .before .put .ensures) (c .before .before .before .before .put-route .ensures)
+    fits-three (g .out .now) (g .at) (g .key .now) (routeText (g .route) (g .count)) (ascii "\n") (p .1) (put .ensures) (put-route .ensures)
 
 same-length : tie.Need-same-length
 same-length c = search needs
 
 returns : tie.Need-returns
 returns c =
+    let put-route = c .before .before .before .before .before .before .before .put-route in
+    let put = c .before .before .before .before .before .before .before .before .before .before .before .put in
+    let p = c .before .before .before .before .before .before .before .before .before .before .before .before .before .before .before .pre in
     let g = c .before .before .before .before .before .before .before .before .before .before .before .before .before .before .before .args in
-    put-three (g .out .now) (g .at) (g .key .now) (routeText (g .route) (g .count)) (ascii "\n") (c .before .before .before .before .before .before .before .before .before .before .before .before .before .before .before .pre .1) (c .before .before .before .before .before .before .before .before .before .before .before .put .ensures) (c .before .before .before .before .before .before .before .put-route .ensures) (c .before .before .put2 .ensures)
+    put-three (g .out .now) (g .at) (g .key .now) (routeText (g .route) (g .count)) (ascii "\n") (p .1) (put .ensures) (put-route .ensures)
+    (c .before .before .put2 .ensures)
 
 pub put-route-line-spec : {M : Type 1} → statement M
 put-route-line-spec =

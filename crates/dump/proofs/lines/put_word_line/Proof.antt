@@ -21,16 +21,23 @@ slice-aggregate-put c = search needs
 
 put-requires-2 : tie.Need-put-requires-2
 put-requires-2 c κs =
+    let put-word = c .before .before .before .before .put-word in
+    let put = c .before .before .before .before .before .before .before .before .put in
+    let p = c .before .before .before .before .before .before .before .before .before .before .before .before .pre in
     let g = c .before .before .before .before .before .before .before .before .before .before .before .before .args in
-    fits-three (g .out .now) (g .at) (g .key .now) (textIn (g .word)) (ascii "\n") (c .before .before .before .before .before .before .before .before .before .before .before .before .pre .1) (c .before .before .before .before .before .before .before .before .put .ensures) (c .before .before .before .before .put-word .ensures)
+    fits-three (g .out .now) (g .at) (g .key .now) (textIn (g .word)) (ascii "\n") (p .1) (put .ensures) (put-word .ensures)
 
 same-length : tie.Need-same-length
 same-length c = search needs
 
 returns : tie.Need-returns
 returns c =
+    let put-word = c .before .before .before .before .before .before .before .put-word in
+    let put = c .before .before .before .before .before .before .before .before .before .before .before .put in
+    let p = c .before .before .before .before .before .before .before .before .before .before .before .before .before .before .before .pre in
     let g = c .before .before .before .before .before .before .before .before .before .before .before .before .before .before .before .args in
-    put-three (g .out .now) (g .at) (g .key .now) (textIn (g .word)) (ascii "\n") (c .before .before .before .before .before .before .before .before .before .before .before .before .before .before .before .pre .1) (c .before .before .before .before .before .before .before .before .before .before .before .put .ensures) (c .before .before .before .before .before .before .before .put-word .ensures) (c .before .before .put2 .ensures)
+    put-three (g .out .now) (g .at) (g .key .now) (textIn (g .word)) (ascii "\n") (p .1) (put .ensures) (put-word .ensures)
+    (c .before .before .put2 .ensures)
 
 pub put-word-line-spec : {M : Type 1} → statement M
 put-word-line-spec =

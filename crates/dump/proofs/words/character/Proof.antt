@@ -20,7 +20,8 @@ hex-digit-requires-2 c κs = search needs
 returns-2 : tie.Need-returns-2
 unfolding character
 returns-2 c =
-    rw (← c .before .before .before .is-alphanumeric .ensures, c .before .before .if1 .left, ← c .before .hex-digit .ensures, ← c .hex-digit2 .ensures) refl
+    let is-alphanumeric = c .before .before .before .is-alphanumeric in
+    rw (← is-alphanumeric .ensures, c .before .before .if1 .left, ← c .before .hex-digit .ensures, ← c .hex-digit2 .ensures) refl
 
 pub character-spec : {M : Type 1} → statement M
 character-spec =
