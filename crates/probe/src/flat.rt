@@ -1,0 +1,313 @@
+// From a frame to its flat record.
+use address::Address;
+use content::CommandResponse;
+use content::FrameContent;
+use frame::Ax25Frame;
+use frame::DecodeAnswer;
+use frame::Mark;
+use frame::RouteEntry;
+use protocol::ProtocolIdentifier;
+ghost use Prim.Native.Nat.{_≤_};
+ghost use lib.ListN.{length};
+
+pub fn put_address(out: &mut [u8], at: usize, address: Address) {
+    let c = address.callsign;
+    lent::put(out, at, &[c[0], c[1], c[2], c[3], c[4], c[5], address.ssid]);
+}
+
+fn put_entry(out: &mut [u8], at: usize, entry: RouteEntry) {
+    let repeater = entry.repeater;
+    let c = repeater.callsign;
+    lent::put(
+        out,
+        at,
+        &[
+            c[0],
+            c[1],
+            c[2],
+            c[3],
+            c[4],
+            c[5],
+            repeater.ssid,
+            entry.has_repeated as u8,
+        ],
+    );
+}
+
+// All eight places, in use or not.
+fn put_route(out: &mut [u8], route: [RouteEntry; 8]) {
+    let mut i = 0;
+    while i < 8 {
+        let entry = route[i];
+        put_entry(out, 14 + 8 * i, entry);
+        i += 1;
+    }
+}
+
+// A count of 255 and more is 255: writing refuses them all alike.
+fn count_octet(count: usize) -> u8 {
+    if count < 255 { count as u8 } else { 255 }
+}
+
+fn mark_octet(mark: Mark) -> u8 {
+    match mark {
+        Mark::Command => 0,
+        Mark::Response => 1,
+        Mark::Absent => 2,
+    }
+}
+
+fn pid_case(pid: ProtocolIdentifier) -> u8 {
+    match pid {
+        ProtocolIdentifier::Layer3Impl => 0,
+        ProtocolIdentifier::X25Plp => 1,
+        ProtocolIdentifier::CompressedTcpIp => 2,
+        ProtocolIdentifier::UncompressedTcpIp => 3,
+        ProtocolIdentifier::SegmentationFragment => 4,
+        ProtocolIdentifier::TexnetDatagram => 5,
+        ProtocolIdentifier::LinkQuality => 6,
+        ProtocolIdentifier::Appletalk => 7,
+        ProtocolIdentifier::AppletalkArp => 8,
+        ProtocolIdentifier::ArpaIp => 9,
+        ProtocolIdentifier::ArpaAddress => 10,
+        ProtocolIdentifier::Flexnet => 11,
+        ProtocolIdentifier::NetRom => 12,
+        ProtocolIdentifier::None => 13,
+        ProtocolIdentifier::Escape => 14,
+        ProtocolIdentifier::Unknown(_) => 15,
+    }
+}
+
+// The octet that `Unknown` holds.
+fn pid_octet(pid: ProtocolIdentifier) -> u8 {
+    match pid {
+        ProtocolIdentifier::Layer3Impl => 0,
+        ProtocolIdentifier::X25Plp => 0,
+        ProtocolIdentifier::CompressedTcpIp => 0,
+        ProtocolIdentifier::UncompressedTcpIp => 0,
+        ProtocolIdentifier::SegmentationFragment => 0,
+        ProtocolIdentifier::TexnetDatagram => 0,
+        ProtocolIdentifier::LinkQuality => 0,
+        ProtocolIdentifier::Appletalk => 0,
+        ProtocolIdentifier::AppletalkArp => 0,
+        ProtocolIdentifier::ArpaIp => 0,
+        ProtocolIdentifier::ArpaAddress => 0,
+        ProtocolIdentifier::Flexnet => 0,
+        ProtocolIdentifier::NetRom => 0,
+        ProtocolIdentifier::None => 0,
+        ProtocolIdentifier::Escape => 0,
+        ProtocolIdentifier::Unknown(octet) => octet,
+    }
+}
+
+fn response_octet(c: CommandResponse) -> u8 {
+    match c {
+        CommandResponse::Command => 0,
+        CommandResponse::Response => 1,
+    }
+}
+
+// The kind, then every field that some kind has, in the record's order; 0 where this kind lacks it.
+fn content_octets(content: FrameContent) -> [u8; 12] {
+    match content {
+        FrameContent::Information(k) => {
+            let pid = k.pid;
+            [
+                0,
+                pid_case(pid),
+                pid_octet(pid),
+                k.poll as u8,
+                k.receive_sequence,
+                k.send_sequence,
+                0,
+                0,
+                0,
+                0,
+                0,
+                0,
+            ]
+        }
+        FrameContent::ReceiveReady(k) => [
+            1,
+            0,
+            0,
+            k.poll_or_final as u8,
+            k.receive_sequence,
+            0,
+            0,
+            0,
+            0,
+            0,
+            0,
+            0,
+        ],
+        FrameContent::ReceiveNotReady(k) => [
+            2,
+            0,
+            0,
+            k.poll_or_final as u8,
+            k.receive_sequence,
+            0,
+            0,
+            0,
+            0,
+            0,
+            0,
+            0,
+        ],
+        FrameContent::Reject(k) => [
+            3,
+            0,
+            0,
+            k.poll_or_final as u8,
+            k.receive_sequence,
+            0,
+            0,
+            0,
+            0,
+            0,
+            0,
+            0,
+        ],
+        FrameContent::SetAsynchronousBalancedMode(k) => [
+            4,
+            0,
+            0,
+            k.poll as u8,
+            0,
+            0,
+            0,
+            0,
+            0,
+            0,
+            0,
+            0,
+        ],
+        FrameContent::Disconnect(k) => [5, 0, 0, k.poll as u8, 0, 0, 0, 0, 0, 0, 0, 0],
+        FrameContent::DisconnectedMode(k) => [6, 0, 0, k.final_bit as u8, 0, 0, 0, 0, 0, 0, 0, 0],
+        FrameContent::UnnumberedAcknowledge(k) => [
+            7,
+            0,
+            0,
+            k.final_bit as u8,
+            0,
+            0,
+            0,
+            0,
+            0,
+            0,
+            0,
+            0,
+        ],
+        FrameContent::FrameReject(k) => {
+            let command_response = k.command_response;
+            [
+                8,
+                0,
+                0,
+                k.final_bit as u8,
+                k.receive_sequence,
+                k.send_sequence,
+                k.z as u8,
+                k.y as u8,
+                k.x as u8,
+                k.w as u8,
+                response_octet(command_response),
+                k.rejected_control_field_raw,
+            ]
+        }
+        FrameContent::UnnumberedInformation(k) => {
+            let pid = k.pid;
+            [
+                9,
+                pid_case(pid),
+                pid_octet(pid),
+                k.poll_or_final as u8,
+                0,
+                0,
+                0,
+                0,
+                0,
+                0,
+                0,
+                0,
+            ]
+        }
+        FrameContent::UnknownContent => [10, 0, 0, 0, 0, 0, 0, 0, 0, 0, 0, 0],
+    }
+}
+
+// What follows the route: its count, the mark, the content.
+fn put_rest(out: &mut [u8], frame: Ax25Frame) {
+    let mark = frame.command_or_response;
+    let content = frame.content;
+    lent::put(out, 78, &[count_octet(frame.route_count), mark_octet(mark)]);
+    let octets = content_octets(content);
+    lent::put(out, 80, &octets);
+}
+
+pub fn put_frame(out: &mut [u8], frame: Ax25Frame) {
+    let destination = frame.destination;
+    let source = frame.source;
+    let route = frame.route;
+    put_address(out, 0, destination);
+    put_address(out, 7, source);
+    put_route(out, route);
+    put_rest(out, frame);
+}
+
+// The details of an answer: the start and the end of number 3, the length of number 4.
+fn start_of(answer: DecodeAnswer) -> usize {
+    match answer {
+        DecodeAnswer::Accepted => 0,
+        DecodeAnswer::OnlyNullBytes => 0,
+        DecodeAnswer::NoEndToAddressField => 0,
+        DecodeAnswer::AddressFieldTooShort { start, end: _ } => start,
+        DecodeAnswer::FrameTooShort { len: _ } => 0,
+        DecodeAnswer::MissingPidField => 0,
+        DecodeAnswer::UnrecognisedSFieldType => 0,
+        DecodeAnswer::UnrecognisedUFieldType => 0,
+        DecodeAnswer::WrongSizeFrmrInfo => 0,
+        DecodeAnswer::TooManyRepeaters => 0,
+    }
+}
+
+fn end_of(answer: DecodeAnswer) -> usize {
+    match answer {
+        DecodeAnswer::Accepted => 0,
+        DecodeAnswer::OnlyNullBytes => 0,
+        DecodeAnswer::NoEndToAddressField => 0,
+        DecodeAnswer::AddressFieldTooShort { start: _, end } => end,
+        DecodeAnswer::FrameTooShort { len: _ } => 0,
+        DecodeAnswer::MissingPidField => 0,
+        DecodeAnswer::UnrecognisedSFieldType => 0,
+        DecodeAnswer::UnrecognisedUFieldType => 0,
+        DecodeAnswer::WrongSizeFrmrInfo => 0,
+        DecodeAnswer::TooManyRepeaters => 0,
+    }
+}
+
+fn len_of(answer: DecodeAnswer) -> usize {
+    match answer {
+        DecodeAnswer::Accepted => 0,
+        DecodeAnswer::OnlyNullBytes => 0,
+        DecodeAnswer::NoEndToAddressField => 0,
+        DecodeAnswer::AddressFieldTooShort { start: _, end: _ } => 0,
+        DecodeAnswer::FrameTooShort { len } => len,
+        DecodeAnswer::MissingPidField => 0,
+        DecodeAnswer::UnrecognisedSFieldType => 0,
+        DecodeAnswer::UnrecognisedUFieldType => 0,
+        DecodeAnswer::WrongSizeFrmrInfo => 0,
+        DecodeAnswer::TooManyRepeaters => 0,
+    }
+}
+
+pub fn put_places(places: &mut [usize], answer: DecodeAnswer, info_start: usize, info_len: usize)
+    requires { ⌜ 5 ≤ length (now places) ⌝ }
+{
+    places[0] = start_of(answer);
+    places[1] = end_of(answer);
+    places[2] = len_of(answer);
+    places[3] = info_start;
+    places[4] = info_len;
+}
