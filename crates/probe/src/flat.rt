@@ -7,15 +7,23 @@ use frame::DecodeAnswer;
 use frame::Mark;
 use frame::RouteEntry;
 use protocol::ProtocolIdentifier;
+ghost use mathlib.Core.Path.{_≡_};
 ghost use Prim.Native.Nat.{_≤_};
 ghost use lib.ListN.{length};
+ghost use Rattle.octets.specs.Splice.{splice};
+ghost use Rattle.frame.specs.Frame.{reportOf};
+ghost use Rattle.probe.specs.Flat.{addressFlat, entryFlat, routeFlat, countFlat, markFlat, responseFlat, pidCase, pidOctet, contentFlat, restFlat, flatOf, placesOf};
 
-pub fn put_address(out: &mut [u8], at: usize, address: Address) {
+pub fn put_address(out: &mut [u8], at: usize, address: Address)
+    ensures { λ r. ⌜ now (out .exit) ≡ splice (now (out .entry)) at (addressFlat address) ⌝ }
+{
     let c = address.callsign;
     lent::put(out, at, &[c[0], c[1], c[2], c[3], c[4], c[5], address.ssid]);
 }
 
-fn put_entry(out: &mut [u8], at: usize, entry: RouteEntry) {
+fn put_entry(out: &mut [u8], at: usize, entry: RouteEntry)
+    ensures { λ r. ⌜ now (out .exit) ≡ splice (now (out .entry)) at (entryFlat entry) ⌝ }
+{
     let repeater = entry.repeater;
     let c = repeater.callsign;
     lent::put(
@@ -35,7 +43,10 @@ fn put_entry(out: &mut [u8], at: usize, entry: RouteEntry) {
 }
 
 // All eight places, in use or not.
-fn put_route(out: &mut [u8], route: [RouteEntry; 8]) {
+fn put_route(out: &mut [u8], route: [RouteEntry; 8])
+    requires { ⌜ 78 ≤ length (now out) ⌝ }
+    ensures { λ r. ⌜ now (out .exit) ≡ splice (now (out .entry)) 14 (routeFlat route 8) ⌝ }
+{
     let mut i = 0;
     while i < 8 {
         let entry = route[i];
@@ -45,11 +56,15 @@ fn put_route(out: &mut [u8], route: [RouteEntry; 8]) {
 }
 
 // A count of 255 and more is 255: writing refuses them all alike.
-fn count_octet(count: usize) -> u8 {
+fn count_octet(count: usize) -> u8
+    ensures { λ r. ⌜ r ≡ countFlat count ⌝ }
+{
     if count < 255 { count as u8 } else { 255 }
 }
 
-fn mark_octet(mark: Mark) -> u8 {
+fn mark_octet(mark: Mark) -> u8
+    ensures { λ r. ⌜ r ≡ markFlat mark ⌝ }
+{
     match mark {
         Mark::Command => 0,
         Mark::Response => 1,
@@ -57,7 +72,9 @@ fn mark_octet(mark: Mark) -> u8 {
     }
 }
 
-fn pid_case(pid: ProtocolIdentifier) -> u8 {
+fn pid_case(pid: ProtocolIdentifier) -> u8
+    ensures { λ r. ⌜ r ≡ pidCase pid ⌝ }
+{
     match pid {
         ProtocolIdentifier::Layer3Impl => 0,
         ProtocolIdentifier::X25Plp => 1,
@@ -79,7 +96,9 @@ fn pid_case(pid: ProtocolIdentifier) -> u8 {
 }
 
 // The octet that `Unknown` holds.
-fn pid_octet(pid: ProtocolIdentifier) -> u8 {
+fn pid_octet(pid: ProtocolIdentifier) -> u8
+    ensures { λ r. ⌜ r ≡ pidOctet pid ⌝ }
+{
     match pid {
         ProtocolIdentifier::Layer3Impl => 0,
         ProtocolIdentifier::X25Plp => 0,
@@ -100,7 +119,9 @@ fn pid_octet(pid: ProtocolIdentifier) -> u8 {
     }
 }
 
-fn response_octet(c: CommandResponse) -> u8 {
+fn response_octet(c: CommandResponse) -> u8
+    ensures { λ r. ⌜ r ≡ responseFlat c ⌝ }
+{
     match c {
         CommandResponse::Command => 0,
         CommandResponse::Response => 1,
@@ -108,7 +129,9 @@ fn response_octet(c: CommandResponse) -> u8 {
 }
 
 // The kind, then every field that some kind has, in the record's order; 0 where this kind lacks it.
-fn content_octets(content: FrameContent) -> [u8; 12] {
+fn content_octets(content: FrameContent) -> [u8; 12]
+    ensures { λ r. ⌜ r ≡ contentFlat content ⌝ }
+{
     match content {
         FrameContent::Information(k) => {
             let pid = k.pid;
@@ -238,7 +261,10 @@ fn content_octets(content: FrameContent) -> [u8; 12] {
 }
 
 // What follows the route: its count, the mark, the content.
-fn put_rest(out: &mut [u8], frame: Ax25Frame) {
+fn put_rest(out: &mut [u8], frame: Ax25Frame)
+    requires { ⌜ 92 ≤ length (now out) ⌝ }
+    ensures { λ r. ⌜ now (out .exit) ≡ splice (now (out .entry)) 78 (restFlat frame) ⌝ }
+{
     let mark = frame.command_or_response;
     let content = frame.content;
     lent::put(out, 78, &[count_octet(frame.route_count), mark_octet(mark)]);
@@ -246,7 +272,10 @@ fn put_rest(out: &mut [u8], frame: Ax25Frame) {
     lent::put(out, 80, &octets);
 }
 
-pub fn put_frame(out: &mut [u8], frame: Ax25Frame) {
+pub fn put_frame(out: &mut [u8], frame: Ax25Frame)
+    requires { ⌜ 92 ≤ length (now out) ⌝ }
+    ensures { λ r. ⌜ now (out .exit) ≡ splice (now (out .entry)) 0 (flatOf frame) ⌝ }
+{
     let destination = frame.destination;
     let source = frame.source;
     let route = frame.route;
@@ -257,7 +286,9 @@ pub fn put_frame(out: &mut [u8], frame: Ax25Frame) {
 }
 
 // The details of an answer: the start and the end of number 3, the length of number 4.
-fn start_of(answer: DecodeAnswer) -> usize {
+fn start_of(answer: DecodeAnswer) -> usize
+    ensures { λ r. ⌜ r ≡ reportOf answer .start ⌝ }
+{
     match answer {
         DecodeAnswer::Accepted => 0,
         DecodeAnswer::OnlyNullBytes => 0,
@@ -272,7 +303,9 @@ fn start_of(answer: DecodeAnswer) -> usize {
     }
 }
 
-fn end_of(answer: DecodeAnswer) -> usize {
+fn end_of(answer: DecodeAnswer) -> usize
+    ensures { λ r. ⌜ r ≡ reportOf answer .end ⌝ }
+{
     match answer {
         DecodeAnswer::Accepted => 0,
         DecodeAnswer::OnlyNullBytes => 0,
@@ -287,7 +320,9 @@ fn end_of(answer: DecodeAnswer) -> usize {
     }
 }
 
-fn len_of(answer: DecodeAnswer) -> usize {
+fn len_of(answer: DecodeAnswer) -> usize
+    ensures { λ r. ⌜ r ≡ reportOf answer .len ⌝ }
+{
     match answer {
         DecodeAnswer::Accepted => 0,
         DecodeAnswer::OnlyNullBytes => 0,
@@ -304,6 +339,7 @@ fn len_of(answer: DecodeAnswer) -> usize {
 
 pub fn put_places(places: &mut [usize], answer: DecodeAnswer, info_start: usize, info_len: usize)
     requires { ⌜ 5 ≤ length (now places) ⌝ }
+    ensures { λ r. ⌜ now (places .exit) ≡ splice (now (places .entry)) 0 (placesOf answer «info_start» «info_len») ⌝ }
 {
     places[0] = start_of(answer);
     places[1] = end_of(answer);

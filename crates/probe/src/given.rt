@@ -16,57 +16,69 @@ use frame::Ax25Frame;
 use frame::Mark;
 use frame::RouteEntry;
 use protocol::ProtocolIdentifier;
+ghost use mathlib.Core.Path.{_≡_};
 ghost use Prim.Native.Nat.{_≤_};
+ghost use Rattle.probe.specs.Given.{octetAt, flagAt, addressAt, entryAt, routeFrom, markFrom, responseFrom, pidFrom, fieldsFrom, contentWith, contentFrom, frameFrom};
 
-fn octet(record: &[u8], at: usize) -> u8 {
-    if at < record.len() { record[at] } else { 0 }
+fn octet(flat: &[u8], at: usize) -> u8
+    ensures { λ r. ⌜ r ≡ octetAt (now (flat .entry)) at ⌝ }
+{
+    if at < flat.len() { flat[at] } else { 0 }
 }
 
-fn flag(record: &[u8], at: usize) -> bool {
-    octet(record, at) != 0
+fn flag(flat: &[u8], at: usize) -> bool
+    ensures { λ r. ⌜ r ≡ flagAt (now (flat .entry)) at ⌝ }
+{
+    octet(flat, at) != 0
 }
 
-pub fn address_at(record: &[u8], at: usize) -> Address
+pub fn address_at(flat: &[u8], at: usize) -> Address
     requires { ⌜ at ≤ 92 ⌝ }
+    ensures { λ r. ⌜ r ≡ addressAt (now (flat .entry)) at ⌝ }
 {
     Address {
         callsign: [
-            octet(record, at),
-            octet(record, at + 1),
-            octet(record, at + 2),
-            octet(record, at + 3),
-            octet(record, at + 4),
-            octet(record, at + 5),
+            octet(flat, at),
+            octet(flat, at + 1),
+            octet(flat, at + 2),
+            octet(flat, at + 3),
+            octet(flat, at + 4),
+            octet(flat, at + 5),
         ],
-        ssid: octet(record, at + 6),
+        ssid: octet(flat, at + 6),
     }
 }
 
-fn entry_at(record: &[u8], at: usize) -> RouteEntry
+fn entry_at(flat: &[u8], at: usize) -> RouteEntry
     requires { ⌜ at ≤ 92 ⌝ }
+    ensures { λ r. ⌜ r ≡ entryAt (now (flat .entry)) at ⌝ }
 {
-    let repeater = address_at(record, at);
-    let has_repeated = flag(record, at + 7);
+    let repeater = address_at(flat, at);
+    let has_repeated = flag(flat, at + 7);
     RouteEntry {
         repeater,
         has_repeated,
     }
 }
 
-fn route_from(record: &[u8]) -> [RouteEntry; 8] {
+fn route_from(flat: &[u8]) -> [RouteEntry; 8]
+    ensures { λ r. ⌜ r ≡ routeFrom (now (flat .entry)) ⌝ }
+{
     [
-        entry_at(record, 14),
-        entry_at(record, 22),
-        entry_at(record, 30),
-        entry_at(record, 38),
-        entry_at(record, 46),
-        entry_at(record, 54),
-        entry_at(record, 62),
-        entry_at(record, 70),
+        entry_at(flat, 14),
+        entry_at(flat, 22),
+        entry_at(flat, 30),
+        entry_at(flat, 38),
+        entry_at(flat, 46),
+        entry_at(flat, 54),
+        entry_at(flat, 62),
+        entry_at(flat, 70),
     ]
 }
 
-fn mark_from(octet: u8) -> Mark {
+fn mark_from(octet: u8) -> Mark
+    ensures { λ r. ⌜ r ≡ markFrom octet ⌝ }
+{
     match octet {
         0 => Mark::Command,
         1 => Mark::Response,
@@ -74,7 +86,9 @@ fn mark_from(octet: u8) -> Mark {
     }
 }
 
-fn response_from(octet: u8) -> CommandResponse {
+fn response_from(octet: u8) -> CommandResponse
+    ensures { λ r. ⌜ r ≡ responseFrom octet ⌝ }
+{
     if octet == 0 {
         CommandResponse::Command
     } else {
@@ -82,7 +96,9 @@ fn response_from(octet: u8) -> CommandResponse {
     }
 }
 
-fn pid_from(case: u8, octet: u8) -> ProtocolIdentifier {
+fn pid_from(case: u8, octet: u8) -> ProtocolIdentifier
+    ensures { λ r. ⌜ r ≡ pidFrom case octet ⌝ }
+{
     match case {
         0 => ProtocolIdentifier::Layer3Impl,
         1 => ProtocolIdentifier::X25Plp,
@@ -104,22 +120,26 @@ fn pid_from(case: u8, octet: u8) -> ProtocolIdentifier {
 }
 
 // FRMR has every field that some kind has, save the PID: the other kinds take theirs from it.
-fn fields_from(record: &[u8]) -> FrameReject {
-    let command_response = response_from(octet(record, 90));
+fn fields_from(flat: &[u8]) -> FrameReject
+    ensures { λ r. ⌜ r ≡ fieldsFrom (now (flat .entry)) ⌝ }
+{
+    let command_response = response_from(octet(flat, 90));
     FrameReject {
-        final_bit: flag(record, 83),
-        rejected_control_field_raw: octet(record, 91),
-        z: flag(record, 86),
-        y: flag(record, 87),
-        x: flag(record, 88),
-        w: flag(record, 89),
-        receive_sequence: octet(record, 84),
-        send_sequence: octet(record, 85),
+        final_bit: flag(flat, 83),
+        rejected_control_field_raw: octet(flat, 91),
+        z: flag(flat, 86),
+        y: flag(flat, 87),
+        x: flag(flat, 88),
+        w: flag(flat, 89),
+        receive_sequence: octet(flat, 84),
+        send_sequence: octet(flat, 85),
         command_response,
     }
 }
 
-fn content_with(kind: u8, pid: ProtocolIdentifier, fields: FrameReject) -> FrameContent {
+fn content_with(kind: u8, pid: ProtocolIdentifier, fields: FrameReject) -> FrameContent
+    ensures { λ r. ⌜ r ≡ contentWith kind pid fields ⌝ }
+{
     let on = fields.final_bit;
     let receive_sequence = fields.receive_sequence;
     match kind {
@@ -154,23 +174,27 @@ fn content_with(kind: u8, pid: ProtocolIdentifier, fields: FrameReject) -> Frame
     }
 }
 
-fn content_from(record: &[u8]) -> FrameContent {
-    let pid = pid_from(octet(record, 81), octet(record, 82));
-    let fields = fields_from(record);
-    content_with(octet(record, 80), pid, fields)
+fn content_from(flat: &[u8]) -> FrameContent
+    ensures { λ r. ⌜ r ≡ contentFrom (now (flat .entry)) ⌝ }
+{
+    let pid = pid_from(octet(flat, 81), octet(flat, 82));
+    let fields = fields_from(flat);
+    content_with(octet(flat, 80), pid, fields)
 }
 
-pub fn frame_from(record: &[u8]) -> Ax25Frame {
-    let destination = address_at(record, 0);
-    let source = address_at(record, 7);
-    let route = route_from(record);
-    let command_or_response = mark_from(octet(record, 79));
-    let content = content_from(record);
+pub fn frame_from(flat: &[u8]) -> Ax25Frame
+    ensures { λ r. ⌜ r ≡ frameFrom (now (flat .entry)) ⌝ }
+{
+    let destination = address_at(flat, 0);
+    let source = address_at(flat, 7);
+    let route = route_from(flat);
+    let command_or_response = mark_from(octet(flat, 79));
+    let content = content_from(flat);
     Ax25Frame {
         source,
         destination,
         route,
-        route_count: octet(record, 78) as usize,
+        route_count: octet(flat, 78) as usize,
         command_or_response,
         content,
     }

@@ -17,8 +17,8 @@ const PLACES: usize = 5;
 const NO_ROOM: u32 = 24;
 
 #[no_mangle]
-pub extern "C" fn probe_decode(input: &[u8], record: &mut [u8], places: &mut [usize]) -> u32 {
-    if record.len() < FRAME {
+pub extern "C" fn probe_decode(input: &[u8], flat: &mut [u8], places: &mut [usize]) -> u32 {
+    if flat.len() < FRAME {
         return NO_ROOM;
     }
     if places.len() < PLACES {
@@ -27,14 +27,14 @@ pub extern "C" fn probe_decode(input: &[u8], record: &mut [u8], places: &mut [us
     let decoded = Ax25Frame::from_bytes(input);
     let answer = decoded.answer;
     let frame = decoded.frame;
-    flat::put_frame(record, frame);
+    flat::put_frame(flat, frame);
     flat::put_places(places, answer, decoded.info_start, decoded.info_len);
     answer.number()
 }
 
 #[no_mangle]
 pub extern "C" fn probe_encode(
-    record: &[u8],
+    flat: &[u8],
     info: &[u8],
     out: &mut [u8],
     length: &mut [usize],
@@ -42,7 +42,7 @@ pub extern "C" fn probe_encode(
     if length.len() == 0 {
         return NO_ROOM;
     }
-    let frame = given::frame_from(record);
+    let frame = given::frame_from(flat);
     let written = frame.to_bytes(info, out);
     let answer = written.answer;
     length[0] = written.length;
@@ -86,23 +86,23 @@ pub extern "C" fn probe_print(address: &[u8], out: &mut [u8], length: &mut [usiz
 }
 
 #[no_mangle]
-pub extern "C" fn probe_simple_ui(source: &[u8], destination: &[u8], record: &mut [u8]) -> u32 {
-    if record.len() < FRAME {
+pub extern "C" fn probe_simple_ui(source: &[u8], destination: &[u8], flat: &mut [u8]) -> u32 {
+    if flat.len() < FRAME {
         return NO_ROOM;
     }
     let from = given::address_at(source, 0);
     let to = given::address_at(destination, 0);
     let frame = Ax25Frame::new_simple_ui_frame(from, to);
-    flat::put_frame(record, frame);
+    flat::put_frame(flat, frame);
     0
 }
 
 #[no_mangle]
-pub extern "C" fn probe_default(record: &mut [u8]) -> u32 {
-    if record.len() < FRAME {
+pub extern "C" fn probe_default(flat: &mut [u8]) -> u32 {
+    if flat.len() < FRAME {
         return NO_ROOM;
     }
     let frame = Ax25Frame::default();
-    flat::put_frame(record, frame);
+    flat::put_frame(flat, frame);
     0
 }

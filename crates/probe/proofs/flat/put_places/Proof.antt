@@ -1,3 +1,5 @@
+use Rattle.octets.proofs.Splice.{splice-stores}
+use Rattle.probe.specs.Flat.{placesOf}
 use lib.ListN.{length-set}
 use native.Mathlib.Omega.{arith}
 use borrow.Author.Needs.{needs}
@@ -47,7 +49,10 @@ same-length c = search needs
 
 -- src/flat.rt:201:1
 returns : tie.Need-returns
-returns c = search needs
+returns c =
+    let a = c .before .before .before .before in
+    rw (c .len-of .ensures, c .before .end-of .ensures, c .before .before .start-of .ensures)
+    (splice-stores (placesOf (a .args .answer) (a .args .info-start) (a .args .info-len)) (a .args .places .now) 0 (a .pre))
 
 pub put-places-spec : {M : Type 1} → statement M
 put-places-spec =

@@ -1,6 +1,10 @@
 use Prim.Native.Nat.{_-_, _≤_}
-use mathlib.Core.Path.{_≡_}
-use lib.ListN.{length}
+use mathlib.Core.Path.{_≡_, sym, _∙_}
+use native.Mathlib.Omega.{arith}
+use Rattle.octets.specs.Splice.{splice}
+use Rattle.octets.proofs.Splice.{splice-none, splice-length}
+use Rattle.probe.specs.Flat.{routeFlat}
+use Rattle.probe.proofs.Parts.{route-more}
 use borrow.Author.Needs.{needs}
 use Rattle.probe.proofs.flat.put_route.Statement.{statement}
 use Rattle.probe.proofs.flat.put_route.Tie as tie
@@ -9,14 +13,15 @@ use Rattle.probe.proofs.flat.put_route.Lts as lts
 use Rattle.probe.proofs.flat.put_entry.Reads as put-entry-reads
 
 abbrev Inv-loop : tie.InvT-loop
-Inv-loop out₀ route i₀ out i = (i ≤ 8) × (length out ≡ length out₀)
+Inv-loop out₀ route i₀ out i = (i ≤ 8) × (out ≡ splice out₀ 14 (routeFlat route i))
 
 abbrev μ-loop : tie.MeasureT-loop
 μ-loop out₀ route i₀ out i = 8 - i
 
 -- src/flat.rt:27:5
 loop-holds : tie.Need-loop-holds Inv-loop μ-loop
-loop-holds c = search needs
+unfolding routeFlat
+loop-holds c = (search needs, sym (splice-none _ _))
 
 -- src/flat.rt:28:21
 mul-entry : tie.Need-mul-entry Inv-loop μ-loop
@@ -48,15 +53,20 @@ loop-less c = search needs
 
 -- src/flat.rt:27:5
 loop-again : tie.Need-loop-again Inv-loop μ-loop
-loop-again c = search needs
+loop-again c =
+    let w = c .before .before .put-entry .ensures in
+    let l = c .before .before .before .before .before .before in
+    (search needs, w ∙ rw (l .loop .inv .1) (route-more _ _ _ _ (omega arith)))
 
 -- src/flat.rt:25:1
 same-length : tie.Need-same-length Inv-loop μ-loop
-same-length c = search needs
+same-length c = rw (c .before .loop .inv .1) (splice-length _ _ _)
 
 -- src/flat.rt:25:1
 returns : tie.Need-returns Inv-loop μ-loop
-returns c = search needs
+returns c =
+    let e : c .before .loop .i ≡ 8 = omega arith in
+    rw e at (c .before .loop .inv .1)
 
 pub put-route-spec : {M : Type 1} → statement M
 put-route-spec =
