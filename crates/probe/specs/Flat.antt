@@ -16,7 +16,7 @@ use Rattle.frame.specs.declared.Mark.{Mark}
 use Rattle.frame.specs.declared.Mark.the-variants.{Command, Response, Absent}
 use Rattle.frame.specs.declared.RouteEntry.{RouteEntry}
 use Rattle.frame.specs.declared.Ax25Frame.{Ax25Frame}
-use Rattle.frame.specs.declared.DecodeAnswer.{DecodeAnswer}
+use Rattle.frame.specs.declared.Decoded.{Decoded}
 use Rattle.frame.specs.Frame.{reportOf}
 use Rattle.frame.specs.Spell.{repeaterAt}
 
@@ -117,5 +117,6 @@ unfoldable pub flatOf : Ax25Frame → List ℕ
 flatOf f = addressFlat (f .destination) ++ (addressFlat (f .source) ++ (routeFlat (f .route) 8 ++ restFlat f))
 
 -- the places of a decode: start and end of number 3, length of number 4, where the info starts and how long it is
-abbrev pub placesOf : DecodeAnswer → ℕ → ℕ → List ℕ
-placesOf a start len = reportOf a .start ∷ reportOf a .end ∷ reportOf a .len ∷ start ∷ len ∷ []
+abbrev pub placesOf : Decoded → List ℕ
+placesOf d =
+    reportOf (d .answer) .start ∷ reportOf (d .answer) .end ∷ reportOf (d .answer) .len ∷ d .«info_start» ∷ d .«info_len» ∷ []

@@ -4,6 +4,7 @@ use content::CommandResponse;
 use content::FrameContent;
 use frame::Ax25Frame;
 use frame::DecodeAnswer;
+use frame::Decoded;
 use frame::Mark;
 use frame::RouteEntry;
 use protocol::ProtocolIdentifier;
@@ -337,13 +338,15 @@ fn len_of(answer: DecodeAnswer) -> usize
     }
 }
 
-pub fn put_places(places: &mut [usize], answer: DecodeAnswer, info_start: usize, info_len: usize)
+// The details of a decode's answer, then the place of its info.
+pub fn put_places(places: &mut [usize], decoded: Decoded)
     requires { ⌜ 5 ≤ length (now places) ⌝ }
-    ensures { λ r. ⌜ now (places .exit) ≡ splice (now (places .entry)) 0 (placesOf answer «info_start» «info_len») ⌝ }
+    ensures { λ r. ⌜ now (places .exit) ≡ splice (now (places .entry)) 0 (placesOf decoded) ⌝ }
 {
+    let answer = decoded.answer;
     places[0] = start_of(answer);
     places[1] = end_of(answer);
     places[2] = len_of(answer);
-    places[3] = info_start;
-    places[4] = info_len;
+    places[3] = decoded.info_start;
+    places[4] = decoded.info_len;
 }

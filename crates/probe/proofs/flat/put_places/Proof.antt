@@ -52,7 +52,7 @@ returns : tie.Need-returns
 returns c =
     let a = c .before .before .before .before in
     rw (c .len-of .ensures, c .before .end-of .ensures, c .before .before .start-of .ensures)
-    (splice-stores (placesOf (a .args .answer) (a .args .info-start) (a .args .info-len)) (a .args .places .now) 0 (a .pre))
+    (splice-stores (placesOf (a .args .decoded)) (a .args .places .now) 0 (a .pre))
 
 pub put-places-spec : {M : Type 1} → statement M
 put-places-spec =
