@@ -1,6 +1,6 @@
 -- The flat form of an address (7 octets) and of a frame (92 octets), as the comparison reads it.
 use Prim.Native.Nat.{ℕ, zero, suc}
-use mathlib.Core.Bool.{Bool, cond}
+use mathlib.Core.Bool.{Bool, false, cond}
 use mathlib.Core.List.{List, [], _∷_, _++_}
 use lib.Dec.{ltb}
 use lib.ListN.{getD}
@@ -10,12 +10,14 @@ use Rattle.protocol.specs.declared.ProtocolIdentifier.the-variants.{Layer3Impl,
 use Rattle.address.specs.declared.Address.{Address}
 use Rattle.content.specs.declared.CommandResponse.{CommandResponse}
 use Rattle.content.specs.declared.CommandResponse.the-variants as frmr
+use Rattle.content.specs.declared.FrameReject.{FrameReject}
 use Rattle.content.specs.declared.FrameContent.{FrameContent}
 use Rattle.content.specs.declared.FrameContent.the-variants as kind
 use Rattle.frame.specs.declared.Mark.{Mark}
 use Rattle.frame.specs.declared.Mark.the-variants.{Command, Response, Absent}
 use Rattle.frame.specs.declared.RouteEntry.{RouteEntry}
 use Rattle.frame.specs.declared.Ax25Frame.{Ax25Frame}
+use Rattle.frame.specs.declared.DecodeAnswer.{DecodeAnswer}
 use Rattle.frame.specs.declared.Decoded.{Decoded}
 use Rattle.frame.specs.Frame.{reportOf}
 use Rattle.frame.specs.Spell.{repeaterAt}
@@ -85,28 +87,32 @@ pidOctet None = 0
 pidOctet Escape = 0
 pidOctet (Unknown b) = b
 
--- the content: kind; PID case and octet; poll or final; N(R); N(S); Z; Y; X; W; FRMR's response; the rejected control octet. A field
--- that a kind lacks is 0
-abbrev pub contentFlat : FrameContent → List ℕ
-contentFlat (kind.Information k) =
-    0 ∷ pidCase (k .pid) ∷ pidOctet (k .pid) ∷ flag 0 (k .poll) ∷ k .«receive_sequence» ∷ k .«send_sequence» ∷ 0 ∷ 0 ∷ 0 ∷ 0 ∷ 0 ∷ 0 ∷ []
-contentFlat (kind.ReceiveReady k) =
-    1 ∷ 0 ∷ 0 ∷ flag 0 (k .«poll_or_final») ∷ k .«receive_sequence» ∷ 0 ∷ 0 ∷ 0 ∷ 0 ∷ 0 ∷ 0 ∷ 0 ∷ []
-contentFlat (kind.ReceiveNotReady k) =
-    2 ∷ 0 ∷ 0 ∷ flag 0 (k .«poll_or_final») ∷ k .«receive_sequence» ∷ 0 ∷ 0 ∷ 0 ∷ 0 ∷ 0 ∷ 0 ∷ 0 ∷ []
-contentFlat (kind.Reject k) =
-    3 ∷ 0 ∷ 0 ∷ flag 0 (k .«poll_or_final») ∷ k .«receive_sequence» ∷ 0 ∷ 0 ∷ 0 ∷ 0 ∷ 0 ∷ 0 ∷ 0 ∷ []
-contentFlat (kind.SetAsynchronousBalancedMode k) = 4 ∷ 0 ∷ 0 ∷ flag 0 (k .poll) ∷ 0 ∷ 0 ∷ 0 ∷ 0 ∷ 0 ∷ 0 ∷ 0 ∷ 0 ∷ []
-contentFlat (kind.Disconnect k) = 5 ∷ 0 ∷ 0 ∷ flag 0 (k .poll) ∷ 0 ∷ 0 ∷ 0 ∷ 0 ∷ 0 ∷ 0 ∷ 0 ∷ 0 ∷ []
-contentFlat (kind.DisconnectedMode k) = 6 ∷ 0 ∷ 0 ∷ flag 0 (k .«final_bit») ∷ 0 ∷ 0 ∷ 0 ∷ 0 ∷ 0 ∷ 0 ∷ 0 ∷ 0 ∷ []
-contentFlat (kind.UnnumberedAcknowledge k) = 7 ∷ 0 ∷ 0 ∷ flag 0 (k .«final_bit») ∷ 0 ∷ 0 ∷ 0 ∷ 0 ∷ 0 ∷ 0 ∷ 0 ∷ 0 ∷ []
-contentFlat (kind.FrameReject k) =
+-- content in twelve octets: kind; PID case and octet; poll or final; N(R); N(S); Z; Y; X; W; FRMR's response; the rejected control
+-- octet. A field that a kind lacks is 0
+abbrev pub bareFlat : ℕ → Bool → ℕ → List ℕ
+bareFlat k on receive = k ∷ 0 ∷ 0 ∷ flag 0 on ∷ receive ∷ 0 ∷ 0 ∷ 0 ∷ 0 ∷ 0 ∷ 0 ∷ 0 ∷ []
+
+abbrev pub withPidFlat : ℕ → ProtocolIdentifier → Bool → ℕ → ℕ → List ℕ
+withPidFlat k pid on receive send = k ∷ pidCase pid ∷ pidOctet pid ∷ flag 0 on ∷ receive ∷ send ∷ 0 ∷ 0 ∷ 0 ∷ 0 ∷ 0 ∷ 0 ∷ []
+
+abbrev pub rejectFlat : FrameReject → List ℕ
+rejectFlat k =
     8 ∷ 0 ∷ 0 ∷ flag 0 (k .«final_bit») ∷ k .«receive_sequence» ∷ k .«send_sequence»
     ∷ flag 0 (k .z) ∷ flag 0 (k .y) ∷ flag 0 (k .x) ∷ flag 0 (k .w)
     ∷ responseFlat (k .«command_response») ∷ k .«rejected_control_field_raw» ∷ []
-contentFlat (kind.UnnumberedInformation k) =
-    9 ∷ pidCase (k .pid) ∷ pidOctet (k .pid) ∷ flag 0 (k .«poll_or_final») ∷ 0 ∷ 0 ∷ 0 ∷ 0 ∷ 0 ∷ 0 ∷ 0 ∷ 0 ∷ []
-contentFlat kind.UnknownContent = 10 ∷ 0 ∷ 0 ∷ 0 ∷ 0 ∷ 0 ∷ 0 ∷ 0 ∷ 0 ∷ 0 ∷ 0 ∷ 0 ∷ []
+
+abbrev pub contentFlat : FrameContent → List ℕ
+contentFlat (kind.Information k) = withPidFlat 0 (k .pid) (k .poll) (k .«receive_sequence») (k .«send_sequence»)
+contentFlat (kind.ReceiveReady k) = bareFlat 1 (k .«poll_or_final») (k .«receive_sequence»)
+contentFlat (kind.ReceiveNotReady k) = bareFlat 2 (k .«poll_or_final») (k .«receive_sequence»)
+contentFlat (kind.Reject k) = bareFlat 3 (k .«poll_or_final») (k .«receive_sequence»)
+contentFlat (kind.SetAsynchronousBalancedMode k) = bareFlat 4 (k .poll) 0
+contentFlat (kind.Disconnect k) = bareFlat 5 (k .poll) 0
+contentFlat (kind.DisconnectedMode k) = bareFlat 6 (k .«final_bit») 0
+contentFlat (kind.UnnumberedAcknowledge k) = bareFlat 7 (k .«final_bit») 0
+contentFlat (kind.FrameReject k) = rejectFlat k
+contentFlat (kind.UnnumberedInformation k) = withPidFlat 9 (k .pid) (k .«poll_or_final») 0 0
+contentFlat kind.UnknownContent = bareFlat 10 false 0
 
 -- what follows the route, from octet 78 on: its count, the mark, the content
 abbrev pub restFlat : Ax25Frame → List ℕ
@@ -116,7 +122,10 @@ restFlat f = countFlat (f .«route_count») ∷ markFlat (f .«command_or_respon
 unfoldable pub flatOf : Ax25Frame → List ℕ
 flatOf f = addressFlat (f .destination) ++ (addressFlat (f .source) ++ (routeFlat (f .route) 8 ++ restFlat f))
 
--- the places of a decode: start and end of number 3, length of number 4, where the info starts and how long it is
+-- the details of an answer: start and end of number 3, length of number 4
+abbrev pub detailsOf : DecodeAnswer → List ℕ
+detailsOf a = reportOf a .start ∷ reportOf a .end ∷ reportOf a .len ∷ []
+
+-- the places of a decode: the details, then where the info starts and how long it is
 abbrev pub placesOf : Decoded → List ℕ
-placesOf d =
-    reportOf (d .answer) .start ∷ reportOf (d .answer) .end ∷ reportOf (d .answer) .len ∷ d .«info_start» ∷ d .«info_len» ∷ []
+placesOf d = detailsOf (d .answer) ++ (d .«info_start» ∷ d .«info_len» ∷ [])

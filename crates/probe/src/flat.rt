@@ -2,6 +2,7 @@
 use address::Address;
 use content::CommandResponse;
 use content::FrameContent;
+use content::FrameReject;
 use frame::Ax25Frame;
 use frame::DecodeAnswer;
 use frame::Decoded;
@@ -12,8 +13,7 @@ ghost use mathlib.Core.Path.{_≡_};
 ghost use Prim.Native.Nat.{_≤_};
 ghost use lib.ListN.{length};
 ghost use Rattle.octets.specs.Splice.{splice};
-ghost use Rattle.frame.specs.Frame.{reportOf};
-ghost use Rattle.probe.specs.Flat.{addressFlat, entryFlat, routeFlat, countFlat, markFlat, responseFlat, pidCase, pidOctet, contentFlat, restFlat, flatOf, placesOf};
+ghost use Rattle.probe.specs.Flat.{addressFlat, entryFlat, routeFlat, countFlat, markFlat, responseFlat, pidCase, pidOctet, bareFlat, withPidFlat, rejectFlat, contentFlat, restFlat, flatOf, detailsOf, placesOf};
 
 pub fn put_address(out: &mut [u8], at: usize, address: Address)
     ensures { λ r. ⌜ now (out .exit) ≡ splice (now (out .entry)) at (addressFlat address) ⌝ }
@@ -129,135 +129,63 @@ fn response_octet(c: CommandResponse) -> u8
     }
 }
 
-// The kind, then every field that some kind has, in the record's order; 0 where this kind lacks it.
+// A kind's twelve octets are the kind, then every field that some kind has, in the record's order; 0 where this kind lacks it.
+fn bare(kind: u8, on: bool, receive: u8) -> [u8; 12]
+    ensures { λ r. ⌜ r ≡ bareFlat kind on receive ⌝ }
+{
+    [kind, 0, 0, on as u8, receive, 0, 0, 0, 0, 0, 0, 0]
+}
+
+// The kinds that have a PID.
+fn with_pid(kind: u8, pid: ProtocolIdentifier, on: bool, receive: u8, send: u8) -> [u8; 12]
+    ensures { λ r. ⌜ r ≡ withPidFlat kind pid on receive send ⌝ }
+{
+    let case = pid_case(pid);
+    let octet = pid_octet(pid);
+    [kind, case, octet, on as u8, receive, send, 0, 0, 0, 0, 0, 0]
+}
+
+fn reject(k: FrameReject) -> [u8; 12]
+    ensures { λ r. ⌜ r ≡ rejectFlat k ⌝ }
+{
+    let command_response = k.command_response;
+    [
+        8,
+        0,
+        0,
+        k.final_bit as u8,
+        k.receive_sequence,
+        k.send_sequence,
+        k.z as u8,
+        k.y as u8,
+        k.x as u8,
+        k.w as u8,
+        response_octet(command_response),
+        k.rejected_control_field_raw,
+    ]
+}
+
 fn content_octets(content: FrameContent) -> [u8; 12]
     ensures { λ r. ⌜ r ≡ contentFlat content ⌝ }
 {
     match content {
         FrameContent::Information(k) => {
             let pid = k.pid;
-            [
-                0,
-                pid_case(pid),
-                pid_octet(pid),
-                k.poll as u8,
-                k.receive_sequence,
-                k.send_sequence,
-                0,
-                0,
-                0,
-                0,
-                0,
-                0,
-            ]
+            with_pid(0, pid, k.poll, k.receive_sequence, k.send_sequence)
         }
-        FrameContent::ReceiveReady(k) => [
-            1,
-            0,
-            0,
-            k.poll_or_final as u8,
-            k.receive_sequence,
-            0,
-            0,
-            0,
-            0,
-            0,
-            0,
-            0,
-        ],
-        FrameContent::ReceiveNotReady(k) => [
-            2,
-            0,
-            0,
-            k.poll_or_final as u8,
-            k.receive_sequence,
-            0,
-            0,
-            0,
-            0,
-            0,
-            0,
-            0,
-        ],
-        FrameContent::Reject(k) => [
-            3,
-            0,
-            0,
-            k.poll_or_final as u8,
-            k.receive_sequence,
-            0,
-            0,
-            0,
-            0,
-            0,
-            0,
-            0,
-        ],
-        FrameContent::SetAsynchronousBalancedMode(k) => [
-            4,
-            0,
-            0,
-            k.poll as u8,
-            0,
-            0,
-            0,
-            0,
-            0,
-            0,
-            0,
-            0,
-        ],
-        FrameContent::Disconnect(k) => [5, 0, 0, k.poll as u8, 0, 0, 0, 0, 0, 0, 0, 0],
-        FrameContent::DisconnectedMode(k) => [6, 0, 0, k.final_bit as u8, 0, 0, 0, 0, 0, 0, 0, 0],
-        FrameContent::UnnumberedAcknowledge(k) => [
-            7,
-            0,
-            0,
-            k.final_bit as u8,
-            0,
-            0,
-            0,
-            0,
-            0,
-            0,
-            0,
-            0,
-        ],
-        FrameContent::FrameReject(k) => {
-            let command_response = k.command_response;
-            [
-                8,
-                0,
-                0,
-                k.final_bit as u8,
-                k.receive_sequence,
-                k.send_sequence,
-                k.z as u8,
-                k.y as u8,
-                k.x as u8,
-                k.w as u8,
-                response_octet(command_response),
-                k.rejected_control_field_raw,
-            ]
-        }
+        FrameContent::ReceiveReady(k) => bare(1, k.poll_or_final, k.receive_sequence),
+        FrameContent::ReceiveNotReady(k) => bare(2, k.poll_or_final, k.receive_sequence),
+        FrameContent::Reject(k) => bare(3, k.poll_or_final, k.receive_sequence),
+        FrameContent::SetAsynchronousBalancedMode(k) => bare(4, k.poll, 0),
+        FrameContent::Disconnect(k) => bare(5, k.poll, 0),
+        FrameContent::DisconnectedMode(k) => bare(6, k.final_bit, 0),
+        FrameContent::UnnumberedAcknowledge(k) => bare(7, k.final_bit, 0),
+        FrameContent::FrameReject(k) => reject(k),
         FrameContent::UnnumberedInformation(k) => {
             let pid = k.pid;
-            [
-                9,
-                pid_case(pid),
-                pid_octet(pid),
-                k.poll_or_final as u8,
-                0,
-                0,
-                0,
-                0,
-                0,
-                0,
-                0,
-                0,
-            ]
+            with_pid(9, pid, k.poll_or_final, 0, 0)
         }
-        FrameContent::UnknownContent => [10, 0, 0, 0, 0, 0, 0, 0, 0, 0, 0, 0],
+        FrameContent::UnknownContent => bare(10, false, 0),
     }
 }
 
@@ -287,66 +215,33 @@ pub fn put_frame(out: &mut [u8], frame: Ax25Frame)
 }
 
 // The details of an answer: the start and the end of number 3, the length of number 4.
-fn start_of(answer: DecodeAnswer) -> usize
-    ensures { λ r. ⌜ r ≡ reportOf answer .start ⌝ }
+fn details(answer: DecodeAnswer) -> [usize; 3]
+    ensures { λ r. ⌜ r ≡ detailsOf answer ⌝ }
 {
     match answer {
-        DecodeAnswer::Accepted => 0,
-        DecodeAnswer::OnlyNullBytes => 0,
-        DecodeAnswer::NoEndToAddressField => 0,
-        DecodeAnswer::AddressFieldTooShort { start, end: _ } => start,
-        DecodeAnswer::FrameTooShort { len: _ } => 0,
-        DecodeAnswer::MissingPidField => 0,
-        DecodeAnswer::UnrecognisedSFieldType => 0,
-        DecodeAnswer::UnrecognisedUFieldType => 0,
-        DecodeAnswer::WrongSizeFrmrInfo => 0,
-        DecodeAnswer::TooManyRepeaters => 0,
+        DecodeAnswer::Accepted => [0, 0, 0],
+        DecodeAnswer::OnlyNullBytes => [0, 0, 0],
+        DecodeAnswer::NoEndToAddressField => [0, 0, 0],
+        DecodeAnswer::AddressFieldTooShort { start, end } => [start, end, 0],
+        DecodeAnswer::FrameTooShort { len } => [0, 0, len],
+        DecodeAnswer::MissingPidField => [0, 0, 0],
+        DecodeAnswer::UnrecognisedSFieldType => [0, 0, 0],
+        DecodeAnswer::UnrecognisedUFieldType => [0, 0, 0],
+        DecodeAnswer::WrongSizeFrmrInfo => [0, 0, 0],
+        DecodeAnswer::TooManyRepeaters => [0, 0, 0],
     }
 }
 
-fn end_of(answer: DecodeAnswer) -> usize
-    ensures { λ r. ⌜ r ≡ reportOf answer .end ⌝ }
-{
-    match answer {
-        DecodeAnswer::Accepted => 0,
-        DecodeAnswer::OnlyNullBytes => 0,
-        DecodeAnswer::NoEndToAddressField => 0,
-        DecodeAnswer::AddressFieldTooShort { start: _, end } => end,
-        DecodeAnswer::FrameTooShort { len: _ } => 0,
-        DecodeAnswer::MissingPidField => 0,
-        DecodeAnswer::UnrecognisedSFieldType => 0,
-        DecodeAnswer::UnrecognisedUFieldType => 0,
-        DecodeAnswer::WrongSizeFrmrInfo => 0,
-        DecodeAnswer::TooManyRepeaters => 0,
-    }
-}
-
-fn len_of(answer: DecodeAnswer) -> usize
-    ensures { λ r. ⌜ r ≡ reportOf answer .len ⌝ }
-{
-    match answer {
-        DecodeAnswer::Accepted => 0,
-        DecodeAnswer::OnlyNullBytes => 0,
-        DecodeAnswer::NoEndToAddressField => 0,
-        DecodeAnswer::AddressFieldTooShort { start: _, end: _ } => 0,
-        DecodeAnswer::FrameTooShort { len } => len,
-        DecodeAnswer::MissingPidField => 0,
-        DecodeAnswer::UnrecognisedSFieldType => 0,
-        DecodeAnswer::UnrecognisedUFieldType => 0,
-        DecodeAnswer::WrongSizeFrmrInfo => 0,
-        DecodeAnswer::TooManyRepeaters => 0,
-    }
-}
-
-// The details of a decode's answer, then the place of its info.
+// The details, then the place of the info.
 pub fn put_places(places: &mut [usize], decoded: Decoded)
     requires { ⌜ 5 ≤ length (now places) ⌝ }
     ensures { λ r. ⌜ now (places .exit) ≡ splice (now (places .entry)) 0 (placesOf decoded) ⌝ }
 {
     let answer = decoded.answer;
-    places[0] = start_of(answer);
-    places[1] = end_of(answer);
-    places[2] = len_of(answer);
+    let details = details(answer);
+    places[0] = details[0];
+    places[1] = details[1];
+    places[2] = details[2];
     places[3] = decoded.info_start;
     places[4] = decoded.info_len;
 }

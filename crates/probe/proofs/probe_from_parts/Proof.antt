@@ -1,35 +1,25 @@
+-- Lent too little; else what reading gives.
 use mathlib.Core.Path.{refl, _∙_}
 use borrow.Author.Tests.{lt-ltb, le-ltb}
 use borrow.Author.Needs.{needs}
 use Rattle.probe.proofs.probe_from_parts.Statement.{statement}
 use Rattle.probe.proofs.probe_from_parts.Tie as tie
-use Rattle.probe.proofs.probe_from_parts.Reads as reads
-use Rattle.probe.proofs.probe_from_parts.Lts as lts
-use Rattle.address.proofs.text.AddressAnswer.number.Reads as number-reads
-use Rattle.address.proofs.text.from_parts.Reads as from-parts-reads
-use Rattle.probe.proofs.flat.put_address.Reads as put-address-reads
 
--- src/lib.rt:75:9
 returns : tie.Need-returns
 returns c = rw (lt-ltb _ _ (c .if1 .taken)) (refl, refl)
 
--- src/lib.rt:77:9
 from-parts-requires : tie.Need-from-parts-requires
 from-parts-requires c κs = search needs
 
--- src/lib.rt:80:5
 put-address-requires : tie.Need-put-address-requires
 put-address-requires c κs = search needs
 
--- src/lib.rt:81:5
 number-requires : tie.Need-number-requires
 number-requires c κs = search needs
 
--- src/lib.rt:69:1
 same-length : tie.Need-same-length
 same-length c = search needs
 
--- src/lib.rt:69:1
 returns-2 : tie.Need-returns-2
 returns-2 c =
     let p = c .before .before .before in

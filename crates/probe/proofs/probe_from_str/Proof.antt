@@ -1,35 +1,25 @@
+-- Lent too little; else what reading gives.
 use mathlib.Core.Path.{refl, _∙_}
 use borrow.Author.Tests.{lt-ltb, le-ltb}
 use borrow.Author.Needs.{needs}
 use Rattle.probe.proofs.probe_from_str.Statement.{statement}
 use Rattle.probe.proofs.probe_from_str.Tie as tie
-use Rattle.probe.proofs.probe_from_str.Reads as reads
-use Rattle.probe.proofs.probe_from_str.Lts as lts
-use Rattle.address.proofs.text.AddressAnswer.number.Reads as number-reads
-use Rattle.address.proofs.text.from_str.Reads as from-str-reads
-use Rattle.probe.proofs.flat.put_address.Reads as put-address-reads
 
--- src/lib.rt:91:9
 returns : tie.Need-returns
 returns c = rw (lt-ltb _ _ (c .if1 .taken)) (refl, refl)
 
--- src/lib.rt:93:9
 from-str-requires : tie.Need-from-str-requires
 from-str-requires c κs = search needs
 
--- src/lib.rt:96:5
 put-address-requires : tie.Need-put-address-requires
 put-address-requires c κs = search needs
 
--- src/lib.rt:97:5
 number-requires : tie.Need-number-requires
 number-requires c κs = search needs
 
--- src/lib.rt:85:1
 same-length : tie.Need-same-length
 same-length c = search needs
 
--- src/lib.rt:85:1
 returns-2 : tie.Need-returns-2
 returns-2 c =
     let p = c .before .before .before in

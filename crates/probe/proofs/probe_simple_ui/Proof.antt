@@ -1,39 +1,28 @@
+-- Lent too little; else the frame of the two addresses.
 use mathlib.Core.Path.{refl, _∙_}
 use borrow.Author.Tests.{lt-ltb, le-ltb}
 use borrow.Author.Needs.{needs}
 use Rattle.probe.proofs.probe_simple_ui.Statement.{statement}
 use Rattle.probe.proofs.probe_simple_ui.Tie as tie
-use Rattle.probe.proofs.probe_simple_ui.Reads as reads
-use Rattle.probe.proofs.probe_simple_ui.Lts as lts
-use Rattle.frame.proofs.Ax25Frame.new_simple_ui_frame.Reads as new-simple-ui-frame-reads
-use Rattle.probe.proofs.flat.put_frame.Reads as put-frame-reads
-use Rattle.probe.proofs.given.address_at.Reads as address-at-reads
 
--- src/lib.rt:124:9
 returns : tie.Need-returns
 returns c = rw (lt-ltb _ _ (c .if1 .taken)) (refl, refl)
 
--- src/lib.rt:126:9
 address-at-requires : tie.Need-address-at-requires
 address-at-requires c κs = search needs
 
--- src/lib.rt:127:9
 address-at-requires-2 : tie.Need-address-at-requires-2
 address-at-requires-2 c κs = search needs
 
--- src/lib.rt:128:9
 new-simple-ui-frame-requires : tie.Need-new-simple-ui-frame-requires
 new-simple-ui-frame-requires c κs = search needs
 
--- src/lib.rt:129:5
 put-frame-requires : tie.Need-put-frame-requires
 put-frame-requires c κs = search needs
 
--- src/lib.rt:118:1
 same-length : tie.Need-same-length
 same-length c = search needs
 
--- src/lib.rt:118:1
 returns-2 : tie.Need-returns-2
 returns-2 c =
     let p = c .before .before in

@@ -1,53 +1,40 @@
+-- The eight octets are the address and its mark.
 use mathlib.Core.Path.{refl, _∙_}
-use Rattle.probe.proofs.Parts.{flag-byte}
 use borrow.Author.Needs.{needs}
+use Rattle.probe.proofs.Parts.{flag-byte}
 use Rattle.probe.proofs.flat.put_entry.Statement.{statement}
 use Rattle.probe.proofs.flat.put_entry.Tie as tie
-use Rattle.probe.proofs.flat.put_entry.Reads as reads
-use Rattle.probe.proofs.flat.put_entry.Lts as lts
-use Rattle.lent.proofs.put.Reads as put-reads
 
--- src/flat.rt:33:13
 array-read-t12 : tie.Need-array-read-t12
 array-read-t12 c = search needs
 
--- src/flat.rt:34:13
 array-read-t15 : tie.Need-array-read-t15
 array-read-t15 c = search needs
 
--- src/flat.rt:35:13
 array-read-t18 : tie.Need-array-read-t18
 array-read-t18 c = search needs
 
--- src/flat.rt:36:13
 array-read-t21 : tie.Need-array-read-t21
 array-read-t21 c = search needs
 
--- src/flat.rt:37:13
 array-read-t24 : tie.Need-array-read-t24
 array-read-t24 c = search needs
 
--- src/flat.rt:38:13
 array-read-t27 : tie.Need-array-read-t27
 array-read-t27 c = search needs
 
--- src/flat.rt:40:13
 cast-t28 : tie.Need-cast-t28
 cast-t28 c = search needs
 
--- src/flat.rt:32:9
 slice-aggregate-put : tie.Need-slice-aggregate-put
 slice-aggregate-put c = search needs
 
--- src/flat.rt:29:5
 put-requires : tie.Need-put-requires
 put-requires c κs = search needs
 
--- src/flat.rt:24:1
 same-length : tie.Need-same-length
 same-length c = search needs
 
--- src/flat.rt:24:1
 returns : tie.Need-returns
 returns c = c .before .before .put .ensures ∙ rw flag-byte refl
 

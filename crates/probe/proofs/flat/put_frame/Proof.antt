@@ -1,35 +1,25 @@
-use mathlib.Core.Path.{refl, _∙_}
-use Rattle.probe.proofs.Parts.{flat-put}
+-- The parts are written one after the other, and together they are the flat frame.
+use mathlib.Core.Path.{_∙_}
 use borrow.Author.Needs.{needs}
+use Rattle.probe.proofs.Parts.{flat-put}
 use Rattle.probe.proofs.flat.put_frame.Statement.{statement}
 use Rattle.probe.proofs.flat.put_frame.Tie as tie
-use Rattle.probe.proofs.flat.put_frame.Reads as reads
-use Rattle.probe.proofs.flat.put_frame.Lts as lts
-use Rattle.probe.proofs.flat.put_address.Reads as put-address-reads
-use Rattle.probe.proofs.flat.put_rest.Reads as put-rest-reads
-use Rattle.probe.proofs.flat.put_route.Reads as put-route-reads
 
--- src/flat.rt:282:5
 put-address-requires : tie.Need-put-address-requires
 put-address-requires c κs = search needs
 
--- src/flat.rt:283:5
 put-address-requires-2 : tie.Need-put-address-requires-2
 put-address-requires-2 c κs = search needs
 
--- src/flat.rt:284:5
 put-route-requires : tie.Need-put-route-requires
 put-route-requires c κs = search needs
 
--- src/flat.rt:285:5
 put-rest-requires : tie.Need-put-rest-requires
 put-rest-requires c κs = search needs
 
--- src/flat.rt:275:1
 same-length : tie.Need-same-length
 same-length c = search needs
 
--- src/flat.rt:275:1
 returns : tie.Need-returns
 returns c =
     let r = c .before .before in

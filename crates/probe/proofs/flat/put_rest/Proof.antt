@@ -1,48 +1,34 @@
-use mathlib.Core.Path.{refl, _∙_}
-use Rattle.probe.proofs.Parts.{rest-put}
+-- Two octets, then the content after them.
+use mathlib.Core.Path.{_∙_}
 use borrow.Author.Needs.{needs}
+use Rattle.probe.proofs.Parts.{rest-put}
 use Rattle.probe.proofs.flat.put_rest.Statement.{statement}
 use Rattle.probe.proofs.flat.put_rest.Tie as tie
-use Rattle.probe.proofs.flat.put_rest.Reads as reads
-use Rattle.probe.proofs.flat.put_rest.Lts as lts
-use Rattle.lent.proofs.put.Reads as put-reads
-use Rattle.probe.proofs.flat.content_octets.Reads as content-octets-reads
-use Rattle.probe.proofs.flat.count_octet.Reads as count-octet-reads
-use Rattle.probe.proofs.flat.mark_octet.Reads as mark-octet-reads
 
--- src/flat.rt:270:26
 count-octet-requires : tie.Need-count-octet-requires
 count-octet-requires c κs = search needs
 
--- src/flat.rt:270:58
 mark-octet-requires : tie.Need-mark-octet-requires
 mark-octet-requires c κs = search needs
 
--- src/flat.rt:270:24
 slice-aggregate-put : tie.Need-slice-aggregate-put
 slice-aggregate-put c = search needs
 
--- src/flat.rt:270:5
 put-requires : tie.Need-put-requires
 put-requires c κs = search needs
 
--- src/flat.rt:271:18
 content-octets-requires : tie.Need-content-octets-requires
 content-octets-requires c κs = search needs
 
--- src/flat.rt:272:24
 slice-aggregate-put-2 : tie.Need-slice-aggregate-put-2
 slice-aggregate-put-2 c = search needs
 
--- src/flat.rt:272:5
 put-requires-2 : tie.Need-put-requires-2
 put-requires-2 c κs = search needs
 
--- src/flat.rt:264:1
 same-length : tie.Need-same-length
 same-length c = search needs
 
--- src/flat.rt:264:1
 returns : tie.Need-returns
 returns c =
     let b = c .before .before .before .before .before in

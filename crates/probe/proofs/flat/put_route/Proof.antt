@@ -1,16 +1,14 @@
+-- So far the first i places are written.
 use Prim.Native.Nat.{_-_, _≤_}
 use mathlib.Core.Path.{_≡_, sym, _∙_}
 use native.Mathlib.Omega.{arith}
+use borrow.Author.Needs.{needs}
 use Rattle.octets.specs.Splice.{splice}
 use Rattle.octets.proofs.Splice.{splice-none, splice-length}
 use Rattle.probe.specs.Flat.{routeFlat}
 use Rattle.probe.proofs.Parts.{route-more}
-use borrow.Author.Needs.{needs}
 use Rattle.probe.proofs.flat.put_route.Statement.{statement}
 use Rattle.probe.proofs.flat.put_route.Tie as tie
-use Rattle.probe.proofs.flat.put_route.Reads as reads
-use Rattle.probe.proofs.flat.put_route.Lts as lts
-use Rattle.probe.proofs.flat.put_entry.Reads as put-entry-reads
 
 abbrev Inv-loop : tie.InvT-loop
 Inv-loop out₀ route i₀ out i = (i ≤ 8) × (out ≡ splice out₀ 14 (routeFlat route i))
@@ -18,51 +16,40 @@ Inv-loop out₀ route i₀ out i = (i ≤ 8) × (out ≡ splice out₀ 14 (route
 abbrev μ-loop : tie.MeasureT-loop
 μ-loop out₀ route i₀ out i = 8 - i
 
--- src/flat.rt:27:5
 loop-holds : tie.Need-loop-holds Inv-loop μ-loop
 unfolding routeFlat
 loop-holds c = (search needs, sym (splice-none _ _))
 
--- src/flat.rt:28:21
 mul-entry : tie.Need-mul-entry Inv-loop μ-loop
 mul-entry c = search needs
 
--- src/flat.rt:28:21
 array-copy-out-entry : tie.Need-array-copy-out-entry Inv-loop μ-loop
 array-copy-out-entry c = search needs
 
--- src/flat.rt:29:29
 mul-put-entry : tie.Need-mul-put-entry Inv-loop μ-loop
 mul-put-entry c = search needs
 
--- src/flat.rt:29:24
 add-put-entry : tie.Need-add-put-entry Inv-loop μ-loop
 add-put-entry c = search needs
 
--- src/flat.rt:29:9
 put-entry-requires : tie.Need-put-entry-requires Inv-loop μ-loop
 put-entry-requires c κs = search needs
 
--- src/flat.rt:30:9
 add-i : tie.Need-add-i Inv-loop μ-loop
 add-i c = search needs
 
--- src/flat.rt:27:5
 loop-less : tie.Need-loop-less Inv-loop μ-loop
 loop-less c = search needs
 
--- src/flat.rt:27:5
 loop-again : tie.Need-loop-again Inv-loop μ-loop
 loop-again c =
     let w = c .before .before .put-entry .ensures in
     let l = c .before .before .before .before .before .before in
     (search needs, w ∙ rw (l .loop .inv .1) (route-more _ _ _ _ (omega arith)))
 
--- src/flat.rt:25:1
 same-length : tie.Need-same-length Inv-loop μ-loop
 same-length c = rw (c .before .loop .inv .1) (splice-length _ _ _)
 
--- src/flat.rt:25:1
 returns : tie.Need-returns Inv-loop μ-loop
 returns c =
     let e : c .before .loop .i ≡ 8 = omega arith in

@@ -1,20 +1,16 @@
+-- Past the end there is 0.
 use mathlib.Core.Path.{sym}
-use lib.ListN.{List·getD-eq-default}
 use borrow.Author.Needs.{needs}
+use lib.ListN.{List·getD-eq-default}
 use Rattle.probe.proofs.given.octet.Statement.{statement}
 use Rattle.probe.proofs.given.octet.Tie as tie
-use Rattle.probe.proofs.given.octet.Reads as reads
-use Rattle.probe.proofs.given.octet.Lts as lts
 
--- src/given.rt:26:26
 shared-slice-read-result : tie.Need-shared-slice-read-result
 shared-slice-read-result c = search needs
 
--- src/given.rt:23:1
 returns : tie.Need-returns
 returns c = search needs
 
--- src/given.rt:23:1
 returns-2 : tie.Need-returns-2
 returns-2 c = sym (List·getD-eq-default (c .before .args .flat .now) 0 (c .if1 .left))
 

@@ -1,17 +1,13 @@
-use mathlib.Core.Path.{refl}
+-- By the one test.
 use borrow.Author.Tests.{eq-eqb, ne-eqb}
 use Rattle.probe.specs.Given.{responseFrom}
 use Rattle.probe.proofs.given.response_from.Statement.{statement}
 use Rattle.probe.proofs.given.response_from.Tie as tie
-use Rattle.probe.proofs.given.response_from.Reads as reads
-use Rattle.probe.proofs.given.response_from.Lts as lts
 
--- src/given.rt:89:1
 returns : tie.Need-returns
 unfolding responseFrom
 returns c = simp (eq-eqb _ _ (c .if1 .taken))
 
--- src/given.rt:89:1
 returns-2 : tie.Need-returns-2
 unfolding responseFrom
 returns-2 c = simp (ne-eqb _ _ (c .if1 .left))
