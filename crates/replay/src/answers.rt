@@ -4,6 +4,7 @@ use crate::words::number;
 use crate::words::octets;
 use crate::words::show_number;
 use crate::words::show_octets;
+use crate::words::show_small;
 use crate::words::word;
 use show_frame::cutting::first;
 
@@ -18,9 +19,9 @@ fn show_frame(input: &[u8]) {
     show_number(places[2]);
     show_number(places[3]);
     show_number(places[4]);
-    show_number(flat[79] as usize);
-    show_number(flat[80] as usize);
-    show_number(flat[78] as usize);
+    show_small(flat[79]);
+    show_small(flat[80]);
+    show_small(flat[78]);
 }
 
 fn show_again(input: &[u8]) {

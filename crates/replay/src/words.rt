@@ -97,3 +97,8 @@ pub fn show_number(n: usize) {
     show::text(b" ");
     show::number(n as u64);
 }
+
+// The same for a number that an octet holds.
+pub fn show_small(n: u8) {
+    show_number(n as usize);
+}
