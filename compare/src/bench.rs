@@ -1,0 +1,1 @@
+pub fn run() -> crate::report::Report { Default::default() }

@@ -1,0 +1,1 @@
+pub fn list(_n: usize) {}
