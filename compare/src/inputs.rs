@@ -217,7 +217,7 @@ pub fn noise(seed: u64, count: usize, each: Each) {
     for _ in 0..count {
         let even = !rng.chance(3);
         let length = rng.within(0, 110);
-        let mut input: Vec<u8> = (0..length).map(|_| rng.octet()).collect();
+        let mut input = rng.octets(length);
         if even {
             let end = rng.within(0, 90).min(length);
             input[..end].iter_mut().for_each(|octet| *octet &= 0xFE);
@@ -239,9 +239,7 @@ pub fn long(seed: u64, each: Each) {
         for count in [0, 2, 8, 9] {
             for control in [0x00, 0x01, 0x03, 0x87] {
                 let mut input = with_repeaters(count, &[control, 0xF0]);
-                while input.len() < size {
-                    input.push(rng.octet());
-                }
+                input.extend(rng.octets(size.saturating_sub(input.len())));
                 each(&input);
                 let mut late = vec![0; size];
                 late.extend(&input);
@@ -316,7 +314,7 @@ fn group(rng: &mut Rng) -> [u8; 7] {
 fn seeded_content(rng: &mut Rng, length: usize) -> Vec<u8> {
     const NAMED: [u8; 16] = [0x01, 0x06, 0x07, 0x08, 0xC3, 0xC4, 0xCA, 0xCB, 0xCC, 0xCD, 0xCE, 0xCF, 0xF0, 0xFF, 0x10, 0x20];
     const CONTROLS: [u8; 10] = [0x03, 0x00, 0x01, 0x05, 0x09, 0x2F, 0x43, 0x0F, 0x63, 0x87];
-    let mut content: Vec<u8> = (0..length).map(|_| rng.octet()).collect();
+    let mut content = rng.octets(length);
     if length > 0 && !rng.chance(5) {
         let control = *rng.pick(&CONTROLS);
         content[0] = match control {

@@ -1,7 +1,8 @@
 //! Buffers to lend: between guards, and holding a pattern beforehand, so that anything written where nothing should be
 //! is seen.
 
-const GUARD: usize = 32;
+/// Items of guard on each side.
+const GUARD: usize = 8;
 
 /// The pattern alternates from call to call: what happens to equal one pattern differs from the next.
 pub struct Lent<T> {

@@ -93,54 +93,55 @@ impl Port {
         }
     }
 
-    fn see_inputs(&mut self, input: &[u8], second: &[u8]) {
-        let holds = self.input.is(input) && self.second.is(second);
-        self.see(holds, "an input, or an octet beside one, was written");
+    fn see_input(&mut self, input: &[u8]) {
+        let holds = self.input.is(input);
+        self.see(holds, "the input, or an octet beside it, was written");
     }
 
-    fn lend(&mut self, input: &[u8], second: &[u8], room: usize, sizes: usize) {
-        self.input.hold(input);
-        self.second.hold(second);
-        self.output.room(room);
-        self.sizes.room(sizes);
+    fn see_second(&mut self, second: &[u8]) {
+        let holds = self.second.is(second);
+        self.see(holds, "the second input, or an octet beside it, was written");
     }
 
     pub fn number(&mut self, input: &[u8]) -> u32 {
-        self.lend(input, &[], 0, 0);
+        self.input.hold(input);
         let number = unsafe { ax25_decode(self.input.ptr(), self.input.len()) };
-        self.see_inputs(input, &[]);
+        self.see_input(input);
         number
     }
 
     pub fn canonical(&mut self, input: &[u8]) -> u32 {
-        self.lend(input, &[], 0, 0);
+        self.input.hold(input);
         let canonical = unsafe { ax25_canonical(self.input.ptr(), self.input.len()) };
-        self.see_inputs(input, &[]);
+        self.see_input(input);
         canonical
     }
 
     pub fn reencoded_length(&mut self, input: &[u8]) -> usize {
-        self.lend(input, &[], 0, 0);
+        self.input.hold(input);
         let length = unsafe { ax25_reencoded_length(self.input.ptr(), self.input.len()) };
-        self.see_inputs(input, &[]);
+        self.see_input(input);
         length
     }
 
     /// Leaves its octets in the output.
     pub fn reencode(&mut self, input: &[u8], room: usize) -> u32 {
-        self.lend(input, &[], room, 0);
+        self.input.hold(input);
+        self.output.room(room);
         let number = unsafe { ax25_reencode(self.input.ptr(), self.input.len(), self.output.mut_ptr(), room) };
-        self.see_inputs(input, &[]);
+        self.see_input(input);
         number
     }
 
     /// Leaves the record in the output and the places in the sizes.
     pub fn decode_into(&mut self, input: &[u8], room: usize, places: usize) -> u32 {
-        self.lend(input, &[], room, places);
+        self.input.hold(input);
+        self.output.room(room);
+        self.sizes.room(places);
         let number = unsafe {
             probe_decode(self.input.ptr(), self.input.len(), self.output.mut_ptr(), room, self.sizes.mut_ptr(), places)
         };
-        self.see_inputs(input, &[]);
+        self.see_input(input);
         number
     }
 
@@ -158,7 +159,10 @@ impl Port {
 
     /// Leaves its octets in the output and their length in the sizes.
     pub fn encode_into(&mut self, record: &[u8], info: &[u8], room: usize, sizes: usize) -> u32 {
-        self.lend(record, info, room, sizes);
+        self.input.hold(record);
+        self.second.hold(info);
+        self.output.room(room);
+        self.sizes.room(sizes);
         let number = unsafe {
             probe_encode(
                 self.input.ptr(),
@@ -171,7 +175,8 @@ impl Port {
                 sizes,
             )
         };
-        self.see_inputs(record, info);
+        self.see_input(record);
+        self.see_second(info);
         number
     }
 
@@ -189,18 +194,20 @@ impl Port {
 
     /// Leaves the address in the output.
     pub fn from_parts_into(&mut self, callsign: &[u8], ssid: u8, room: usize) -> u32 {
-        self.lend(callsign, &[], room, 0);
+        self.input.hold(callsign);
+        self.output.room(room);
         let number =
             unsafe { probe_from_parts(self.input.ptr(), self.input.len(), ssid, self.output.mut_ptr(), room) };
-        self.see_inputs(callsign, &[]);
+        self.see_input(callsign);
         number
     }
 
     /// Leaves the address in the output.
     pub fn from_str_into(&mut self, text: &[u8], room: usize) -> u32 {
-        self.lend(text, &[], room, 0);
+        self.input.hold(text);
+        self.output.room(room);
         let number = unsafe { probe_from_str(self.input.ptr(), self.input.len(), self.output.mut_ptr(), room) };
-        self.see_inputs(text, &[]);
+        self.see_input(text);
         number
     }
 
@@ -224,11 +231,13 @@ impl Port {
 
     /// Leaves the text in the output and its length in the sizes.
     pub fn print_into(&mut self, address: &[u8], room: usize, sizes: usize) -> u32 {
-        self.lend(address, &[], room, sizes);
+        self.input.hold(address);
+        self.output.room(room);
+        self.sizes.room(sizes);
         let number = unsafe {
             probe_print(self.input.ptr(), self.input.len(), self.output.mut_ptr(), room, self.sizes.mut_ptr(), sizes)
         };
-        self.see_inputs(address, &[]);
+        self.see_input(address);
         number
     }
 
@@ -240,7 +249,9 @@ impl Port {
 
     /// Leaves the record in the output.
     pub fn simple_ui(&mut self, source: &[u8], destination: &[u8], room: usize) -> u32 {
-        self.lend(source, destination, room, 0);
+        self.input.hold(source);
+        self.second.hold(destination);
+        self.output.room(room);
         let number = unsafe {
             probe_simple_ui(
                 self.input.ptr(),
@@ -251,15 +262,15 @@ impl Port {
                 room,
             )
         };
-        self.see_inputs(source, destination);
+        self.see_input(source);
+        self.see_second(destination);
         number
     }
 
     /// Leaves the record in the output.
     pub fn default(&mut self, room: usize) -> u32 {
-        self.lend(&[], &[], room, 0);
+        self.output.room(room);
         let number = unsafe { probe_default(self.output.mut_ptr(), room) };
-        self.see_inputs(&[], &[]);
         number
     }
 }

@@ -176,7 +176,8 @@ pub fn unholdable(seed: u64, count: usize, each: Each) {
         }
         if rules & 4 != 0 {
             record[KIND] = rng.within(RR.into(), FRMR.into()) as u8;
-            info = vec![rng.octet(); rng.within(1, 9)];
+            let length = rng.within(1, 9);
+            info = rng.octets(length);
         }
         each(&record, &info);
     }
@@ -198,7 +199,7 @@ fn spoil(rng: &mut Rng, record: &mut Flat) {
 
 fn seeded(rng: &mut Rng) -> Flat {
     let mut record = [0; FLAT];
-    record.iter_mut().for_each(|octet| *octet = rng.octet());
+    record.copy_from_slice(&rng.octets(FLAT));
     record[COUNT] = rng.within(0, REPEATERS) as u8;
     if !rng.chance(8) {
         record[KIND] = rng.within(0, UNKNOWN_CONTENT.into()) as u8;
@@ -247,5 +248,5 @@ fn seeded_info(rng: &mut Rng, kind: u8) -> Vec<u8> {
         1 => rng.within(0, 300),
         _ => rng.within(0, 12),
     };
-    (0..length).map(|_| rng.octet()).collect()
+    rng.octets(length)
 }

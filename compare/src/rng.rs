@@ -14,9 +14,9 @@ impl Rng {
         z ^ (z >> 31)
     }
 
-    /// Below `limit`, which is not 0.
+    /// Below `limit`, which is not 0 and has at most 32 bits.
     pub fn below(&mut self, limit: usize) -> usize {
-        (self.next() % limit as u64) as usize
+        ((self.next() >> 32) * limit as u64 >> 32) as usize
     }
 
     /// From `low` to `high`, both included.
@@ -26,6 +26,15 @@ impl Rng {
 
     pub fn octet(&mut self) -> u8 {
         self.next() as u8
+    }
+
+    pub fn octets(&mut self, length: usize) -> Vec<u8> {
+        let mut octets = Vec::with_capacity(length + 8);
+        while octets.len() < length {
+            octets.extend(self.next().to_le_bytes());
+        }
+        octets.truncate(length);
+        octets
     }
 
     pub fn chance(&mut self, one_in: usize) -> bool {
