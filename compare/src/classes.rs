@@ -37,6 +37,12 @@ impl Class<'_> {
         self.done(found, || (show::hex(input), report::again(input)));
     }
 
+    /// Octets that stand somewhere in a capture.
+    pub fn octets_at(&mut self, place: &str, input: &[u8]) {
+        let found = self.checker.octets(input);
+        self.done(found, || (format!("{}: {}", place, show::hex(input)), report::again(input)));
+    }
+
     fn record(&mut self, record: &[u8], info: &[u8]) {
         let found = self.checker.record(record, info);
         self.done(found, || {
@@ -138,7 +144,10 @@ fn frame_records(checker: &mut Checker, report: &mut Report, scale: usize, seeds
     run("records: every seven-bit character at every place", &mut |each| records::characters(each));
     run("records: cut short", &mut |each| records::cut(each));
     run("records: seeded, as the Rust can hold them", &mut |each| records::holdable(a, 250_000 * scale, each));
-    run("records: those that the Rust can't hold", &mut |each| records::unholdable(b, 60_000 * scale, each));
+    run("records: those that the Rust can't hold", &mut |each| {
+        records::unholdable(each);
+        records::seeded_unholdable(b, 60_000 * scale, each);
+    });
     class(checker, report, "records: default", |c| {
         let found = c.checker.default();
         c.other("the default frame", found);

@@ -143,9 +143,8 @@ pub fn holdable(seed: u64, count: usize, each: Each) {
     }
 }
 
-/// Records that break one rule, or several.
-pub fn unholdable(seed: u64, count: usize, each: Each) {
-    let mut rng = Rng::new(seed);
+/// Records that break one rule: info where there is none, every count over 8, every octet that an address can't hold.
+pub fn unholdable(each: Each) {
     for kind in RR..=FRMR {
         for length in [1, 2, 300] {
             each(&base(kind), &vec![0x55; length]);
@@ -164,6 +163,11 @@ pub fn unholdable(seed: u64, count: usize, each: Each) {
             each(&record, b"");
         }
     }
+}
+
+/// Records that break one rule, or several.
+pub fn seeded_unholdable(seed: u64, count: usize, each: Each) {
+    let mut rng = Rng::new(seed);
     for _ in 0..count {
         let mut record = seeded(&mut rng);
         let mut info = seeded_info(&mut rng, record[KIND]);
