@@ -224,8 +224,7 @@ fn with_ssids(first: u8, second: u8, content: &[u8]) -> Vec<u8> {
 fn departures() -> Vec<Vec<u8>> {
     let mut empty_callsign = inputs::with_content(&[0x01]);
     empty_callsign[..6].fill(b' ' << 1);
-    let mut left_over = with_ssids(0xE0, 0x66, &[0x01, 0x01]);
-    left_over.truncate(16);
+    let left_over = with_ssids(0xE0, 0x66, &[0x01, 0x01]);
     vec![
         [&[0x00], &inputs::with_content(&[0x01])[..]].concat(),
         left_over,
