@@ -1,0 +1,57 @@
+-- Lent too little, either way; else the decoded frame and its places are written.
+use mathlib.Core.Path.{refl, _∙_}
+use borrow.Author.Tests.{lt-ltb, le-ltb}
+use borrow.Author.Needs.{needs}
+use Rattle.probe.proofs.probe_decode.Statement.{statement}
+use Rattle.probe.proofs.probe_decode.Tie as tie
+
+returns : tie.Need-returns
+returns c = rw (lt-ltb _ _ (c .if1 .taken)) (refl, (refl, refl))
+
+returns-2 : tie.Need-returns-2
+returns-2 c = rw (le-ltb _ _ (c .before .if1 .left), lt-ltb _ _ (c .if2 .taken)) (refl, (refl, refl))
+
+from-bytes-requires : tie.Need-from-bytes-requires
+from-bytes-requires c κs = search needs
+
+put-frame-requires : tie.Need-put-frame-requires
+put-frame-requires c κs = search needs
+
+put-places-requires : tie.Need-put-places-requires
+put-places-requires c κs = search needs
+
+number-requires : tie.Need-number-requires
+number-requires c κs = search needs
+
+same-length : tie.Need-same-length
+same-length c = search needs
+
+same-length-2 : tie.Need-same-length-2
+same-length-2 c = search needs
+
+returns-3 : tie.Need-returns-3
+returns-3 c =
+    let p = c .before .before .before in
+    let f = p .before .before .before .before in
+    let d = f .before .before .before in
+    rw (le-ltb _ _ (d .before .before .if1 .left), le-ltb _ _ (d .before .if2 .left)) (
+      rw (c .number .ensures, d .from-bytes .ensures) refl,
+      (
+        f .put-frame .ensures ∙ rw (d .from-bytes .ensures) refl,
+        p .put-places .ensures ∙ rw (d .from-bytes .ensures) refl,
+      ),
+    )
+
+pub probe-decode-spec : {M : Type 1} → statement M
+probe-decode-spec =
+    tie.close
+    (tie.spec
+    returns
+    returns-2
+    from-bytes-requires
+    put-frame-requires
+    put-places-requires
+    number-requires
+    same-length
+    same-length-2
+    returns-3)
