@@ -64,10 +64,10 @@ pub fn read(file: &str, format: Option<&str>) -> Result<Capture, String> {
 
 const PCAPNG: [u8; 4] = [0x0A, 0x0D, 0x0D, 0x0A];
 const FEND: u8 = 0xC0;
-/// The longest raw frame that is taken for one by its content alone.
+/// The longest frame that a file without any format is taken for.
 const RAW: usize = 65_536;
 
-fn by_content(octets: &[u8]) -> Result<Capture, String> {
+pub fn by_content(octets: &[u8]) -> Result<Capture, String> {
     match octets {
         [] => Err("the file is empty".to_string()),
         [a, b, c, d, ..] if byte_order([*a, *b, *c, *d]).is_some() => pcap(octets),

@@ -4,7 +4,7 @@ use crate::check::{Checker, Difference};
 use crate::report::{self, Line, Report};
 use crate::rng::Rng;
 use crate::show;
-use crate::{inputs, records, texts};
+use crate::{capture_check, inputs, records, texts};
 
 /// A class under way.
 pub struct Class<'a> {
@@ -15,6 +15,9 @@ pub struct Class<'a> {
 
 /// Runs one class and prints its line.
 pub fn class(checker: &mut Checker, report: &mut Report, name: &str, body: impl FnOnce(&mut Class)) {
+    if report.only.as_ref().map_or(false, |only| !name.contains(only.as_str())) {
+        return;
+    }
     let line = Line { name: name.to_string(), inputs: 0, mismatches: 0 };
     let mut class = Class { checker, report, line };
     body(&mut class);
@@ -95,15 +98,20 @@ impl Class<'_> {
 }
 
 /// Everything, the seeded classes `scale` times as large as by default.
-pub fn test(scale: usize, seed: u64) -> Report {
+pub fn test(scale: usize, seed: u64, only: Option<String>) -> Report {
     let mut checker = Checker::new();
     let mut report = Report::default();
+    report.only = only;
     let mut seeds = Rng::new(seed);
     octets(&mut checker, &mut report, scale, &mut seeds);
     frame_records(&mut checker, &mut report, scale, &mut seeds);
     address_texts(&mut checker, &mut report, scale, &mut seeds);
+    class(&mut checker, &mut report, "captures: each format comes back, and what can't be read is refused", |c| {
+        let frames: Vec<Vec<u8>> = inputs::good_frames().into_iter().chain([vec![0xC0, 0xDB, 0xDC, 0xDD, 0xC0]]).collect();
+        c.other("captures of good frames", capture_check::faults(&frames));
+    });
     let missing = checker.seen.missing();
-    class(&mut checker, &mut report, "every number, kind, mark, PID, route length and listed difference was met", |c| c.missing(missing));
+    class(&mut checker, &mut report, "met: every number, kind, mark, PID, route length and listed difference", |c| c.missing(missing));
     report::totals(&mut report, &checker.seen);
     report.extra("seed", seed.to_string());
     report.extra("scale", scale.to_string());

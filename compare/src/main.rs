@@ -2,6 +2,7 @@
 
 mod bench;
 mod capture;
+mod capture_check;
 mod check;
 mod classes;
 mod domain;
@@ -45,12 +46,14 @@ compare bench                      times of both, and their ratios
 compare replay-list [N]            about N (3000) lines of the Rust's answers, for the program replay
   --json FILE    leave counts, mismatches and ratios there (test, captures, bench)
   --seed N       another seed for test
+  --only WORDS   only the classes of test with these words in their name
 Exit status: 0 no difference but listed ones, 1 some other difference, 2 something could not be read.";
 
 struct Options {
     words: Vec<String>,
     json: Option<String>,
     seed: u64,
+    only: Option<String>,
     format: Option<String>,
 }
 
@@ -60,13 +63,14 @@ fn refuse(message: &str) -> ! {
 }
 
 fn options() -> Options {
-    let mut options = Options { words: Vec::new(), json: None, seed: 25, format: None };
+    let mut options = Options { words: Vec::new(), json: None, seed: 25, only: None, format: None };
     let mut args = std::env::args().skip(1);
     while let Some(arg) = args.next() {
         let mut value = || args.next().unwrap_or_else(|| refuse(&format!("{} wants a value", arg)));
         match arg.as_str() {
             "--json" => options.json = Some(value()),
             "--seed" => options.seed = number(&value()),
+            "--only" => options.only = Some(value()),
             "--format" => options.format = Some(value()),
             _ => options.words.push(arg),
         }
@@ -109,8 +113,8 @@ fn main() {
     let options = options();
     let words: Vec<&str> = options.words.iter().map(String::as_str).collect();
     match words[..] {
-        ["test"] => finish(classes::test(1, options.seed), &options),
-        ["test", scale] => finish(classes::test(number(scale).max(1) as usize, options.seed), &options),
+        ["test"] => test("1", &options),
+        ["test", scale] => test(scale, &options),
         ["captures", ref files @ ..] if !files.is_empty() => {
             let (report, unread) = capture::compare(files, options.format.as_deref());
             leave(&report, &options.json);
@@ -139,7 +143,15 @@ fn main() {
     }
 }
 
-fn finish(report: Report, options: &Options) -> ! {
+fn test(scale: &str, options: &Options) -> ! {
+    let scale = number(scale) as usize;
+    if !(1..=1000).contains(&scale) {
+        refuse("SCALE is a number from 1 to 1000");
+    }
+    let report = classes::test(scale, options.seed, options.only.clone());
+    if report.lines.is_empty() {
+        refuse("no class has such a name");
+    }
     leave(&report, &options.json);
     status(report.finish())
 }

@@ -24,6 +24,8 @@ struct Mismatch {
 #[derive(Default)]
 pub struct Report {
     pub lines: Vec<Line>,
+    /// Only the classes whose name has this in it are run.
+    pub only: Option<String>,
     mismatches: Vec<Mismatch>,
     extra: Vec<(String, String)>,
 }

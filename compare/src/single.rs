@@ -65,6 +65,12 @@ fn show_address(side: &str, number: u32, address: &[u8]) {
     println!("{}: number {} {}", side, show::number(number), show::address(address));
 }
 
+fn show_wide(text: &[u8]) {
+    if domain::is_wide(text) {
+        println!("outside the domain of equality (B2): an octet of 128 or more, the port owes 35");
+    }
+}
+
 fn show_rust_address(read: Result<Address, u32>) {
     match read {
         Ok(address) => println!("Rust: number 0 {:?}", address),
@@ -79,6 +85,7 @@ pub fn text(text: &[u8]) -> bool {
         Ok(text) => show_rust_address(oracle::from_str(text)),
         Err(_) => println!("Rust: can't be asked, the octets are no UTF-8"),
     }
+    show_wide(text);
     let (number, address) = checker.port.from_str(text);
     show_address("port", number, &address);
     verdict(checker.text(text))
@@ -91,6 +98,7 @@ pub fn parts(callsign: &[u8], ssid: u8) -> bool {
         Ok(callsign) => show_rust_address(oracle::from_parts(callsign, ssid)),
         Err(_) => println!("Rust: can't be asked, the octets are no UTF-8"),
     }
+    show_wide(callsign);
     let (number, address) = checker.port.from_parts(callsign, ssid);
     show_address("port", number, &address);
     verdict(checker.parts(callsign, ssid))
