@@ -10,7 +10,7 @@ use crate::show;
 use ax25::frame::Ax25Frame;
 
 /// One thing that differs, with both answers in full.
-#[derive(Clone)]
+#[derive(Clone, Default)]
 pub struct Difference {
     pub what: String,
     pub owed: String,
@@ -20,6 +20,8 @@ pub struct Difference {
 pub struct Checker {
     pub port: Port,
     pub seen: Seen,
+    /// Differences are only counted, and not described.
+    pub quiet: bool,
     found: Vec<Difference>,
 }
 
@@ -28,24 +30,30 @@ const LONGER: usize = 9;
 
 impl Checker {
     pub fn new() -> Checker {
-        Checker { port: Port::new(), seen: Seen::new(), found: Vec::new() }
+        Checker { port: Port::new(), seen: Seen::new(), quiet: false, found: Vec::new() }
     }
 
-    fn differ(&mut self, what: &str, owed: String, port: String) {
-        self.found.push(Difference { what: what.to_string(), owed, port });
+    fn differ(&mut self, what: &str, owed: impl FnOnce() -> String, port: impl FnOnce(&Checker) -> String) {
+        let difference = if self.quiet {
+            Difference::default()
+        } else {
+            Difference { what: what.to_string(), owed: owed(), port: port(self) }
+        };
+        self.found.push(difference);
     }
 
     fn finish(&mut self) -> Vec<Difference> {
         if let Some(fault) = self.port.fault() {
-            self.differ("lent storage", "nothing else is written".to_string(), fault.to_string());
+            self.differ("lent storage", || "nothing else is written".to_string(), |_| fault.to_string());
         }
         std::mem::take(&mut self.found)
     }
 
-    /// The output of the last call, as far as it is owed, and whether anything else was touched.
-    fn output(&self, len: usize) -> String {
-        let output = self.port.output();
-        format!("{} of {} octets: {}", len.min(output.len()), output.len(), show::hex(output))
+    /// The whole output of the last call, cut after the octets that are owed.
+    fn output(&self, owed: usize) -> String {
+        let (owed, rest) = self.port.output().split_at(owed.min(self.port.output().len()));
+        let touched = if self.port.rest_is_as_it_was(owed.len()) { "as it was" } else { "NOT as it was" };
+        format!("{} and then, {}, {}", show::hex(owed), touched, show::hex(rest))
     }
 
     /// Octets off the air: decoded, written again, and by the loader's four calls.
@@ -69,7 +77,7 @@ impl Checker {
         let info = &input[owed.info_start..owed.info_start + owed.info_len];
         // That the flat record loses nothing of the Rust's frame is about this program and not the port: a sample will do.
         if self.seen.decodes % 8 == 0 && flat::to_frame(&owed.record, info) != *frame {
-            self.differ("the flat record", format!("{:?}", frame), show::record(&owed.record));
+            self.differ("the flat record", || format!("{:?}", frame), |_| show::record(&owed.record));
         }
         self.seen.frame(&owed.record, octets == input);
         self.decode(input, &owed);
@@ -91,7 +99,8 @@ impl Checker {
             Err(refusal) => (5..=8).contains(&refusal.number),
         };
         if !as_listed {
-            self.differ("B1", "the Rust reads any number of repeaters".to_string(), format!("the Rust: {:?}", rust));
+            let owed = || "the Rust reads any number of repeaters".to_string();
+            self.differ("B1", owed, |_| format!("the Rust: {:?}", rust));
         }
         self.refused(input, Refusal { number: 9, start: 0, end: 0, length: 0 });
     }
@@ -99,7 +108,7 @@ impl Checker {
     fn decode(&mut self, input: &[u8], owed: &Decode) {
         let port = self.port.decode(input);
         if port != *owed {
-            self.differ("decode", show::decode(owed), show::decode(&port));
+            self.differ("decode", || show::decode(owed), |_| show::decode(&port));
         }
     }
 
@@ -112,7 +121,7 @@ impl Checker {
             let say = |(number, canonical, length): (u32, u32, usize)| {
                 format!("number {} canonical {} re-encoded length {}", show::number(number), canonical, length)
             };
-            self.differ("the loader's calls", say(owed), say(port));
+            self.differ("the loader's calls", || say(owed), |_| say(port));
         }
         for room in rooms(octets.len()) {
             self.reencode(input, number, octets, room);
@@ -123,9 +132,8 @@ impl Checker {
         let (owed, octets) = self.owed_in(room, number, octets);
         let port = self.port.reencode(input, room);
         if port != owed || !self.port.output_is(octets) {
-            let what = format!("re-encoding into {} octets", room);
-            let says = format!("number {} written {}", port, self.output(octets.len()));
-            self.differ(&what, show::written(owed, octets.len(), octets), says);
+            let says = |me: &Checker| format!("number {} written {}", port, me.output(octets.len()));
+            self.differ(&format!("re-encoding into {} octets", room), || show::written(owed, octets.len(), octets), says);
         }
     }
 
@@ -153,9 +161,8 @@ impl Checker {
         let (number, octets) = self.owed_in(room, number, octets);
         let port = self.port.encode(record, info, room);
         if port != (number, octets.len()) || !self.port.output_is(octets) {
-            let what = format!("writing into {} octets", room);
-            let says = format!("number {} length {} written {}", port.0, port.1, self.output(octets.len()));
-            self.differ(&what, show::written(number, octets.len(), octets), says);
+            let says = |me: &Checker| format!("number {} length {} written {}", port.0, port.1, me.output(octets.len()));
+            self.differ(&format!("writing into {} octets", room), || show::written(number, octets.len(), octets), says);
         }
     }
 
@@ -191,7 +198,7 @@ impl Checker {
         self.seen.text(owed.0);
         if owed != port {
             let say = |(number, read): (u32, FlatAddress)| format!("number {} {}", show::number(number), show::address(&read));
-            self.differ(what, say(owed), say(port));
+            self.differ(what, || say(owed), |_| say(port));
         }
     }
 
@@ -241,8 +248,8 @@ impl Checker {
             Err(number) => (31..=34).contains(number),
         };
         if !as_listed {
-            let owed = format!("the Rust takes letters of any script in {}", show::text(text));
-            self.differ("B2", owed, format!("the Rust: {:?}", rust));
+            let owed = || format!("the Rust takes letters of any script in {}", show::text(text));
+            self.differ("B2", owed, |_| format!("the Rust: {:?}", rust));
         }
     }
 
@@ -269,9 +276,8 @@ impl Checker {
         let (number, text) = self.owed_in(room, number, text);
         let port = self.port.print(address, room);
         if port != (number, text.len()) || !self.port.output_is(text) {
-            let what = format!("printing into {} octets", room);
-            let says = format!("number {} length {} written {}", port.0, port.1, self.output(text.len()));
-            self.differ(&what, show::written(number, text.len(), text), says);
+            let says = |me: &Checker| format!("number {} length {} written {}", port.0, port.1, me.output(text.len()));
+            self.differ(&format!("printing into {} octets", room), || show::written(number, text.len(), text), says);
         }
     }
 
@@ -295,8 +301,8 @@ impl Checker {
     fn made(&mut self, what: &str, number: u32, frame: &Ax25Frame, info: &[u8]) {
         let owed = flat::of_frame(frame);
         if number != 0 || !self.port.output_is(&owed) {
-            let says = format!("number {} written {}", number, self.output(FLAT));
-            self.differ(what, format!("number 0 {}", show::record(&owed)), says);
+            let says = |me: &Checker| format!("number {} written {}", number, me.output(FLAT));
+            self.differ(what, || format!("number 0 {}", show::record(&owed)), says);
         }
         self.write(&owed, info, &frame.to_bytes());
     }
@@ -325,8 +331,8 @@ impl Checker {
 
     fn untouched(&mut self, what: &str, number: u32) {
         if number != 24 || !self.port.output_is(&[]) || !self.port.sizes_are(&[]) {
-            let says = format!("number {}, or something was written: {}", number, self.output(0));
-            self.differ(what, "number 24, nothing touched".to_string(), says);
+            let says = |me: &Checker| format!("number {}, or something was written: {}", number, me.output(0));
+            self.differ(what, || "number 24, nothing touched".to_string(), says);
         }
     }
 }

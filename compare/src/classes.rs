@@ -30,8 +30,11 @@ impl Class<'_> {
         self.line.inputs += 1;
         if !found.is_empty() {
             self.line.mismatches += 1;
-            let (input, again) = input();
-            self.report.mismatch(&self.line.name, input, again, found);
+            if !self.report.full() {
+                let (input, again) = input();
+                self.report.mismatch(&self.line.name, input, again, found);
+                self.checker.quiet = self.report.full();
+            }
         }
     }
 

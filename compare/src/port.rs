@@ -78,6 +78,11 @@ impl Port {
         self.output.is(octets)
     }
 
+    /// Whether the output after its first `count` octets, and around it, is as it was.
+    pub fn rest_is_as_it_was(&self, count: usize) -> bool {
+        self.output.written_only(count)
+    }
+
     pub fn output(&self) -> &[u8] {
         self.output.items()
     }

@@ -31,11 +31,13 @@ pub struct Report {
 }
 
 impl Report {
-    /// Prints a mismatch, if not too many were printed, and keeps it.
+    /// Whether mismatches are only counted from now on.
+    pub fn full(&self) -> bool {
+        self.mismatches.len() >= SHOWN
+    }
+
+    /// Prints a mismatch and keeps it.
     pub fn mismatch(&mut self, class: &str, input: String, reproduce: String, differences: Vec<Difference>) {
-        if self.mismatches.len() >= SHOWN {
-            return;
-        }
         println!("MISMATCH: {}", class);
         println!("  input: {}", input);
         for difference in &differences {
@@ -44,10 +46,10 @@ impl Report {
             println!("    port: {}", difference.port);
         }
         println!("  again: {}", reproduce);
-        if self.mismatches.len() + 1 == SHOWN {
+        self.mismatches.push(Mismatch { class: class.to_string(), input, reproduce, differences });
+        if self.full() {
             println!("  (from here on mismatches are only counted)");
         }
-        self.mismatches.push(Mismatch { class: class.to_string(), input, reproduce, differences });
     }
 
     /// One class is done.
