@@ -16,22 +16,34 @@ pub struct Capture {
 pub fn compare(files: &[&str], format: Option<&str>) -> (Report, usize) {
     let mut checker = Checker::new();
     let mut report = Report::default();
-    let mut unread = Vec::new();
+    let mut taken = Vec::new();
+    let mut refused = Vec::new();
     for file in files {
         match read(file, format) {
-            Ok(capture) => compare_one(&mut checker, &mut report, file, &capture),
+            Ok(capture) => {
+                compare_one(&mut checker, &mut report, file, &capture);
+                taken.push(capture_json(file, &capture));
+            }
             Err(problem) => {
                 println!("REFUSED: {}: {}", file, problem);
-                unread.push((file, problem));
+                refused.push(report::object(&[("file", report::string(file)), ("problem", report::string(&problem))]));
             }
         }
     }
+    let unread = refused.len();
     report::totals(&mut report, &checker.seen);
-    let refused = unread.iter().map(|(file, problem)| {
-        report::object(&[("file", report::string(file)), ("problem", report::string(problem))])
-    });
-    report.extra("refused_captures", report::list(refused));
-    (report, unread.len())
+    report.extra("captures", report::list(taken.into_iter()));
+    report.extra("refused_captures", report::list(refused.into_iter()));
+    (report, unread)
+}
+
+fn capture_json(file: &str, capture: &Capture) -> String {
+    report::object(&[
+        ("file", report::string(file)),
+        ("format", report::string(&capture.format)),
+        ("frames", capture.frames.len().to_string()),
+        ("passed_over", report::list(capture.passed_over.iter().map(|note| report::string(note)))),
+    ])
 }
 
 fn compare_one(checker: &mut Checker, report: &mut Report, file: &str, capture: &Capture) {

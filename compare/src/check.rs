@@ -51,6 +51,9 @@ impl Checker {
 
     /// The whole output of the last call, cut after the octets that are owed.
     fn output(&self, owed: usize) -> String {
+        if self.port.rest_is_as_it_was(0) {
+            return "nothing".to_string();
+        }
         let (owed, rest) = self.port.output().split_at(owed.min(self.port.output().len()));
         let touched = if self.port.rest_is_as_it_was(owed.len()) { "as it was" } else { "NOT as it was" };
         format!("{} and then, {}, {}", show::hex(owed), touched, show::hex(rest))

@@ -20,7 +20,7 @@ pub const LISTED: [(Listed, &str); 4] = [
     (Listed::B1, "nine or more repeaters"),
     (Listed::B2, "text with an octet of 128 or more"),
     (Listed::B3, "a record that the Rust can't hold"),
-    (Listed::B4, "too little room"),
+    (Listed::B4, "too little room, lent on purpose"),
 ];
 
 /// The repeaters of an input that has an address field and something after it.
