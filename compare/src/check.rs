@@ -4,7 +4,7 @@
 use crate::domain::{self, Listed};
 use crate::flat::{self, Decode, Flat, FlatAddress, ADDRESS, FLAT, NOCALL};
 use crate::oracle::{self, Refusal};
-use crate::port::{Port, PLACES};
+use crate::port::{Beside, Port, PLACES};
 use crate::seen::Seen;
 use crate::show;
 use ax25::frame::Ax25Frame;
@@ -166,6 +166,28 @@ impl Checker {
         if port != (number, octets.len()) || !self.port.output_is(octets) {
             let says = |me: &Checker| format!("number {} length {} written {}", port.0, port.1, me.output(octets.len()));
             self.differ(&format!("writing into {} octets", room), || show::written(number, octets.len(), octets), says);
+        }
+    }
+
+    /// Writing an accepted input again with the input, or its info, close to the output.
+    pub fn beside(&mut self, input: &[u8], beside: &Beside) -> Vec<Difference> {
+        if let Ok(frame) = oracle::read(input) {
+            let octets = frame.to_bytes();
+            if domain::repeaters(input) <= flat::REPEATERS {
+                let whole = self.port.reencode_beside(input, &octets, beside);
+                self.placed("re-encoding beside the input", whole, &octets);
+                let info = flat::info_of(&frame).unwrap_or(&[]);
+                let written = self.port.encode_beside(&flat::of_frame(&frame), info, &octets, beside);
+                self.placed("writing beside the info", written, &octets);
+            }
+        }
+        self.finish()
+    }
+
+    fn placed(&mut self, what: &str, port: (u32, bool), octets: &[u8]) {
+        if port != (0, true) {
+            let says = |me: &Checker| format!("number {}, all the storage {}", port.0, show::hex(me.port.output()));
+            self.differ(what, || show::written(0, octets.len(), octets), says);
         }
     }
 

@@ -1,6 +1,7 @@
 //! `compare test`: every class of inputs, each through its comparison.
 
 use crate::check::{Checker, Difference};
+use crate::port::Beside;
 use crate::report::{self, Line, Report};
 use crate::rng::Rng;
 use crate::show;
@@ -47,6 +48,15 @@ impl Class<'_> {
     pub fn octets_at(&mut self, place: &str, input: &[u8]) {
         let found = self.checker.octets(input);
         self.done(found, || (format!("{}: {}", place, show::hex(input)), report::again(input)));
+    }
+
+    fn beside(&mut self, input: &[u8], beside: &Beside) {
+        let found = self.checker.beside(input, beside);
+        self.done(found, || {
+            let order = if beside.output_first { "output, gap, input" } else { "input, gap, output" };
+            let input = format!("{} with a gap of {} ({})", show::hex(input), beside.gap, order);
+            (input, "compare test --only 'side by side'".to_string())
+        });
     }
 
     fn record(&mut self, record: &[u8], info: &[u8]) {
@@ -108,6 +118,7 @@ pub fn test(scale: usize, seed: u64, only: Option<String>) -> Report {
     let mut seeds = Rng::new(seed);
     octets(&mut checker, &mut report, scale, &mut seeds);
     frame_records(&mut checker, &mut report, scale, &mut seeds);
+    side_by_side(&mut checker, &mut report, scale, seeds.next());
     address_texts(&mut checker, &mut report, scale, &mut seeds);
     class(&mut checker, &mut report, "captures: each format comes back, and what can't be read is refused", |c| {
         let frames: Vec<Vec<u8>> = inputs::good_frames().into_iter().chain([vec![0xC0, 0xDB, 0xDC, 0xDD, 0xC0]]).collect();
@@ -141,6 +152,25 @@ fn octets(checker: &mut Checker, report: &mut Report, scale: usize, seeds: &mut 
     run("octets: damaged copies", &mut |each| inputs::damaged(d, 1_200_000 * scale, each));
     run("octets: noise", &mut |each| inputs::noise(e, 600_000 * scale, each));
     run("octets: long inputs, to 131,074", &mut |each| inputs::long(f, each));
+}
+
+/// Every length of info to 100 with every gap to 40, and seeded frames.
+fn side_by_side(checker: &mut Checker, report: &mut Report, scale: usize, seed: u64) {
+    class(checker, report, "octets: input and output side by side", |class| {
+        for length in 0..=100 {
+            let content = [&[0x03, 0xF0][..], &Rng::new(seed).octets(length)].concat();
+            for input in [inputs::with_content(&content), inputs::with_repeaters(3, &content)] {
+                for gap in 0..=40 {
+                    class.beside(&input, &Beside { gap, output_first: false });
+                    class.beside(&input, &Beside { gap, output_first: true });
+                }
+            }
+        }
+        let mut gaps = Rng::new(seed);
+        inputs::frames(seed, 20_000 * scale, &mut |input| {
+            class.beside(input, &Beside { gap: gaps.within(0, 40), output_first: gaps.chance(2) });
+        });
+    });
 }
 
 fn frame_records(checker: &mut Checker, report: &mut Report, scale: usize, seeds: &mut Rng) {

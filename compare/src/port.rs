@@ -280,6 +280,52 @@ impl Port {
     }
 }
 
+/// Two buffers in one piece of storage, so that one ends where the other starts, or a few octets before: where a compiler
+/// copies many octets at a time it looks at the distance, and takes another way for buffers that are close.
+pub struct Beside {
+    pub gap: usize,
+    pub output_first: bool,
+}
+
+impl Beside {
+    /// Where the input and the output start.
+    fn places(&self, input: usize, output: usize) -> (usize, usize) {
+        if self.output_first {
+            (output + self.gap, 0)
+        } else {
+            (0, input + self.gap)
+        }
+    }
+}
+
+impl Port {
+    /// Runs a call on an input and an output side by side, the output with room just for `octets`; whether these are then
+    /// there, and all else is as it was.
+    fn side_by_side(&mut self, input: &[u8], octets: &[u8], beside: &Beside, call: impl FnOnce(*const u8, *mut u8) -> u32) -> (u32, bool) {
+        let (input_at, output_at) = beside.places(input.len(), octets.len());
+        let mut image = vec![0x5A; input.len() + octets.len() + beside.gap];
+        image[input_at..input_at + input.len()].copy_from_slice(input);
+        self.output.hold(&image);
+        let storage = self.output.mut_ptr();
+        // Both places are inside the storage.
+        let number = unsafe { call(storage.add(input_at), storage.add(output_at)) };
+        image[output_at..output_at + octets.len()].copy_from_slice(octets);
+        (number, self.output.is(&image))
+    }
+
+    pub fn reencode_beside(&mut self, input: &[u8], octets: &[u8], beside: &Beside) -> (u32, bool) {
+        self.side_by_side(input, octets, beside, |from, to| unsafe { ax25_reencode(from, input.len(), to, octets.len()) })
+    }
+
+    pub fn encode_beside(&mut self, record: &[u8], info: &[u8], octets: &[u8], beside: &Beside) -> (u32, bool) {
+        let mut length = [0];
+        let (number, holds) = self.side_by_side(info, octets, beside, |from, to| unsafe {
+            probe_encode(record.as_ptr(), record.len(), from, info.len(), to, octets.len(), length.as_mut_ptr(), 1)
+        });
+        (number, holds && length[0] == octets.len())
+    }
+}
+
 /// The loader's calls as they are, for timing.
 pub mod bare {
     pub fn decode(input: &[u8]) -> u32 {
