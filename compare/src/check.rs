@@ -1,0 +1,376 @@
+//! One comparison for each kind of input. Each gives what differs, empty where the port answers as it owes: as the Rust
+//! does on document 01's domain of equality, and as docs/DIFFERENCES.md lists outside it.
+
+use crate::domain::{self, Listed};
+use crate::flat::{self, Decode, Flat, FlatAddress, ADDRESS, FLAT, NOCALL};
+use crate::oracle::{self, Refusal};
+use crate::port::{Beside, Port, PLACES};
+use crate::seen::Seen;
+use crate::show;
+use ax25::frame::Ax25Frame;
+
+/// One thing that differs, with both answers in full.
+#[derive(Clone, Default)]
+pub struct Difference {
+    pub what: String,
+    pub owed: String,
+    pub port: String,
+}
+
+pub struct Checker {
+    pub port: Port,
+    pub seen: Seen,
+    /// Differences are only counted, and not described.
+    pub quiet: bool,
+    found: Vec<Difference>,
+}
+
+/// How much longer than needed the longer buffers are.
+const LONGER: usize = 9;
+
+impl Checker {
+    pub fn new() -> Checker {
+        Checker { port: Port::new(), seen: Seen::new(), quiet: false, found: Vec::new() }
+    }
+
+    fn differ(&mut self, what: &str, owed: impl FnOnce() -> String, port: impl FnOnce(&Checker) -> String) {
+        let difference = if self.quiet {
+            Difference::default()
+        } else {
+            Difference { what: what.to_string(), owed: owed(), port: port(self) }
+        };
+        self.found.push(difference);
+    }
+
+    fn finish(&mut self) -> Vec<Difference> {
+        if let Some(fault) = self.port.fault() {
+            self.differ("lent storage", || "nothing else is written".to_string(), |_| fault.to_string());
+        }
+        std::mem::take(&mut self.found)
+    }
+
+    /// The whole output of the last call, cut after the octets that are owed.
+    fn output(&self, owed: usize) -> String {
+        if self.port.rest_is_as_it_was(0) {
+            return "nothing".to_string();
+        }
+        let (owed, rest) = self.port.output().split_at(owed.min(self.port.output().len()));
+        let touched = if self.port.rest_is_as_it_was(owed.len()) { "as it was" } else { "NOT as it was" };
+        format!("{} and then, {}, {}", show::hex(owed), touched, show::hex(rest))
+    }
+
+    /// Octets off the air: decoded, written again, and by the loader's four calls.
+    pub fn octets(&mut self, input: &[u8]) -> Vec<Difference> {
+        let rust = oracle::read(input);
+        self.seen.decodes += 1;
+        if domain::repeaters(input) > flat::REPEATERS {
+            self.beyond(input, &rust);
+        } else {
+            match &rust {
+                Ok(frame) => self.accepted(input, frame),
+                Err(refusal) => self.refused(input, *refusal),
+            }
+        }
+        self.finish()
+    }
+
+    fn accepted(&mut self, input: &[u8], frame: &Ax25Frame) {
+        let owed = oracle::accepted(input, frame);
+        let octets = frame.to_bytes();
+        let info = &input[owed.info_start..owed.info_start + owed.info_len];
+        // That the flat record loses nothing of the Rust's frame is about this program and not the port: a sample will do.
+        if self.seen.decodes % 8 == 0 && flat::to_frame(&owed.record, info) != *frame {
+            self.differ("the flat record", || format!("{:?}", frame), |_| show::record(&owed.record));
+        }
+        self.seen.frame(&owed.record, octets == input);
+        self.decode(input, &owed);
+        self.loader(input, 0, &octets);
+        self.write(&owed.record, info, &octets);
+    }
+
+    fn refused(&mut self, input: &[u8], refusal: Refusal) {
+        self.seen.refusal(refusal.number);
+        self.decode(input, &oracle::refused(refusal));
+        self.loader(input, refusal.number, &[]);
+    }
+
+    /// Nine or more repeaters: the port answers 9; the Rust reads them all and then looks at the content.
+    fn beyond(&mut self, input: &[u8], rust: &Result<Ax25Frame, Refusal>) {
+        self.seen.listed(Listed::B1);
+        let as_listed = match rust {
+            Ok(frame) => frame.route.len() == domain::repeaters(input),
+            Err(refusal) => (5..=8).contains(&refusal.number),
+        };
+        if !as_listed {
+            let owed = || "the Rust reads any number of repeaters".to_string();
+            self.differ("B1", owed, |_| format!("the Rust: {:?}", rust));
+        }
+        self.refused(input, Refusal { number: 9, start: 0, end: 0, length: 0 });
+    }
+
+    fn decode(&mut self, input: &[u8], owed: &Decode) {
+        let port = self.port.decode(input);
+        if port != *owed {
+            self.differ("decode", || show::decode(owed), |_| show::decode(&port));
+        }
+    }
+
+    /// The loader's four calls. `octets` is the re-encoding, empty for a refusal.
+    fn loader(&mut self, input: &[u8], number: u32, octets: &[u8]) {
+        let canonical = u32::from(number == 0 && octets == input);
+        let owed = (number, canonical, octets.len());
+        let port = (self.port.number(input), self.port.canonical(input), self.port.reencoded_length(input));
+        if port != owed {
+            let say = |(number, canonical, length): (u32, u32, usize)| {
+                format!("number {} canonical {} re-encoded length {}", show::number(number), canonical, length)
+            };
+            self.differ("the loader's calls", || say(owed), |_| say(port));
+        }
+        for room in rooms(octets.len()) {
+            self.reencode(input, number, octets, room);
+        }
+    }
+
+    fn reencode(&mut self, input: &[u8], number: u32, octets: &[u8], room: usize) {
+        let (owed, octets) = self.owed_in(room, number, octets);
+        let port = self.port.reencode(input, room);
+        if port != owed || !self.port.output_is(octets) {
+            let says = |me: &Checker| format!("number {} written {}", port, me.output(octets.len()));
+            self.differ(&format!("re-encoding into {} octets", room), || show::written(owed, octets.len(), octets), says);
+        }
+    }
+
+    /// What is owed in a room of this size: 24 where an accepted write doesn't fit, and a refusal writes nothing.
+    fn owed_in<'a>(&mut self, room: usize, number: u32, octets: &'a [u8]) -> (u32, &'a [u8]) {
+        if number != 0 {
+            (number, &[])
+        } else if room < octets.len() {
+            self.seen.listed(Listed::B4);
+            (24, &[])
+        } else {
+            (0, octets)
+        }
+    }
+
+    /// Writing a record, into room that suffices exactly, is one short, or more than is needed.
+    fn write(&mut self, record: &[u8], info: &[u8], octets: &[u8]) {
+        self.seen.writes += 1;
+        for room in rooms(octets.len()) {
+            self.write_in(record, info, 0, octets, room);
+        }
+    }
+
+    fn write_in(&mut self, record: &[u8], info: &[u8], number: u32, octets: &[u8], room: usize) {
+        let (number, octets) = self.owed_in(room, number, octets);
+        let port = self.port.encode(record, info, room);
+        if port != (number, octets.len()) || !self.port.output_is(octets) {
+            let says = |me: &Checker| format!("number {} length {} written {}", port.0, port.1, me.output(octets.len()));
+            self.differ(&format!("writing into {} octets", room), || show::written(number, octets.len(), octets), says);
+        }
+    }
+
+    /// Writing an accepted input again with the input, or its info, close to the output.
+    pub fn beside(&mut self, input: &[u8], beside: &Beside) -> Vec<Difference> {
+        if let Ok(frame) = oracle::read(input) {
+            let octets = frame.to_bytes();
+            if domain::repeaters(input) <= flat::REPEATERS {
+                let whole = self.port.reencode_beside(input, &octets, beside);
+                self.placed("re-encoding beside the input", whole, &octets);
+                let info = flat::info_of(&frame).unwrap_or(&[]);
+                let written = self.port.encode_beside(&flat::of_frame(&frame), info, &octets, beside);
+                self.placed("writing beside the info", written, &octets);
+            }
+        }
+        self.finish()
+    }
+
+    fn placed(&mut self, what: &str, port: (u32, bool), octets: &[u8]) {
+        if port != (0, true) {
+            let says = |me: &Checker| format!("number {}, all the storage {}", port.0, show::hex(me.port.output()));
+            self.differ(what, || show::written(0, octets.len(), octets), says);
+        }
+    }
+
+    /// A record, octets past its end being 0, and info: written by both. What is written is then decoded by both.
+    pub fn record(&mut self, record: &[u8], info: &[u8]) -> Vec<Difference> {
+        let whole = padded::<FLAT>(record);
+        match domain::record_number(&whole, info) {
+            0 => self.holdable(record, &whole, info),
+            number => self.unholdable(record, info, number),
+        }
+    }
+
+    fn holdable(&mut self, record: &[u8], whole: &Flat, info: &[u8]) -> Vec<Difference> {
+        let frame = flat::to_frame(whole, info);
+        let octets = frame.to_bytes();
+        self.seen.written(&flat::of_frame(&frame));
+        self.write(record, info, &octets);
+        let mut found = self.finish();
+        found.extend(self.octets(&octets));
+        found
+    }
+
+    fn unholdable(&mut self, record: &[u8], info: &[u8], number: u32) -> Vec<Difference> {
+        self.seen.listed(Listed::B3);
+        self.seen.write_refusal(number);
+        for room in [0, 14, FLAT + info.len() + LONGER] {
+            self.write_in(record, info, number, &[], room);
+        }
+        self.finish()
+    }
+
+    fn address(&mut self, what: &str, owed: (u32, FlatAddress), port: (u32, FlatAddress)) {
+        self.seen.text(owed.0);
+        if owed != port {
+            let say = |(number, read): (u32, FlatAddress)| format!("number {} {}", show::number(number), show::address(&read));
+            self.differ(what, || say(owed), |_| say(port));
+        }
+    }
+
+    /// Text to an address.
+    pub fn text(&mut self, text: &[u8]) -> Vec<Difference> {
+        let callsign = text.split(|&octet| octet == b'-').next().unwrap_or(&[]);
+        let owed = self.owed_of_text(text, callsign, oracle::from_str);
+        let port = self.port.from_str(text);
+        self.address("text", owed, port);
+        self.finish()
+    }
+
+    /// A callsign and an SSID to an address.
+    pub fn parts(&mut self, callsign: &[u8], ssid: u8) -> Vec<Difference> {
+        let owed = self.owed_of_text(callsign, callsign, |text| oracle::from_parts(text, ssid));
+        let port = self.port.from_parts(callsign, ssid);
+        self.address("from_parts", owed, port);
+        self.finish()
+    }
+
+    /// The Rust's answer for ASCII text. Else 35, and the Rust takes letters of any script, where it has a text at all.
+    fn owed_of_text<F>(&mut self, text: &[u8], callsign: &[u8], ask: F) -> (u32, FlatAddress)
+    where
+        F: Fn(&str) -> Result<ax25::frame::Address, u32>,
+    {
+        let rust = std::str::from_utf8(text).map(ask);
+        if domain::is_wide(text) {
+            self.seen.listed(Listed::B2);
+            if let Ok(rust) = rust {
+                self.wide(text, callsign, rust);
+            }
+            return (35, NOCALL);
+        }
+        match rust.expect("ASCII is UTF-8") {
+            Ok(address) => (0, flat::of_address(&address)),
+            Err(number) => (number, NOCALL),
+        }
+    }
+
+    fn wide(&mut self, text: &[u8], callsign: &[u8], rust: Result<ax25::frame::Address, u32>) {
+        self.seen.wide(rust.is_ok());
+        let as_listed = match &rust {
+            Ok(address) => {
+                let upper = String::from_utf8_lossy(callsign).to_uppercase();
+                address.callsign() == upper && upper.len() <= 6 && upper.chars().all(char::is_alphanumeric)
+            }
+            Err(number) => (31..=34).contains(number),
+        };
+        if !as_listed {
+            let owed = || format!("the Rust takes letters of any script in {}", show::text(text));
+            self.differ("B2", owed, |_| format!("the Rust: {:?}", rust));
+        }
+    }
+
+    /// Printing an address of seven flat octets, those past its end being 0.
+    pub fn print(&mut self, address: &[u8]) -> Vec<Difference> {
+        let whole = padded::<ADDRESS>(address);
+        if domain::encodable(&whole) {
+            let text = flat::addresses(&[whole])[0].to_string();
+            self.seen.print(0);
+            for room in rooms(text.len()) {
+                self.print_in(address, 0, text.as_bytes(), room);
+            }
+        } else {
+            self.seen.listed(Listed::B3);
+            self.seen.print(22);
+            for room in [0, 32] {
+                self.print_in(address, 22, &[], room);
+            }
+        }
+        self.finish()
+    }
+
+    fn print_in(&mut self, address: &[u8], number: u32, text: &[u8], room: usize) {
+        let (number, text) = self.owed_in(room, number, text);
+        let port = self.port.print(address, room);
+        if port != (number, text.len()) || !self.port.output_is(text) {
+            let says = |me: &Checker| format!("number {} length {} written {}", port.0, port.1, me.output(text.len()));
+            self.differ(&format!("printing into {} octets", room), || show::written(number, text.len(), text), says);
+        }
+    }
+
+    /// `new_simple_ui_frame` of two addresses, then written with info.
+    pub fn simple_ui(&mut self, source: &[u8], destination: &[u8], info: &[u8]) -> Vec<Difference> {
+        let mut known = flat::addresses(&[padded(source), padded(destination)]).into_iter();
+        let (from, to) = (known.next().expect("a source"), known.next().expect("a destination"));
+        let frame = Ax25Frame::new_simple_ui_frame(from, to, info.to_vec());
+        let number = self.port.simple_ui(source, destination, FLAT + LONGER);
+        self.made("new_simple_ui_frame", number, &frame, info);
+        self.finish()
+    }
+
+    /// The default frame.
+    pub fn default(&mut self) -> Vec<Difference> {
+        let number = self.port.default(FLAT + LONGER);
+        self.made("default", number, &Ax25Frame::default(), &[]);
+        self.finish()
+    }
+
+    fn made(&mut self, what: &str, number: u32, frame: &Ax25Frame, info: &[u8]) {
+        let owed = flat::of_frame(frame);
+        if number != 0 || !self.port.output_is(&owed) {
+            let says = |me: &Checker| format!("number {} written {}", number, me.output(FLAT));
+            self.differ(what, || format!("number 0 {}", show::record(&owed)), says);
+        }
+        self.write(&owed, info, &frame.to_bytes());
+    }
+
+    /// The refusals that are `probe`'s own: a lent buffer shorter than what is to be left there.
+    pub fn short_buffers(&mut self, input: &[u8], short: usize) -> Vec<Difference> {
+        let record = short % FLAT;
+        let number = self.port.decode_into(input, record, PLACES);
+        self.untouched("probe_decode, short record", number);
+        let number = self.port.decode_into(input, FLAT, short % PLACES);
+        self.untouched("probe_decode, short places", number);
+        let number = self.port.encode_into(input, input, FLAT, 0);
+        self.untouched("probe_encode, no length", number);
+        let number = self.port.print_into(input, FLAT, 0);
+        self.untouched("probe_print, no length", number);
+        let number = self.port.from_str_into(input, short % ADDRESS);
+        self.untouched("probe_from_str, short address", number);
+        let number = self.port.from_parts_into(input, 0, short % ADDRESS);
+        self.untouched("probe_from_parts, short address", number);
+        let number = self.port.simple_ui(input, input, record);
+        self.untouched("probe_simple_ui, short record", number);
+        let number = self.port.default(record);
+        self.untouched("probe_default, short record", number);
+        self.finish()
+    }
+
+    fn untouched(&mut self, what: &str, number: u32) {
+        if number != 24 || !self.port.output_is(&[]) || !self.port.sizes_are(&[]) {
+            let says = |me: &Checker| format!("number {}, or something was written: {}", number, me.output(0));
+            self.differ(what, || "number 24, nothing touched".to_string(), says);
+        }
+    }
+}
+
+/// Room exactly full, longer, and one short where that can be.
+fn rooms(len: usize) -> impl Iterator<Item = usize> {
+    [Some(len), Some(len + LONGER), len.checked_sub(1)].into_iter().flatten()
+}
+
+/// The octets, and 0 past their end.
+pub fn padded<const N: usize>(octets: &[u8]) -> [u8; N] {
+    let mut whole = [0; N];
+    let len = octets.len().min(N);
+    whole[..len].copy_from_slice(&octets[..len]);
+    whole
+}

@@ -1,0 +1,238 @@
+//! `compare test`: every class of inputs, each through its comparison.
+
+use crate::check::{Checker, Difference};
+use crate::port::Beside;
+use crate::report::{self, Line, Report};
+use crate::rng::Rng;
+use crate::show;
+use crate::{capture_check, inputs, records, texts};
+
+/// A class under way.
+pub struct Class<'a> {
+    pub checker: &'a mut Checker,
+    report: &'a mut Report,
+    line: Line,
+}
+
+/// Runs one class and prints its line.
+pub fn class(checker: &mut Checker, report: &mut Report, name: &str, body: impl FnOnce(&mut Class)) {
+    if report.only.as_ref().map_or(false, |only| !name.contains(only.as_str())) {
+        return;
+    }
+    let line = Line { name: name.to_string(), inputs: 0, mismatches: 0 };
+    let mut class = Class { checker, report, line };
+    body(&mut class);
+    let line = class.line;
+    report.class(line);
+}
+
+impl Class<'_> {
+    fn done(&mut self, found: Vec<Difference>, input: impl FnOnce() -> (String, String)) {
+        self.line.inputs += 1;
+        if !found.is_empty() {
+            self.line.mismatches += 1;
+            if !self.report.full() {
+                let (input, again) = input();
+                self.report.mismatch(&self.line.name, input, again, found);
+                self.checker.quiet = self.report.full();
+            }
+        }
+    }
+
+    pub fn octets(&mut self, input: &[u8]) {
+        let found = self.checker.octets(input);
+        self.done(found, || (show::hex(input), report::again(input)));
+    }
+
+    /// Octets that stand somewhere in a capture.
+    pub fn octets_at(&mut self, place: &str, input: &[u8]) {
+        let found = self.checker.octets(input);
+        self.done(found, || (format!("{}: {}", place, show::hex(input)), report::again(input)));
+    }
+
+    fn beside(&mut self, input: &[u8], beside: &Beside) {
+        let found = self.checker.beside(input, beside);
+        self.done(found, || {
+            let order = if beside.output_first { "output, gap, input" } else { "input, gap, output" };
+            let input = format!("{} with a gap of {} ({})", show::hex(input), beside.gap, order);
+            (input, "compare test --only 'side by side'".to_string())
+        });
+    }
+
+    fn record(&mut self, record: &[u8], info: &[u8]) {
+        let found = self.checker.record(record, info);
+        self.done(found, || {
+            let (record, info) = (show::hex(record), show::hex(info));
+            (format!("record {} info {}", record, info), format!("compare record '{}' '{}'", record, info))
+        });
+    }
+
+    fn text(&mut self, text: &[u8]) {
+        let found = self.checker.text(text);
+        self.done(found, || (format!("text {}", show::text(text)), format!("compare text-hex '{}'", show::hex(text))));
+    }
+
+    fn parts(&mut self, callsign: &[u8], ssid: u8) {
+        let found = self.checker.parts(callsign, ssid);
+        self.done(found, || {
+            let input = format!("callsign {} SSID {}", show::text(callsign), ssid);
+            (input, format!("compare parts-hex '{}' {}", show::hex(callsign), ssid))
+        });
+    }
+
+    fn print(&mut self, address: &[u8]) {
+        let found = self.checker.print(address);
+        self.done(found, || (format!("address {}", show::hex(address)), format!("compare print '{}'", show::hex(address))));
+    }
+
+    fn simple_ui(&mut self, source: &[u8], destination: &[u8], info: &[u8]) {
+        let found = self.checker.simple_ui(source, destination, info);
+        self.done(found, || {
+            let (source, destination, info) = (show::hex(source), show::hex(destination), show::hex(info));
+            let input = format!("source {} destination {} info {}", source, destination, info);
+            (input, format!("compare simple-ui '{}' '{}' '{}'", source, destination, info))
+        });
+    }
+
+    fn other(&mut self, name: &str, found: Vec<Difference>) {
+        self.done(found, || (name.to_string(), "compare test".to_string()));
+    }
+
+    /// A class of its own statement: it passes where nothing is missing.
+    fn missing(&mut self, missing: Vec<String>) {
+        let found = missing.into_iter().map(|what| Difference {
+            what,
+            owed: "met at least once in this run".to_string(),
+            port: "never met".to_string(),
+        });
+        let found = found.collect();
+        self.other("the whole run", found);
+    }
+}
+
+/// Everything, the seeded classes `scale` times as large as by default.
+pub fn test(scale: usize, seed: u64, only: Option<String>) -> Report {
+    let mut checker = Checker::new();
+    let mut report = Report::default();
+    report.only = only;
+    let mut seeds = Rng::new(seed);
+    octets(&mut checker, &mut report, scale, &mut seeds);
+    frame_records(&mut checker, &mut report, scale, &mut seeds);
+    side_by_side(&mut checker, &mut report, scale, seeds.next());
+    address_texts(&mut checker, &mut report, scale, &mut seeds);
+    class(&mut checker, &mut report, "captures: each format comes back, and what can't be read is refused", |c| {
+        let frames: Vec<Vec<u8>> = inputs::good_frames().into_iter().chain([vec![0xC0, 0xDB, 0xDC, 0xDD, 0xC0]]).collect();
+        c.other("captures of good frames", capture_check::faults(&frames));
+    });
+    let missing = checker.seen.missing();
+    class(&mut checker, &mut report, "met: every number, kind, mark, PID, route length and listed difference", |c| c.missing(missing));
+    report::totals(&mut report, &checker.seen);
+    report.extra("seed", seed.to_string());
+    report.extra("scale", scale.to_string());
+    report
+}
+
+fn octets(checker: &mut Checker, report: &mut Report, scale: usize, seeds: &mut Rng) {
+    let mut run = |name: &str, body: &mut dyn FnMut(inputs::Each)| {
+        class(checker, report, name, |c| body(&mut |input| c.octets(input)));
+    };
+    let [a, b, c, d, e, f] = [0; 6].map(|_: u64| seeds.next());
+    run("octets: every string of 0 to 2", &mut |each| inputs::short(each));
+    run("octets: the example's addresses with every content of 2", &mut |each| inputs::two_octet_contents(each));
+    run("octets: every control octet, content of 0 to 6", &mut |each| inputs::controls(a, each));
+    run("octets: FRMR, every flag, number and rejected control", &mut |each| inputs::frmr(each));
+    run("octets: every pair of the first two SSID octets", &mut |each| inputs::ssid_pairs(each));
+    run("octets: every octet at every address place, 0 to 9 repeaters", &mut |each| inputs::address_places(each));
+    run("octets: leading nulls", &mut |each| inputs::leading_nulls(each));
+    run("octets: every prefix of good frames", &mut |each| inputs::prefixes(each));
+    run("octets: every bit of good frames damaged", &mut |each| inputs::single_bits(each));
+    run("octets: every two bits of good frames damaged", &mut |each| inputs::double_bits(each));
+    run("octets: spans 1 to 100, content 0 to 8, nulls 0 to 3", &mut |each| inputs::spans(b, 250 * scale, each));
+    run("octets: seeded frames around every boundary", &mut |each| inputs::frames(c, 1_800_000 * scale, each));
+    run("octets: damaged copies", &mut |each| inputs::damaged(d, 1_200_000 * scale, each));
+    run("octets: noise", &mut |each| inputs::noise(e, 600_000 * scale, each));
+    run("octets: long inputs, to 131,074", &mut |each| inputs::long(f, each));
+}
+
+/// Every length of info to 100 with every gap to 40, and seeded frames.
+fn side_by_side(checker: &mut Checker, report: &mut Report, scale: usize, seed: u64) {
+    class(checker, report, "octets: input and output side by side", |class| {
+        for length in 0..=100 {
+            let content = [&[0x03, 0xF0][..], &Rng::new(seed).octets(length)].concat();
+            for input in [inputs::with_content(&content), inputs::with_repeaters(3, &content)] {
+                for gap in 0..=40 {
+                    class.beside(&input, &Beside { gap, output_first: false });
+                    class.beside(&input, &Beside { gap, output_first: true });
+                }
+            }
+        }
+        let mut gaps = Rng::new(seed);
+        inputs::frames(seed, 20_000 * scale, &mut |input| {
+            class.beside(input, &Beside { gap: gaps.within(0, 40), output_first: gaps.chance(2) });
+        });
+    });
+}
+
+fn frame_records(checker: &mut Checker, report: &mut Report, scale: usize, seeds: &mut Rng) {
+    let [a, b, c] = [0; 3].map(|_: u64| seeds.next());
+    let mut run = |name: &str, body: &mut dyn FnMut(records::Each)| {
+        class(checker, report, name, |c| body(&mut |record, info| c.record(record, info)));
+    };
+    run("records: every kind, mark, P/F, sequence numbers 0 to 255", &mut |each| records::sequence_numbers(each));
+    run("records: every PID", &mut |each| records::pids(each));
+    run("records: FRMR's fields", &mut |each| records::frmr_fields(each));
+    run("records: every way to mark 0 to 8 repeaters, each kind", &mut |each| records::routes(each));
+    run("records: every seven-bit character at every place", &mut |each| records::characters(each));
+    run("records: cut short", &mut |each| records::cut(each));
+    run("records: seeded, as the Rust can hold them", &mut |each| records::holdable(a, 250_000 * scale, each));
+    run("records: those that the Rust can't hold", &mut |each| {
+        records::unholdable(each);
+        records::seeded_unholdable(b, 60_000 * scale, each);
+    });
+    class(checker, report, "records: default", |c| {
+        let found = c.checker.default();
+        c.other("the default frame", found);
+    });
+    class(checker, report, "records: new_simple_ui_frame", |class| {
+        let mut rng = Rng::new(c);
+        class.simple_ui(&[], &[], b"");
+        class.simple_ui(b"BOX", b"GAUGE \x00and more", b"OK");
+        for _ in 0..30_000 * scale {
+            let (source, destination) = (records::any_address(&mut rng), records::any_address(&mut rng));
+            let length = rng.within(0, 20);
+            let info = rng.octets(length);
+            class.simple_ui(&source, &destination, &info);
+        }
+    });
+    class(checker, report, "records: buffers too short for what probe leaves there", |c| {
+        for short in 0..crate::flat::FLAT {
+            for input in [&inputs::FRAME[..], &[], b"BOX12-3"] {
+                let found = c.checker.short_buffers(input, short);
+                c.other("a short buffer", found);
+            }
+        }
+    });
+}
+
+fn address_texts(checker: &mut Checker, report: &mut Report, scale: usize, seeds: &mut Rng) {
+    let [a, b, c, d, e] = [0; 5].map(|_: u64| seeds.next());
+    let mut run = |name: &str, body: &mut dyn FnMut(texts::Each)| {
+        class(checker, report, name, |c| body(&mut |text| c.text(text)));
+    };
+    run("text: document 01's, and each rule's limits", &mut |each| {
+        texts::DOCUMENT.iter().chain(&texts::LIMITS).for_each(|text| each(text.as_bytes()));
+    });
+    run("text: every one of 14 characters to length 5", &mut |each| texts::all(5, each));
+    run("text: every octet at every place", &mut |each| texts::every_octet(each));
+    run("text: every SSID", &mut |each| texts::ssids(each));
+    run("text: seeded", &mut |each| texts::seeded(a, 300_000 * scale, each));
+    run("text: octets of 128 and more", &mut |each| {
+        texts::WIDE.iter().for_each(|text| each(text.as_bytes()));
+        texts::wide(b, 100_000 * scale, each);
+    });
+    class(checker, report, "from_parts", |class| texts::parts(c, 200_000 * scale, &mut |callsign, ssid| class.parts(callsign, ssid)));
+    class(checker, report, "from_parts: octets of 128 and more", |class| {
+        texts::wide_parts(d, 50_000 * scale, &mut |callsign, ssid| class.parts(callsign, ssid));
+    });
+    class(checker, report, "printing", |class| texts::addresses(e, 200_000 * scale, &mut |address| class.print(address)));
+}

@@ -1,0 +1,56 @@
+//! Document 01's domain of equality, and what the port owes outside it (docs/DIFFERENCES.md, B). Written from document 01's
+//! words; neither the Rust nor the port is asked.
+
+use crate::flat::{self, Flat, FlatAddress, COUNT, FRMR, KIND, REPEATERS, RR};
+
+/// A difference that docs/DIFFERENCES.md lists.
+#[derive(Clone, Copy, PartialEq, Debug)]
+pub enum Listed {
+    /// Nine or more repeaters.
+    B1,
+    /// Text or a callsign with an octet of 128 or more.
+    B2,
+    /// A record that the Rust can't hold.
+    B3,
+    /// Too little room.
+    B4,
+}
+
+pub const LISTED: [(Listed, &str); 4] = [
+    (Listed::B1, "nine or more repeaters"),
+    (Listed::B2, "text with an octet of 128 or more"),
+    (Listed::B3, "a record that the Rust can't hold"),
+    (Listed::B4, "too little room, lent on purpose"),
+];
+
+/// The repeaters of an input that has an address field and something after it.
+pub fn repeaters(input: &[u8]) -> usize {
+    let start = input.iter().position(|&octet| octet != 0);
+    let end = input.iter().position(|&octet| octet % 2 == 1);
+    match (start, end) {
+        (Some(start), Some(end)) if end + 1 < input.len() => (end - start + 1).saturating_sub(14) / 7,
+        _ => 0,
+    }
+}
+
+pub fn is_wide(text: &[u8]) -> bool {
+    text.iter().any(|&octet| octet >= 128)
+}
+
+/// Whether an address can be written and printed; else the answer is 22.
+pub fn encodable(address: &FlatAddress) -> bool {
+    !is_wide(&address[..6]) && address[6] <= 15
+}
+
+/// The number that refuses to write a record whatever the room: 0 where the Rust can hold it.
+pub fn record_number(record: &Flat, info: &[u8]) -> u32 {
+    if usize::from(record[COUNT]) > REPEATERS {
+        21
+    } else if !flat::in_use(record).iter().all(encodable) {
+        22
+    } else if (RR..=FRMR).contains(&record[KIND]) && !info.is_empty() {
+        23
+    } else {
+        0
+    }
+}

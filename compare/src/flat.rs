@@ -1,0 +1,263 @@
+//! The flat record: a frame as 92 octets, as the crate `probe` lays it out, and the Rust's frame to it and back.
+
+use ax25::frame::*;
+
+/// An address: six characters padded at the end with spaces, and the SSID.
+pub const ADDRESS: usize = 7;
+pub type FlatAddress = [u8; ADDRESS];
+
+pub const FLAT: usize = 92;
+pub type Flat = [u8; FLAT];
+
+pub const REPEATERS: usize = 8;
+/// The flat address that stands in unused places and beside a refusal.
+pub const NOCALL: FlatAddress = *b"NOCALL\0";
+
+/// Where things stand in the record. Destination, source, then eight places of an address and its mark.
+pub const DESTINATION: usize = 0;
+pub const SOURCE: usize = 7;
+pub const ROUTE: usize = 14;
+pub const ENTRY: usize = 8;
+pub const COUNT: usize = 78;
+pub const MARK: usize = 79;
+pub const KIND: usize = 80;
+pub const PID: usize = 81;
+pub const PID_OCTET: usize = 82;
+pub const POLL: usize = 83;
+pub const RECEIVE: usize = 84;
+pub const SEND: usize = 85;
+pub const Z: usize = 86;
+pub const Y: usize = 87;
+pub const X: usize = 88;
+pub const W: usize = 89;
+pub const REJECTED_RESPONSE: usize = 90;
+pub const REJECTED_CONTROL: usize = 91;
+
+pub const I: u8 = 0;
+pub const RR: u8 = 1;
+pub const RNR: u8 = 2;
+pub const REJ: u8 = 3;
+pub const SABM: u8 = 4;
+pub const DISC: u8 = 5;
+pub const DM: u8 = 6;
+pub const UA: u8 = 7;
+pub const FRMR: u8 = 8;
+pub const UI: u8 = 9;
+pub const UNKNOWN_CONTENT: u8 = 10;
+pub const KINDS: [&str; 11] = ["I", "RR", "RNR", "REJ", "SABM", "DISC", "DM", "UA", "FRMR", "UI", "UnknownContent"];
+
+pub const COMMAND: u8 = 0;
+pub const RESPONSE: u8 = 1;
+pub const ABSENT: u8 = 2;
+pub const MARKS: [&str; 3] = ["Command", "Response", "absent"];
+
+/// The cases of the protocol identifier in their order; `Unknown`, the last, has its octet beside it.
+pub const PIDS: [ProtocolIdentifier; 15] = [
+    ProtocolIdentifier::Layer3Impl,
+    ProtocolIdentifier::X25Plp,
+    ProtocolIdentifier::CompressedTcpIp,
+    ProtocolIdentifier::UncompressedTcpIp,
+    ProtocolIdentifier::SegmentationFragment,
+    ProtocolIdentifier::TexnetDatagram,
+    ProtocolIdentifier::LinkQuality,
+    ProtocolIdentifier::Appletalk,
+    ProtocolIdentifier::AppletalkArp,
+    ProtocolIdentifier::ArpaIp,
+    ProtocolIdentifier::ArpaAddress,
+    ProtocolIdentifier::Flexnet,
+    ProtocolIdentifier::NetRom,
+    ProtocolIdentifier::None,
+    ProtocolIdentifier::Escape,
+];
+pub const PID_UNKNOWN: u8 = 15;
+
+/// All that decoding gives.
+#[derive(Clone, PartialEq)]
+pub struct Decode {
+    pub number: u32,
+    pub start: usize,
+    pub end: usize,
+    pub length: usize,
+    pub info_start: usize,
+    pub info_len: usize,
+    pub record: Flat,
+}
+
+pub fn of_address(address: &Address) -> FlatAddress {
+    let mut flat = *b"      \0";
+    let callsign = address.callsign().as_bytes();
+    flat[..callsign.len()].copy_from_slice(callsign);
+    flat[6] = address.ssid();
+    flat
+}
+
+/// The record of a frame with at most eight repeaters. Info is no part of it.
+pub fn of_frame(frame: &Ax25Frame) -> Flat {
+    let mut flat = [0; FLAT];
+    flat[DESTINATION..SOURCE].copy_from_slice(&of_address(&frame.destination));
+    flat[SOURCE..ROUTE].copy_from_slice(&of_address(&frame.source));
+    for i in 0..REPEATERS {
+        let at = ROUTE + ENTRY * i;
+        let entry = frame.route.get(i);
+        flat[at..at + ADDRESS].copy_from_slice(&entry.map_or(NOCALL, |e| of_address(&e.repeater)));
+        flat[at + ADDRESS] = entry.map_or(0, |e| u8::from(e.has_repeated));
+    }
+    flat[COUNT] = frame.route.len() as u8;
+    flat[MARK] = match frame.command_or_response {
+        Some(CommandResponse::Command) => COMMAND,
+        Some(CommandResponse::Response) => RESPONSE,
+        None => ABSENT,
+    };
+    put_content(&mut flat, &frame.content);
+    flat
+}
+
+fn put_content(flat: &mut Flat, content: &FrameContent) {
+    match content {
+        FrameContent::Information(i) => {
+            put_pid(flat, I, &i.pid);
+            put_numbers(flat, i.poll, i.receive_sequence, i.send_sequence);
+        }
+        FrameContent::ReceiveReady(s) => put_supervisory(flat, RR, s.poll_or_final, s.receive_sequence),
+        FrameContent::ReceiveNotReady(s) => put_supervisory(flat, RNR, s.poll_or_final, s.receive_sequence),
+        FrameContent::Reject(s) => put_supervisory(flat, REJ, s.poll_or_final, s.receive_sequence),
+        FrameContent::SetAsynchronousBalancedMode(u) => put_supervisory(flat, SABM, u.poll, 0),
+        FrameContent::Disconnect(u) => put_supervisory(flat, DISC, u.poll, 0),
+        FrameContent::DisconnectedMode(u) => put_supervisory(flat, DM, u.final_bit, 0),
+        FrameContent::UnnumberedAcknowledge(u) => put_supervisory(flat, UA, u.final_bit, 0),
+        FrameContent::FrameReject(f) => put_frmr(flat, f),
+        FrameContent::UnnumberedInformation(u) => {
+            put_pid(flat, UI, &u.pid);
+            put_numbers(flat, u.poll_or_final, 0, 0);
+        }
+        FrameContent::UnknownContent(_) => flat[KIND] = UNKNOWN_CONTENT,
+    }
+}
+
+fn put_pid(flat: &mut Flat, kind: u8, pid: &ProtocolIdentifier) {
+    flat[KIND] = kind;
+    match pid {
+        ProtocolIdentifier::Unknown(octet) => {
+            flat[PID] = PID_UNKNOWN;
+            flat[PID_OCTET] = *octet;
+        }
+        named => flat[PID] = PIDS.iter().position(|p| p == named).expect("every case but Unknown is listed") as u8,
+    }
+}
+
+fn put_numbers(flat: &mut Flat, poll: bool, receive: u8, send: u8) {
+    flat[POLL] = u8::from(poll);
+    flat[RECEIVE] = receive;
+    flat[SEND] = send;
+}
+
+fn put_supervisory(flat: &mut Flat, kind: u8, poll: bool, receive: u8) {
+    flat[KIND] = kind;
+    put_numbers(flat, poll, receive, 0);
+}
+
+fn put_frmr(flat: &mut Flat, f: &FrameReject) {
+    flat[KIND] = FRMR;
+    put_numbers(flat, f.final_bit, f.receive_sequence, f.send_sequence);
+    flat[Z] = u8::from(f.z);
+    flat[Y] = u8::from(f.y);
+    flat[X] = u8::from(f.x);
+    flat[W] = u8::from(f.w);
+    flat[REJECTED_RESPONSE] = u8::from(f.command_response == CommandResponse::Response);
+    flat[REJECTED_CONTROL] = f.rejected_control_field_raw;
+}
+
+/// The octets that stand beside the record: info, or those of `UnknownContent`.
+pub fn info_of(frame: &Ax25Frame) -> Option<&[u8]> {
+    match &frame.content {
+        FrameContent::Information(i) => Some(&i.info),
+        FrameContent::UnnumberedInformation(u) => Some(&u.info),
+        FrameContent::UnknownContent(u) => Some(&u.raw),
+        _ => None,
+    }
+}
+
+/// Addresses of any seven-bit characters. The Rust's fields are private, so they are taken out of a decoded frame. Its
+/// destination is not among them, because a leading character 0 there is skipped as a null octet.
+pub fn addresses(flat: &[FlatAddress]) -> Vec<Address> {
+    let mut octets = vec![b'X' << 1; ADDRESS];
+    for address in flat {
+        octets.extend(address.iter().map(|c| c << 1));
+    }
+    *octets.last_mut().expect("the destination is there") |= 1;
+    octets.push(0x01);
+    let frame = Ax25Frame::from_bytes(&octets).expect("an RR frame with a source is accepted");
+    std::iter::once(frame.source).chain(frame.route.into_iter().map(|entry| entry.repeater)).collect()
+}
+
+fn address_at(flat: &Flat, at: usize) -> FlatAddress {
+    let mut address = [0; ADDRESS];
+    address.copy_from_slice(&flat[at..at + ADDRESS]);
+    address
+}
+
+/// The addresses in use: destination, source, and as many repeaters as the record counts, eight at most.
+pub fn in_use(flat: &Flat) -> Vec<FlatAddress> {
+    let count = usize::from(flat[COUNT]).min(REPEATERS);
+    let route = (0..count).map(|i| address_at(flat, ROUTE + ENTRY * i));
+    [address_at(flat, DESTINATION), address_at(flat, SOURCE)].into_iter().chain(route).collect()
+}
+
+/// The Rust's frame of a record that it can hold (see `domain::record_number`), with its info.
+pub fn to_frame(flat: &Flat, info: &[u8]) -> Ax25Frame {
+    let mut known = addresses(&in_use(flat)).into_iter();
+    let destination = known.next().expect("a destination");
+    let source = known.next().expect("a source");
+    let marks = (0..REPEATERS).map(|i| flat[ROUTE + ENTRY * i + ADDRESS] != 0);
+    let route = known.zip(marks).map(|(repeater, has_repeated)| RouteEntry { repeater, has_repeated }).collect();
+    let command_or_response = match flat[MARK] {
+        COMMAND => Some(CommandResponse::Command),
+        RESPONSE => Some(CommandResponse::Response),
+        _ => None,
+    };
+    Ax25Frame { source, destination, route, command_or_response, content: to_content(flat, info) }
+}
+
+fn to_content(flat: &Flat, info: &[u8]) -> FrameContent {
+    let info = info.to_vec();
+    let (poll, receive_sequence, send_sequence) = (flat[POLL] != 0, flat[RECEIVE], flat[SEND]);
+    let poll_or_final = poll;
+    let final_bit = poll;
+    match flat[KIND] {
+        I => FrameContent::Information(Information { pid: to_pid(flat), info, receive_sequence, send_sequence, poll }),
+        RR => FrameContent::ReceiveReady(ReceiveReady { receive_sequence, poll_or_final }),
+        RNR => FrameContent::ReceiveNotReady(ReceiveNotReady { receive_sequence, poll_or_final }),
+        REJ => FrameContent::Reject(Reject { receive_sequence, poll_or_final }),
+        SABM => FrameContent::SetAsynchronousBalancedMode(SetAsynchronousBalancedMode { poll }),
+        DISC => FrameContent::Disconnect(Disconnect { poll }),
+        DM => FrameContent::DisconnectedMode(DisconnectedMode { final_bit }),
+        UA => FrameContent::UnnumberedAcknowledge(UnnumberedAcknowledge { final_bit }),
+        FRMR => FrameContent::FrameReject(to_frmr(flat)),
+        UI => FrameContent::UnnumberedInformation(UnnumberedInformation { pid: to_pid(flat), info, poll_or_final }),
+        _ => FrameContent::UnknownContent(UnknownContent { raw: info }),
+    }
+}
+
+fn to_pid(flat: &Flat) -> ProtocolIdentifier {
+    match PIDS.get(usize::from(flat[PID])) {
+        Some(named) => named.clone(),
+        None => ProtocolIdentifier::Unknown(flat[PID_OCTET]),
+    }
+}
+
+fn to_frmr(flat: &Flat) -> FrameReject {
+    FrameReject {
+        final_bit: flat[POLL] != 0,
+        rejected_control_field_raw: flat[REJECTED_CONTROL],
+        z: flat[Z] != 0,
+        y: flat[Y] != 0,
+        x: flat[X] != 0,
+        w: flat[W] != 0,
+        receive_sequence: flat[RECEIVE],
+        send_sequence: flat[SEND],
+        command_response: match flat[REJECTED_RESPONSE] {
+            0 => CommandResponse::Command,
+            _ => CommandResponse::Response,
+        },
+    }
+}

@@ -1,0 +1,81 @@
+//! Buffers to lend: between guards, and holding a pattern beforehand, so that anything written where nothing should be
+//! is seen.
+
+/// Items of guard on each side.
+const GUARD: usize = 8;
+
+/// The pattern alternates from call to call: what happens to equal one pattern differs from the next.
+pub struct Lent<T> {
+    pattern: fn(usize, usize) -> T,
+    patterns: [Vec<T>; 2],
+    store: Vec<T>,
+    turn: usize,
+    len: usize,
+}
+
+pub fn octets() -> Lent<u8> {
+    Lent::new(|i, turn| (i.wrapping_mul(131) ^ (i >> 8) ^ [0x35, 0xCA][turn]) as u8)
+}
+
+pub fn sizes() -> Lent<usize> {
+    Lent::new(|i, turn| [0xA5A5_A5A5_A5A5_A5A5, 0x5A5A_5A5A_5A5A_5A5A][turn] ^ i)
+}
+
+impl<T: Copy + PartialEq> Lent<T> {
+    fn new(pattern: fn(usize, usize) -> T) -> Lent<T> {
+        Lent { pattern, patterns: [Vec::new(), Vec::new()], store: Vec::new(), turn: 0, len: 0 }
+    }
+
+    fn grow(&mut self, size: usize) {
+        if size > self.store.len() {
+            let pattern = self.pattern;
+            self.patterns = [0, 1].map(|turn| (0..2 * size).map(|i| pattern(i, turn)).collect());
+            self.store = self.patterns[0].clone();
+        }
+    }
+
+    /// Room for `len` items, all of them pattern.
+    pub fn room(&mut self, len: usize) {
+        let size = len + 2 * GUARD;
+        self.grow(size);
+        self.turn ^= 1;
+        self.len = len;
+        self.store[..size].copy_from_slice(&self.patterns[self.turn][..size]);
+    }
+
+    /// Room just for these items, which it holds.
+    pub fn hold(&mut self, items: &[T]) {
+        self.room(items.len());
+        self.store[GUARD..GUARD + items.len()].copy_from_slice(items);
+    }
+
+    pub fn len(&self) -> usize {
+        self.len
+    }
+
+    pub fn ptr(&self) -> *const T {
+        self.store[GUARD..].as_ptr()
+    }
+
+    pub fn mut_ptr(&mut self) -> *mut T {
+        self.store[GUARD..].as_mut_ptr()
+    }
+
+    pub fn items(&self) -> &[T] {
+        &self.store[GUARD..GUARD + self.len]
+    }
+
+    fn as_it_was(&self, from: usize, to: usize) -> bool {
+        self.store[from..to] == self.patterns[self.turn][from..to]
+    }
+
+    /// Whether the first `count` items alone may have been written: the others, and the guards, are as they were.
+    pub fn written_only(&self, count: usize) -> bool {
+        self.as_it_was(0, GUARD) && self.as_it_was(GUARD + count, self.len + 2 * GUARD)
+    }
+
+    /// Whether it starts with these items, and all else is as it was.
+    pub fn is(&self, items: &[T]) -> bool {
+        items.len() <= self.len && self.items()[..items.len()] == *items && self.written_only(items.len())
+    }
+}

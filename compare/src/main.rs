@@ -1,0 +1,157 @@
+//! The Rust crate ax25 0.4.0 and the port in one process: the same inputs, and every answer compared.
+
+mod bench;
+mod capture;
+mod capture_check;
+mod check;
+mod classes;
+mod domain;
+mod flat;
+mod inputs;
+mod lent;
+mod oracle;
+mod port;
+mod records;
+mod replay;
+mod report;
+mod rng;
+mod seen;
+mod show;
+mod single;
+mod texts;
+
+use report::Report;
+use std::io::Read;
+use std::process::exit;
+
+/// The kit's emulator stops at a program that opens /proc/self/maps. Rust's standard library does that at its start to
+/// find the main thread's stack, by this function of the C library; 38 is ENOSYS, and it then does without.
+#[no_mangle]
+extern "C" fn pthread_getattr_np(_thread: usize, _attributes: *mut u8) -> i32 {
+    38
+}
+
+const USAGE: &str = "\
+compare test [SCALE]               every class of inputs; the seeded ones SCALE times as large (1)
+compare captures [--format F] FILE..
+                                   every frame of captures: pcap (link types 3 and 202), KISS logs,
+                                   hex lines, or one raw frame; F: pcap, kiss, hex, raw (else by content)
+compare one HEX                    one input: both answers in full ('-': hex on standard input)
+compare text TEXT..                texts to addresses (text-hex HEX..: the text's octets)
+compare parts-hex HEX SSID         a callsign and an SSID to an address
+compare print HEX                  an address of seven flat octets, printed
+compare record HEX INFO            a flat record and info (hex), written
+compare simple-ui HEX HEX INFO     source, destination, info (hex): new_simple_ui_frame
+compare bench                      times of both, and their ratios
+compare replay-list [N]            about N (3000) lines of the Rust's answers, for the program replay
+  --json FILE    leave counts, mismatches and ratios there (test, captures, bench)
+  --seed N       another seed for test
+  --only WORDS   only the classes of test with these words in their name
+Exit status: 0 no difference but listed ones, 1 some other difference, 2 something could not be read.";
+
+struct Options {
+    words: Vec<String>,
+    json: Option<String>,
+    seed: u64,
+    only: Option<String>,
+    format: Option<String>,
+}
+
+fn refuse(message: &str) -> ! {
+    eprintln!("compare: {}", message);
+    exit(2)
+}
+
+fn options() -> Options {
+    let mut options = Options { words: Vec::new(), json: None, seed: 25, only: None, format: None };
+    let mut args = std::env::args().skip(1);
+    while let Some(arg) = args.next() {
+        let mut value = || args.next().unwrap_or_else(|| refuse(&format!("{} wants a value", arg)));
+        match arg.as_str() {
+            "--json" => options.json = Some(value()),
+            "--seed" => options.seed = number(&value()),
+            "--only" => options.only = Some(value()),
+            "--format" => options.format = Some(value()),
+            _ => options.words.push(arg),
+        }
+    }
+    options
+}
+
+fn number(text: &str) -> u64 {
+    text.parse().unwrap_or_else(|_| refuse(&format!("'{}' is no number", text)))
+}
+
+fn octets(hex: &str) -> Vec<u8> {
+    show::unhex(hex).unwrap_or_else(|problem| refuse(&problem))
+}
+
+fn hex_argument(word: &str) -> Vec<u8> {
+    if word != "-" {
+        return octets(word);
+    }
+    let mut text = String::new();
+    if let Err(problem) = std::io::stdin().read_to_string(&mut text) {
+        refuse(&format!("standard input: {}", problem));
+    }
+    octets(&text)
+}
+
+fn leave(report: &Report, path: &Option<String>) {
+    if let Some(path) = path {
+        if let Err(problem) = std::fs::write(path, report.json()) {
+            refuse(&format!("{}: {}", path, problem));
+        }
+    }
+}
+
+fn status(holds: bool) -> ! {
+    exit(if holds { 0 } else { 1 })
+}
+
+fn main() {
+    let options = options();
+    let words: Vec<&str> = options.words.iter().map(String::as_str).collect();
+    match words[..] {
+        ["test"] => test("1", &options),
+        ["test", scale] => test(scale, &options),
+        ["captures", ref files @ ..] if !files.is_empty() => {
+            let (report, unread) = capture::compare(files, options.format.as_deref());
+            leave(&report, &options.json);
+            let holds = report.finish();
+            if unread > 0 {
+                refuse(&format!("{} of {} captures could not be read", unread, files.len()));
+            }
+            status(holds)
+        }
+        ["one", hex] => status(single::one(&hex_argument(hex))),
+        ["text", ref texts @ ..] if !texts.is_empty() => status(single::each(texts, |t| single::text(t.as_bytes()))),
+        ["text-hex", ref texts @ ..] if !texts.is_empty() => status(single::each(texts, |t| single::text(&octets(t)))),
+        ["parts-hex", callsign, ssid] => match u8::try_from(number(ssid)) {
+            Ok(ssid) => status(single::parts(&octets(callsign), ssid)),
+            Err(_) => refuse("an SSID is an octet"),
+        },
+        ["print", address] => status(single::print(&octets(address))),
+        ["record", record, info] => status(single::record(&octets(record), &octets(info))),
+        ["simple-ui", source, destination, info] => {
+            status(single::simple_ui(&octets(source), &octets(destination), &octets(info)))
+        }
+        ["bench"] => leave(&bench::run(), &options.json),
+        ["replay-list"] => replay::list(3000),
+        ["replay-list", lines] => replay::list(number(lines) as usize),
+        _ => refuse(&format!("usage:\n{}", USAGE)),
+    }
+}
+
+fn test(scale: &str, options: &Options) -> ! {
+    let scale = number(scale) as usize;
+    if !(1..=1000).contains(&scale) {
+        refuse("SCALE is a number from 1 to 1000");
+    }
+    let report = classes::test(scale, options.seed, options.only.clone());
+    if report.lines.is_empty() {
+        refuse("no class has such a name");
+    }
+    leave(&report, &options.json);
+    status(report.finish())
+}

@@ -1,0 +1,101 @@
+//! The Rust's answers, by document 01's numbers.
+
+use crate::flat::{self, Decode};
+use ax25::frame::{Address, AddressParseError, Ax25Frame, FrameParseError};
+use std::panic::catch_unwind;
+use std::str::FromStr;
+
+/// The Rust gave an answer that document 01 has no number for, or none at all. The port has no such numbers, so each of
+/// these is a mismatch.
+pub const INVALID_UTF8: u32 = 1001;
+pub const ZERO_LENGTH: u32 = 1002;
+pub const PANICKED: u32 = 1003;
+
+/// What a number that is not document 01's stands for.
+pub fn meaning(number: u32) -> &'static str {
+    match number {
+        INVALID_UTF8 => " (AddressInvalidUtf8: document 01 has no number for it)",
+        ZERO_LENGTH => " (ContentZeroLength: document 01 has no number for it)",
+        PANICKED => " (the Rust panicked)",
+        _ => "",
+    }
+}
+
+/// A refusal's number with its details: start, end, length.
+#[derive(Clone, Copy, Debug, PartialEq)]
+pub struct Refusal {
+    pub number: u32,
+    pub start: usize,
+    pub end: usize,
+    pub length: usize,
+}
+
+fn plain(number: u32) -> Refusal {
+    Refusal { number, start: 0, end: 0, length: 0 }
+}
+
+pub fn read(input: &[u8]) -> Result<Ax25Frame, Refusal> {
+    match catch_unwind(|| Ax25Frame::from_bytes(input)) {
+        Ok(answer) => answer.map_err(|error| refusal(&error)),
+        Err(_) => Err(plain(PANICKED)),
+    }
+}
+
+fn refusal(error: &FrameParseError) -> Refusal {
+    match *error {
+        FrameParseError::OnlyNullBytes => plain(1),
+        FrameParseError::NoEndToAddressField => plain(2),
+        FrameParseError::AddressFieldTooShort { start, end } => Refusal { number: 3, start, end, length: 0 },
+        FrameParseError::FrameTooShort { len } => Refusal { number: 4, start: 0, end: 0, length: len },
+        FrameParseError::MissingPidField => plain(5),
+        FrameParseError::UnrecognisedSFieldType => plain(6),
+        FrameParseError::UnrecognisedUFieldType => plain(7),
+        FrameParseError::WrongSizeFrmrInfo => plain(8),
+        FrameParseError::AddressInvalidUtf8 { .. } => plain(INVALID_UTF8),
+        FrameParseError::ContentZeroLength => plain(ZERO_LENGTH),
+    }
+}
+
+/// What the port owes where the Rust accepts: info is the input's end, wherever the Rust copied it to.
+pub fn accepted(input: &[u8], frame: &Ax25Frame) -> Decode {
+    let info_len = flat::info_of(frame).map(<[u8]>::len);
+    Decode {
+        number: 0,
+        start: 0,
+        end: 0,
+        length: 0,
+        info_start: info_len.map_or(0, |len| input.len() - len),
+        info_len: info_len.unwrap_or(0),
+        record: flat::of_frame(frame),
+    }
+}
+
+/// What the port owes beside a refusal: the default frame.
+pub fn refused(refusal: Refusal) -> Decode {
+    let Refusal { number, start, end, length } = refusal;
+    Decode { number, start, end, length, info_start: 0, info_len: 0, record: flat::of_frame(&Ax25Frame::default()) }
+}
+
+fn text_number(error: &AddressParseError) -> u32 {
+    match error {
+        AddressParseError::CallsignTooLong => 31,
+        AddressParseError::InvalidFormat => 32,
+        AddressParseError::InvalidSsid { .. } => 33,
+        AddressParseError::SsidOutOfRange => 34,
+    }
+}
+
+fn address(answer: std::thread::Result<Result<Address, AddressParseError>>) -> Result<Address, u32> {
+    match answer {
+        Ok(read) => read.map_err(|error| text_number(&error)),
+        Err(_) => Err(PANICKED),
+    }
+}
+
+pub fn from_str(text: &str) -> Result<Address, u32> {
+    address(catch_unwind(|| Address::from_str(text)))
+}
+
+pub fn from_parts(callsign: &str, ssid: u8) -> Result<Address, u32> {
+    address(catch_unwind(|| Address::from_parts(callsign.to_string(), ssid)))
+}

@@ -1,0 +1,357 @@
+//! The port's calls, by the two archives: `loader` is the product, `probe` shows what the product's calls leave inside.
+
+use crate::flat::{Decode, ADDRESS, FLAT};
+use crate::lent::{self, Lent};
+
+#[link(name = "loader", kind = "static")]
+extern "C" {
+    fn ax25_decode(input: *const u8, input_len: usize) -> u32;
+    fn ax25_canonical(input: *const u8, input_len: usize) -> u32;
+    fn ax25_reencoded_length(input: *const u8, input_len: usize) -> usize;
+    fn ax25_reencode(input: *const u8, input_len: usize, output: *mut u8, output_len: usize) -> u32;
+}
+
+#[link(name = "probe", kind = "static")]
+extern "C" {
+    fn probe_decode(
+        input: *const u8,
+        input_len: usize,
+        record: *mut u8,
+        record_len: usize,
+        places: *mut usize,
+        places_len: usize,
+    ) -> u32;
+    fn probe_encode(
+        record: *const u8,
+        record_len: usize,
+        info: *const u8,
+        info_len: usize,
+        out: *mut u8,
+        out_len: usize,
+        length: *mut usize,
+        length_len: usize,
+    ) -> u32;
+    fn probe_from_parts(callsign: *const u8, callsign_len: usize, ssid: u8, address: *mut u8, address_len: usize) -> u32;
+    fn probe_from_str(text: *const u8, text_len: usize, address: *mut u8, address_len: usize) -> u32;
+    fn probe_print(
+        address: *const u8,
+        address_len: usize,
+        out: *mut u8,
+        out_len: usize,
+        length: *mut usize,
+        length_len: usize,
+    ) -> u32;
+    fn probe_simple_ui(
+        source: *const u8,
+        source_len: usize,
+        destination: *const u8,
+        destination_len: usize,
+        record: *mut u8,
+        record_len: usize,
+    ) -> u32;
+    fn probe_default(record: *mut u8, record_len: usize) -> u32;
+}
+
+/// The number of places that `probe_decode` gives: start, end, length, and info's start and length.
+pub const PLACES: usize = 5;
+
+pub struct Port {
+    input: Lent<u8>,
+    second: Lent<u8>,
+    output: Lent<u8>,
+    sizes: Lent<usize>,
+    fault: Option<&'static str>,
+}
+
+impl Port {
+    pub fn new() -> Port {
+        Port { input: lent::octets(), second: lent::octets(), output: lent::octets(), sizes: lent::sizes(), fault: None }
+    }
+
+    /// The first fault since this was last asked: something was written that should not have been.
+    pub fn fault(&mut self) -> Option<&'static str> {
+        self.fault.take()
+    }
+
+    /// Whether the output of the last call starts with `octets` and everything else in and around it is as it was.
+    pub fn output_is(&self, octets: &[u8]) -> bool {
+        self.output.is(octets)
+    }
+
+    /// Whether the output after its first `count` octets, and around it, is as it was.
+    pub fn rest_is_as_it_was(&self, count: usize) -> bool {
+        self.output.written_only(count)
+    }
+
+    pub fn output(&self) -> &[u8] {
+        self.output.items()
+    }
+
+    /// The same of the lent sizes of the last call.
+    pub fn sizes_are(&self, sizes: &[usize]) -> bool {
+        self.sizes.is(sizes)
+    }
+
+    fn see(&mut self, holds: bool, fault: &'static str) {
+        if !holds && self.fault.is_none() {
+            self.fault = Some(fault);
+        }
+    }
+
+    fn see_input(&mut self, input: &[u8]) {
+        let holds = self.input.is(input);
+        self.see(holds, "the input, or an octet beside it, was written");
+    }
+
+    fn see_second(&mut self, second: &[u8]) {
+        let holds = self.second.is(second);
+        self.see(holds, "the second input, or an octet beside it, was written");
+    }
+
+    pub fn number(&mut self, input: &[u8]) -> u32 {
+        self.input.hold(input);
+        let number = unsafe { ax25_decode(self.input.ptr(), self.input.len()) };
+        self.see_input(input);
+        number
+    }
+
+    pub fn canonical(&mut self, input: &[u8]) -> u32 {
+        self.input.hold(input);
+        let canonical = unsafe { ax25_canonical(self.input.ptr(), self.input.len()) };
+        self.see_input(input);
+        canonical
+    }
+
+    pub fn reencoded_length(&mut self, input: &[u8]) -> usize {
+        self.input.hold(input);
+        let length = unsafe { ax25_reencoded_length(self.input.ptr(), self.input.len()) };
+        self.see_input(input);
+        length
+    }
+
+    /// Leaves its octets in the output.
+    pub fn reencode(&mut self, input: &[u8], room: usize) -> u32 {
+        self.input.hold(input);
+        self.output.room(room);
+        let number = unsafe { ax25_reencode(self.input.ptr(), self.input.len(), self.output.mut_ptr(), room) };
+        self.see_input(input);
+        number
+    }
+
+    /// Leaves the record in the output and the places in the sizes.
+    pub fn decode_into(&mut self, input: &[u8], room: usize, places: usize) -> u32 {
+        self.input.hold(input);
+        self.output.room(room);
+        self.sizes.room(places);
+        let number = unsafe {
+            probe_decode(self.input.ptr(), self.input.len(), self.output.mut_ptr(), room, self.sizes.mut_ptr(), places)
+        };
+        self.see_input(input);
+        number
+    }
+
+    pub fn decode(&mut self, input: &[u8]) -> Decode {
+        let number = self.decode_into(input, FLAT, PLACES);
+        let holds = self.output.written_only(FLAT) && self.sizes.written_only(PLACES);
+        self.see(holds, "something beside the record or the places was written");
+        let mut record = [0; FLAT];
+        record.copy_from_slice(self.output.items());
+        let places = self.sizes.items();
+        let (start, end, length) = (places[0], places[1], places[2]);
+        let (info_start, info_len) = (places[3], places[4]);
+        Decode { number, start, end, length, info_start, info_len, record }
+    }
+
+    /// Leaves its octets in the output and their length in the sizes.
+    pub fn encode_into(&mut self, record: &[u8], info: &[u8], room: usize, sizes: usize) -> u32 {
+        self.input.hold(record);
+        self.second.hold(info);
+        self.output.room(room);
+        self.sizes.room(sizes);
+        let number = unsafe {
+            probe_encode(
+                self.input.ptr(),
+                self.input.len(),
+                self.second.ptr(),
+                self.second.len(),
+                self.output.mut_ptr(),
+                room,
+                self.sizes.mut_ptr(),
+                sizes,
+            )
+        };
+        self.see_input(record);
+        self.see_second(info);
+        number
+    }
+
+    /// The number and the length; the octets are in the output.
+    pub fn encode(&mut self, record: &[u8], info: &[u8], room: usize) -> (u32, usize) {
+        let number = self.encode_into(record, info, room, 1);
+        (number, self.one_size())
+    }
+
+    fn one_size(&mut self) -> usize {
+        let holds = self.sizes.written_only(1);
+        self.see(holds, "something beside the length was written");
+        self.sizes.items()[0]
+    }
+
+    /// Leaves the address in the output.
+    pub fn from_parts_into(&mut self, callsign: &[u8], ssid: u8, room: usize) -> u32 {
+        self.input.hold(callsign);
+        self.output.room(room);
+        let number =
+            unsafe { probe_from_parts(self.input.ptr(), self.input.len(), ssid, self.output.mut_ptr(), room) };
+        self.see_input(callsign);
+        number
+    }
+
+    /// Leaves the address in the output.
+    pub fn from_str_into(&mut self, text: &[u8], room: usize) -> u32 {
+        self.input.hold(text);
+        self.output.room(room);
+        let number = unsafe { probe_from_str(self.input.ptr(), self.input.len(), self.output.mut_ptr(), room) };
+        self.see_input(text);
+        number
+    }
+
+    pub fn from_parts(&mut self, callsign: &[u8], ssid: u8) -> (u32, [u8; ADDRESS]) {
+        let number = self.from_parts_into(callsign, ssid, ADDRESS);
+        (number, self.one_address())
+    }
+
+    pub fn from_str(&mut self, text: &[u8]) -> (u32, [u8; ADDRESS]) {
+        let number = self.from_str_into(text, ADDRESS);
+        (number, self.one_address())
+    }
+
+    fn one_address(&mut self) -> [u8; ADDRESS] {
+        let holds = self.output.written_only(ADDRESS);
+        self.see(holds, "something beside the address was written");
+        let mut address = [0; ADDRESS];
+        address.copy_from_slice(self.output.items());
+        address
+    }
+
+    /// Leaves the text in the output and its length in the sizes.
+    pub fn print_into(&mut self, address: &[u8], room: usize, sizes: usize) -> u32 {
+        self.input.hold(address);
+        self.output.room(room);
+        self.sizes.room(sizes);
+        let number = unsafe {
+            probe_print(self.input.ptr(), self.input.len(), self.output.mut_ptr(), room, self.sizes.mut_ptr(), sizes)
+        };
+        self.see_input(address);
+        number
+    }
+
+    /// The number and the length; the text is in the output.
+    pub fn print(&mut self, address: &[u8], room: usize) -> (u32, usize) {
+        let number = self.print_into(address, room, 1);
+        (number, self.one_size())
+    }
+
+    /// Leaves the record in the output.
+    pub fn simple_ui(&mut self, source: &[u8], destination: &[u8], room: usize) -> u32 {
+        self.input.hold(source);
+        self.second.hold(destination);
+        self.output.room(room);
+        let number = unsafe {
+            probe_simple_ui(
+                self.input.ptr(),
+                self.input.len(),
+                self.second.ptr(),
+                self.second.len(),
+                self.output.mut_ptr(),
+                room,
+            )
+        };
+        self.see_input(source);
+        self.see_second(destination);
+        number
+    }
+
+    /// Leaves the record in the output.
+    pub fn default(&mut self, room: usize) -> u32 {
+        self.output.room(room);
+        let number = unsafe { probe_default(self.output.mut_ptr(), room) };
+        number
+    }
+}
+
+/// Two buffers in one piece of storage, so that one ends where the other starts, or a few octets before: where a compiler
+/// copies many octets at a time it looks at the distance, and takes another way for buffers that are close.
+pub struct Beside {
+    pub gap: usize,
+    pub output_first: bool,
+}
+
+impl Beside {
+    /// Where the input and the output start.
+    fn places(&self, input: usize, output: usize) -> (usize, usize) {
+        if self.output_first {
+            (output + self.gap, 0)
+        } else {
+            (0, input + self.gap)
+        }
+    }
+}
+
+impl Port {
+    /// Runs a call on an input and an output side by side, the output with room just for `octets`; whether these are then
+    /// there, and all else is as it was.
+    fn side_by_side(&mut self, input: &[u8], octets: &[u8], beside: &Beside, call: impl FnOnce(*const u8, *mut u8) -> u32) -> (u32, bool) {
+        let (input_at, output_at) = beside.places(input.len(), octets.len());
+        let mut image = vec![0x5A; input.len() + octets.len() + beside.gap];
+        image[input_at..input_at + input.len()].copy_from_slice(input);
+        self.output.hold(&image);
+        let storage = self.output.mut_ptr();
+        // Both places are inside the storage.
+        let number = unsafe { call(storage.add(input_at), storage.add(output_at)) };
+        image[output_at..output_at + octets.len()].copy_from_slice(octets);
+        (number, self.output.is(&image))
+    }
+
+    pub fn reencode_beside(&mut self, input: &[u8], octets: &[u8], beside: &Beside) -> (u32, bool) {
+        self.side_by_side(input, octets, beside, |from, to| unsafe { ax25_reencode(from, input.len(), to, octets.len()) })
+    }
+
+    pub fn encode_beside(&mut self, record: &[u8], info: &[u8], octets: &[u8], beside: &Beside) -> (u32, bool) {
+        let mut length = [0];
+        let (number, holds) = self.side_by_side(info, octets, beside, |from, to| unsafe {
+            probe_encode(record.as_ptr(), record.len(), from, info.len(), to, octets.len(), length.as_mut_ptr(), 1)
+        });
+        (number, holds && length[0] == octets.len())
+    }
+}
+
+/// The loader's calls as they are, for timing.
+pub mod bare {
+    pub fn decode(input: &[u8]) -> u32 {
+        unsafe { super::ax25_decode(input.as_ptr(), input.len()) }
+    }
+
+    pub fn canonical(input: &[u8]) -> u32 {
+        unsafe { super::ax25_canonical(input.as_ptr(), input.len()) }
+    }
+
+    pub fn reencode(input: &[u8], output: &mut [u8]) -> u32 {
+        unsafe { super::ax25_reencode(input.as_ptr(), input.len(), output.as_mut_ptr(), output.len()) }
+    }
+
+    pub fn encode(record: &[u8], info: &[u8], output: &mut [u8], length: &mut [usize]) -> u32 {
+        unsafe {
+            super::probe_encode(
+                record.as_ptr(),
+                record.len(),
+                info.as_ptr(),
+                info.len(),
+                output.as_mut_ptr(),
+                output.len(),
+                length.as_mut_ptr(),
+                length.len(),
+            )
+        }
+    }
+}

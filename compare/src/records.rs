@@ -1,0 +1,256 @@
+//! Frame records: those that the Rust can hold, and those that it can't.
+
+use crate::flat::*;
+use crate::rng::Rng;
+
+pub type Each<'a> = &'a mut dyn FnMut(&[u8], &[u8]);
+
+/// The record of a plain frame of this kind.
+pub fn base(kind: u8) -> Flat {
+    let mut record = [0; FLAT];
+    record[DESTINATION..SOURCE].copy_from_slice(b"GAUGE \0");
+    record[SOURCE..ROUTE].copy_from_slice(b"BOX12 \x03");
+    for i in 0..REPEATERS {
+        put(&mut record, ROUTE + ENTRY * i, NOCALL);
+    }
+    record[KIND] = kind;
+    record[PID] = 13;
+    record
+}
+
+pub fn put(record: &mut Flat, at: usize, address: FlatAddress) {
+    record[at..at + ADDRESS].copy_from_slice(&address);
+}
+
+fn info_for(kind: u8) -> &'static [u8] {
+    if (RR..=FRMR).contains(&kind) { b"" } else { b"info" }
+}
+
+/// Every kind with P/F and mark, and every octet as each sequence number.
+pub fn sequence_numbers(each: Each) {
+    for kind in 0..=UNKNOWN_CONTENT {
+        for mark in [COMMAND, RESPONSE, ABSENT] {
+            for poll in [0, 1] {
+                let mut record = base(kind);
+                record[MARK] = mark;
+                record[POLL] = poll;
+                for number in 0..=255 {
+                    record[RECEIVE] = number;
+                    record[SEND] = 255 - number;
+                    each(&record, info_for(kind));
+                    record[SEND] = 0;
+                    each(&record, b"");
+                }
+            }
+        }
+    }
+}
+
+/// Every case of the PID, `Unknown` with every octet, in I and UI, with no info and some.
+pub fn pids(each: Each) {
+    for kind in [I, UI] {
+        for info in [&b""[..], b"x", b"info"] {
+            let mut record = base(kind);
+            for case in 0..=PID_UNKNOWN {
+                record[PID] = case;
+                each(&record, info);
+            }
+            for octet in 0..=255 {
+                record[PID_OCTET] = octet;
+                each(&record, info);
+            }
+        }
+    }
+}
+
+/// FRMR with each combination of its flags, and every rejected control octet.
+pub fn frmr_fields(each: Each) {
+    for bits in 0..64_u8 {
+        for rejected in 0..=255 {
+            let mut record = base(FRMR);
+            for (i, at) in [POLL, Z, Y, X, W, REJECTED_RESPONSE].into_iter().enumerate() {
+                record[at] = bits >> i & 1;
+            }
+            record[REJECTED_CONTROL] = rejected;
+            record[RECEIVE] = rejected;
+            record[SEND] = bits;
+            each(&record, b"");
+        }
+    }
+}
+
+/// Every way to mark none to eight repeaters, in each kind.
+pub fn routes(each: Each) {
+    for kind in 0..=UNKNOWN_CONTENT {
+        for count in 0..=REPEATERS {
+            for marks in 0..1_usize << count {
+                let mut record = base(kind);
+                record[COUNT] = count as u8;
+                for i in 0..count {
+                    put(&mut record, ROUTE + ENTRY * i, [b'R', b'0' + i as u8, b' ', b' ', b' ', b' ', 15 - i as u8]);
+                    record[ROUTE + ENTRY * i + ADDRESS] = (marks >> i & 1) as u8;
+                }
+                each(&record, info_for(kind));
+            }
+        }
+    }
+}
+
+/// Every seven-bit character at each place of each address in use, and every SSID.
+pub fn characters(each: Each) {
+    for count in [0, 1, REPEATERS] {
+        let mut record = base(UI);
+        record[COUNT] = count as u8;
+        for address in [DESTINATION, SOURCE].into_iter().chain((0..count).map(|i| ROUTE + ENTRY * i)) {
+            for at in address..address + ADDRESS {
+                let mut changed = record;
+                for octet in 0..if at == address + 6 { 16 } else { 128 } {
+                    changed[at] = octet;
+                    each(&changed, b"info");
+                }
+            }
+            put(&mut record, address, *b"      \x07");
+            each(&record, b"");
+            put(&mut record, address, [0; ADDRESS]);
+            each(&record, b"");
+        }
+    }
+}
+
+/// Records cut short, octets past the end counting as 0, and longer ones.
+pub fn cut(each: Each) {
+    for kind in 0..=UNKNOWN_CONTENT {
+        let mut record = base(kind).to_vec();
+        record[COUNT] = 2;
+        record[POLL] = 1;
+        record[RECEIVE] = 5;
+        record[SEND] = 6;
+        record[REJECTED_CONTROL] = 0x3F;
+        record.extend([0xFF; 9]);
+        for length in 0..=record.len() {
+            each(&record[..length], b"");
+        }
+    }
+}
+
+/// Records that the Rust can hold, whatever stands in unused places, fields that the kind lacks, and flags.
+pub fn holdable(seed: u64, count: usize, each: Each) {
+    let mut rng = Rng::new(seed);
+    for _ in 0..count {
+        let record = seeded(&mut rng);
+        let info = seeded_info(&mut rng, record[KIND]);
+        each(&record, &info);
+    }
+}
+
+/// Records that break one rule: info where there is none, every count over 8, every octet that an address can't hold.
+pub fn unholdable(each: Each) {
+    for kind in RR..=FRMR {
+        for length in [1, 2, 300] {
+            each(&base(kind), &vec![0x55; length]);
+        }
+    }
+    for repeaters in REPEATERS + 1..=255 {
+        let mut record = base(UI);
+        record[COUNT] = repeaters as u8;
+        each(&record, b"");
+    }
+    for at in DESTINATION..ROUTE {
+        let ssid = (at + 1) % ADDRESS == 0;
+        for octet in if ssid { 16 } else { 128 }..=255 {
+            let mut record = base(RR);
+            record[at] = octet;
+            each(&record, b"");
+        }
+    }
+}
+
+/// Records that break one rule, or several.
+pub fn seeded_unholdable(seed: u64, count: usize, each: Each) {
+    let mut rng = Rng::new(seed);
+    for _ in 0..count {
+        let mut record = seeded(&mut rng);
+        let mut info = seeded_info(&mut rng, record[KIND]);
+        let rules = rng.within(1, 7);
+        if rules & 1 != 0 {
+            record[COUNT] = rng.within(REPEATERS + 1, 255) as u8;
+        }
+        if rules & 2 != 0 {
+            spoil(&mut rng, &mut record);
+        }
+        if rules & 4 != 0 {
+            record[KIND] = rng.within(RR.into(), FRMR.into()) as u8;
+            let length = rng.within(1, 9);
+            info = rng.octets(length);
+        }
+        each(&record, &info);
+    }
+}
+
+/// Spoils one address in use.
+fn spoil(rng: &mut Rng, record: &mut Flat) {
+    let last = usize::from(record[COUNT]).min(REPEATERS);
+    let address = match rng.below(last + 2) {
+        0 => DESTINATION,
+        1 => SOURCE,
+        i => ROUTE + ENTRY * (i - 2),
+    };
+    match rng.below(7) {
+        6 => record[address + 6] = rng.within(16, 255) as u8,
+        i => record[address + i] = rng.octet() | 0x80,
+    }
+}
+
+fn seeded(rng: &mut Rng) -> Flat {
+    let mut record = [0; FLAT];
+    record.copy_from_slice(&rng.octets(FLAT));
+    record[COUNT] = rng.within(0, REPEATERS) as u8;
+    if !rng.chance(8) {
+        record[KIND] = rng.within(0, UNKNOWN_CONTENT.into()) as u8;
+        record[MARK] = rng.within(0, 2) as u8;
+        record[PID] = rng.within(0, 15) as u8;
+        for flag in [POLL, Z, Y, X, W, REJECTED_RESPONSE] {
+            record[flag] &= 1;
+        }
+    }
+    let count = usize::from(record[COUNT]);
+    for address in [DESTINATION, SOURCE].into_iter().chain((0..count).map(|i| ROUTE + ENTRY * i)) {
+        put(&mut record, address, any_address(rng));
+    }
+    for i in 0..REPEATERS {
+        record[ROUTE + ENTRY * i + ADDRESS] = *rng.pick(&[0, 0, 1, 1, 2, 0x80, 0xFF]);
+    }
+    record
+}
+
+/// An address that can be written: usual, padded, any seven-bit characters, empty, zeros.
+pub fn any_address(rng: &mut Rng) -> FlatAddress {
+    const USUAL: &[u8] = b"ABCDEFGHIJKLMNOPQRSTUVWXYZ0123456789";
+    let mut address = *b"      \0";
+    let used = rng.within(0, 6);
+    let style = rng.below(6);
+    for character in &mut address[..used] {
+        *character = match style {
+            0 => rng.octet() & 0x7F,
+            1 => *rng.pick(&[0x00, b' ', 0x7F, b'a', b'-', b'A']),
+            _ => *rng.pick(USUAL),
+        };
+    }
+    if style == 2 {
+        address[..6].iter_mut().for_each(|c| *c = if *c == b' ' { 0 } else { *c });
+    }
+    address[6] = rng.within(0, 15) as u8;
+    address
+}
+
+fn seeded_info(rng: &mut Rng, kind: u8) -> Vec<u8> {
+    if (RR..=FRMR).contains(&kind) {
+        return Vec::new();
+    }
+    let length = match rng.below(12) {
+        0 => 0,
+        1 => rng.within(0, 300),
+        _ => rng.within(0, 12),
+    };
+    rng.octets(length)
+}

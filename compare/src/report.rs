@@ -1,0 +1,166 @@
+//! What is printed while a run goes on, and the counts that are left for other programs.
+
+use crate::check::Difference;
+use crate::seen::Seen;
+use crate::show;
+use std::io::Write;
+
+/// How many mismatches are printed in full. The others are counted.
+const SHOWN: usize = 20;
+
+pub struct Line {
+    pub name: String,
+    pub inputs: u64,
+    pub mismatches: u64,
+}
+
+struct Mismatch {
+    class: String,
+    input: String,
+    reproduce: String,
+    differences: Vec<Difference>,
+}
+
+#[derive(Default)]
+pub struct Report {
+    pub lines: Vec<Line>,
+    /// Only the classes whose name has this in it are run.
+    pub only: Option<String>,
+    mismatches: Vec<Mismatch>,
+    extra: Vec<(String, String)>,
+}
+
+impl Report {
+    /// Whether mismatches are only counted from now on.
+    pub fn full(&self) -> bool {
+        self.mismatches.len() >= SHOWN
+    }
+
+    /// Prints a mismatch and keeps it.
+    pub fn mismatch(&mut self, class: &str, input: String, reproduce: String, differences: Vec<Difference>) {
+        println!("MISMATCH: {}", class);
+        println!("  input: {}", input);
+        for difference in &differences {
+            println!("  {}", difference.what);
+            println!("    owed: {}", difference.owed);
+            println!("    port: {}", difference.port);
+        }
+        println!("  again: {}", reproduce);
+        self.mismatches.push(Mismatch { class: class.to_string(), input, reproduce, differences });
+        if self.full() {
+            println!("  (from here on mismatches are only counted)");
+        }
+    }
+
+    /// One class is done.
+    pub fn class(&mut self, line: Line) {
+        if line.mismatches == 0 {
+            println!("ok: {}: {} inputs", line.name, line.inputs);
+        } else {
+            println!("FAILED: {}: {} inputs, {} mismatches", line.name, line.inputs, line.mismatches);
+        }
+        // Whoever waits for a long run sees how far it is, though the output may be a pipe.
+        let _ = std::io::stdout().flush();
+        self.lines.push(line);
+    }
+
+    /// The last line; whether nothing failed.
+    pub fn finish(&self) -> bool {
+        let failed = self.lines.iter().filter(|line| line.mismatches > 0).count();
+        println!("{} passed, {} failed", self.lines.len() - failed, failed);
+        failed == 0 && !self.lines.is_empty()
+    }
+
+    /// A part of the JSON besides the classes, already in JSON.
+    pub fn extra(&mut self, name: &str, json: String) {
+        self.extra.push((name.to_string(), json));
+    }
+
+    pub fn json(&self) -> String {
+        let line = |line: &Line| {
+            object(&[
+                ("name", string(&line.name)),
+                ("inputs", line.inputs.to_string()),
+                ("mismatches", line.mismatches.to_string()),
+            ])
+        };
+        let mismatches: u64 = self.lines.iter().map(|line| line.mismatches).sum();
+        let mut fields = vec![
+            ("classes", list(self.lines.iter().map(line))),
+            ("mismatches", mismatches.to_string()),
+            ("mismatches_shown", list(self.mismatches.iter().map(mismatch_json))),
+        ];
+        fields.extend(self.extra.iter().map(|(name, json)| (name.as_str(), json.clone())));
+        object(&fields) + "\n"
+    }
+}
+
+fn mismatch_json(mismatch: &Mismatch) -> String {
+    let difference = |d: &Difference| {
+        object(&[("what", string(&d.what)), ("owed", string(&d.owed)), ("port", string(&d.port))])
+    };
+    object(&[
+        ("class", string(&mismatch.class)),
+        ("input", string(&mismatch.input)),
+        ("again", string(&mismatch.reproduce)),
+        ("differences", list(mismatch.differences.iter().map(difference))),
+    ])
+}
+
+/// The totals of a run, printed and for the JSON.
+pub fn totals(report: &mut Report, seen: &Seen) {
+    println!("decodes compared: {}; writes compared: {}", seen.decodes, seen.writes);
+    let numbers = seen.number_counts();
+    let said: Vec<String> = numbers.iter().map(|(number, count)| format!("{}: {}", number, count)).collect();
+    println!("decode numbers: {}", said.join(", "));
+    let kinds = seen.kind_counts();
+    let said: Vec<String> = kinds.iter().map(|(kind, count)| format!("{}: {}", kind, count)).collect();
+    println!("kinds accepted: {}; canonical: {} of {}", said.join(", "), seen.canonical[1], seen.canonical[0] + seen.canonical[1]);
+    for (number, what, count) in seen.listed_counts() {
+        println!("listed difference {} ({}): {}", number, what, count);
+    }
+    report.extra("decodes", seen.decodes.to_string());
+    report.extra("writes", seen.writes.to_string());
+    report.extra("canonical", seen.canonical[1].to_string());
+    report.extra("accepted", (seen.canonical[0] + seen.canonical[1]).to_string());
+    report.extra("decode_numbers", counts(numbers.iter().map(|(number, count)| (number.to_string(), *count))));
+    report.extra("kinds", counts(kinds.iter().map(|(kind, count)| (kind.to_string(), *count))));
+    report.extra("listed", counts(seen.listed_counts().into_iter().map(|(number, _, count)| (number, count))));
+}
+
+pub fn counts(counts: impl Iterator<Item = (String, u64)>) -> String {
+    let fields: Vec<(String, String)> = counts.map(|(name, count)| (name, count.to_string())).collect();
+    object(&fields.iter().map(|(name, count)| (name.as_str(), count.clone())).collect::<Vec<_>>())
+}
+
+pub fn object(fields: &[(&str, String)]) -> String {
+    let fields: Vec<String> = fields.iter().map(|(name, value)| format!("{}: {}", string(name), value)).collect();
+    format!("{{{}}}", fields.join(", "))
+}
+
+pub fn list(items: impl Iterator<Item = String>) -> String {
+    format!("[{}]", items.collect::<Vec<_>>().join(", "))
+}
+
+pub fn string(text: &str) -> String {
+    let mut json = String::from("\"");
+    for c in text.chars() {
+        match c {
+            '"' => json.push_str("\\\""),
+            '\\' => json.push_str("\\\\"),
+            c if (c as u32) < 0x20 => json.push_str(&format!("\\u{:04x}", c as u32)),
+            c => json.push(c),
+        }
+    }
+    json.push('"');
+    json
+}
+
+/// How to look at one input again.
+pub fn again(input: &[u8]) -> String {
+    if input.len() <= 4096 {
+        format!("compare one '{}'", show::hex(input))
+    } else {
+        "compare one -    (and the input's hex digits on standard input)".to_string()
+    }
+}

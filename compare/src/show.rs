@@ -1,0 +1,88 @@
+//! Answers as lines that people read.
+
+use crate::flat::*;
+use crate::oracle;
+
+pub fn hex(octets: &[u8]) -> String {
+    octets.iter().map(|octet| format!("{:02X}", octet)).collect()
+}
+
+/// Hex digits in pairs, spaces anywhere between them.
+pub fn unhex(text: &str) -> Result<Vec<u8>, String> {
+    let digits: Vec<char> = text.chars().filter(|c| !c.is_ascii_whitespace()).collect();
+    if let Some(strange) = digits.iter().find(|c| !c.is_ascii_hexdigit()) {
+        return Err(format!("'{}' is no hex digit", strange.escape_default()));
+    }
+    if digits.len() % 2 == 1 {
+        return Err(format!("{} hex digits: the last octet has only one", digits.len()));
+    }
+    let value = |c: char| c.to_digit(16).expect("a hex digit") as u8;
+    Ok(digits.chunks(2).map(|pair| value(pair[0]) << 4 | value(pair[1])).collect())
+}
+
+/// Characters as they are, those that don't print as \x and two hex digits.
+pub fn text(octets: &[u8]) -> String {
+    octets.iter().flat_map(|&octet| std::ascii::escape_default(octet)).map(char::from).collect()
+}
+
+pub fn address(flat: &[u8]) -> String {
+    format!("\"{}\"-{}", text(&flat[..6]), flat[6])
+}
+
+fn route(record: &Flat) -> String {
+    let entry = |i: usize| {
+        let at = ROUTE + ENTRY * i;
+        let mark = if record[at + ADDRESS] != 0 { "*" } else { "" };
+        format!("{}{}", address(&record[at..at + ADDRESS]), mark)
+    };
+    (0..REPEATERS).map(entry).collect::<Vec<_>>().join(" ")
+}
+
+/// Every octet of the record, by name.
+pub fn record(record: &Flat) -> String {
+    let name = |names: &[&'static str], at: usize| names.get(usize::from(record[at])).copied().unwrap_or("another");
+    let pid = PIDS.get(usize::from(record[PID])).map_or("Unknown".to_string(), |pid| format!("{:?}", pid));
+    format!(
+        "destination {} source {} count {} places {} mark {} kind {} pid {} ({:02X}) p/f {} N(R) {} N(S) {} z {} y {} x {} w {} rejected: response {} control {:02X}; record {}",
+        address(&record[DESTINATION..SOURCE]),
+        address(&record[SOURCE..ROUTE]),
+        record[COUNT],
+        route(record),
+        name(&MARKS, MARK),
+        name(&KINDS, KIND),
+        pid,
+        record[PID_OCTET],
+        record[POLL],
+        record[RECEIVE],
+        record[SEND],
+        record[Z],
+        record[Y],
+        record[X],
+        record[W],
+        record[REJECTED_RESPONSE],
+        record[REJECTED_CONTROL],
+        hex(record)
+    )
+}
+
+pub fn number(number: u32) -> String {
+    format!("{}{}", number, oracle::meaning(number))
+}
+
+pub fn decode(decode: &Decode) -> String {
+    format!(
+        "number {} start {} end {} length {} info at {} of {} octets; {}",
+        number(decode.number),
+        decode.start,
+        decode.end,
+        decode.length,
+        decode.info_start,
+        decode.info_len,
+        record(&decode.record)
+    )
+}
+
+/// A written output: its number, length and octets.
+pub fn written(number: u32, length: usize, octets: &[u8]) -> String {
+    format!("number {} length {} octets {}", self::number(number), length, hex(octets))
+}

@@ -1,0 +1,150 @@
+//! One input at a time: both sides in full, and then whether they differ.
+
+use crate::check::{padded, Checker, Difference};
+use crate::domain;
+use crate::flat::{self, ADDRESS, FLAT};
+use crate::oracle;
+use crate::show;
+use ax25::frame::{Address, Ax25Frame};
+
+/// Prints what differs; whether nothing does.
+fn verdict(found: Vec<Difference>) -> bool {
+    for difference in &found {
+        println!("MISMATCH: {}", difference.what);
+        println!("  owed: {}", difference.owed);
+        println!("  port: {}", difference.port);
+    }
+    if found.is_empty() {
+        println!("same: the port answers as it owes");
+    }
+    found.is_empty()
+}
+
+/// Runs a check on each word; whether all hold.
+pub fn each(words: &[&str], mut check: impl FnMut(&str) -> bool) -> bool {
+    words.iter().filter(|word| !check(word)).count() == 0
+}
+
+pub fn one(input: &[u8]) -> bool {
+    let mut checker = Checker::new();
+    println!("input: {} octets: {}", input.len(), show::hex(input));
+    if domain::repeaters(input) > flat::REPEATERS {
+        println!("outside the domain of equality (B1): {} repeaters, the port owes 9", domain::repeaters(input));
+    }
+    show_rust(input);
+    show_port(&mut checker, input);
+    verdict(checker.octets(input))
+}
+
+fn show_rust(input: &[u8]) {
+    match oracle::read(input) {
+        Ok(frame) => {
+            println!("Rust: {:?}", frame);
+            if frame.route.len() <= flat::REPEATERS {
+                println!("Rust: {}", show::decode(&oracle::accepted(input, &frame)));
+            }
+            let octets = frame.to_bytes();
+            println!("Rust: re-encoded {} octets {}, canonical {}", octets.len(), show::hex(&octets), u8::from(octets == input));
+        }
+        Err(refusal) => println!("Rust: refused {}: {:?}", show::number(refusal.number), refusal),
+    }
+}
+
+fn show_port(checker: &mut Checker, input: &[u8]) {
+    let port = &mut checker.port;
+    println!("port: {}", show::decode(&port.decode(input)));
+    let (number, canonical, length) = (port.number(input), port.canonical(input), port.reencoded_length(input));
+    // A length that is out of all reason is not lent.
+    let room = length.min(input.len() + FLAT);
+    let answer = port.reencode(input, room);
+    let octets = show::hex(port.output());
+    println!("port: decode {} canonical {} re-encoded length {}; re-encode into {}: {} octets {}", number, canonical, length, room, answer, octets);
+}
+
+fn show_address(side: &str, number: u32, address: &[u8]) {
+    println!("{}: number {} {}", side, show::number(number), show::address(address));
+}
+
+fn show_wide(text: &[u8]) {
+    if domain::is_wide(text) {
+        println!("outside the domain of equality (B2): an octet of 128 or more, the port owes 35");
+    }
+}
+
+fn show_rust_address(read: Result<Address, u32>) {
+    match read {
+        Ok(address) => println!("Rust: number 0 {:?}", address),
+        Err(number) => println!("Rust: number {}", show::number(number)),
+    }
+}
+
+pub fn text(text: &[u8]) -> bool {
+    println!("text: {} ({})", show::text(text), show::hex(text));
+    let mut checker = Checker::new();
+    match std::str::from_utf8(text) {
+        Ok(text) => show_rust_address(oracle::from_str(text)),
+        Err(_) => println!("Rust: can't be asked, the octets are no UTF-8"),
+    }
+    show_wide(text);
+    let (number, address) = checker.port.from_str(text);
+    show_address("port", number, &address);
+    verdict(checker.text(text))
+}
+
+pub fn parts(callsign: &[u8], ssid: u8) -> bool {
+    println!("callsign: {} ({}) SSID {}", show::text(callsign), show::hex(callsign), ssid);
+    let mut checker = Checker::new();
+    match std::str::from_utf8(callsign) {
+        Ok(callsign) => show_rust_address(oracle::from_parts(callsign, ssid)),
+        Err(_) => println!("Rust: can't be asked, the octets are no UTF-8"),
+    }
+    show_wide(callsign);
+    let (number, address) = checker.port.from_parts(callsign, ssid);
+    show_address("port", number, &address);
+    verdict(checker.parts(callsign, ssid))
+}
+
+pub fn print(address: &[u8]) -> bool {
+    let whole = padded::<ADDRESS>(address);
+    println!("address: {}", show::address(&whole));
+    let mut checker = Checker::new();
+    if domain::encodable(&whole) {
+        println!("Rust: {:?}", flat::addresses(&[whole])[0].to_string());
+    } else {
+        println!("outside the domain of equality (B3): the port owes 22");
+    }
+    let (number, length) = checker.port.print(address, 32);
+    let text = show::text(&checker.port.output()[..length.min(32)]);
+    println!("port: number {} length {} \"{}\"", number, length, text);
+    verdict(checker.print(address))
+}
+
+pub fn record(record: &[u8], info: &[u8]) -> bool {
+    let whole = padded::<FLAT>(record);
+    println!("record: {} info {}", show::record(&whole), show::hex(info));
+    let mut checker = Checker::new();
+    match domain::record_number(&whole, info) {
+        0 => println!("Rust: writes {}", show::hex(&flat::to_frame(&whole, info).to_bytes())),
+        number => println!("outside the domain of equality (B3): the port owes {}", number),
+    }
+    let room = FLAT + info.len();
+    let (number, length) = checker.port.encode(record, info, room);
+    let octets = show::hex(&checker.port.output()[..length.min(room)]);
+    println!("port: number {} length {} octets {}", number, length, octets);
+    verdict(checker.record(record, info))
+}
+
+pub fn simple_ui(source: &[u8], destination: &[u8], info: &[u8]) -> bool {
+    let (from, to) = (padded::<ADDRESS>(source), padded::<ADDRESS>(destination));
+    println!("source {} destination {} info {}", show::address(&from), show::address(&to), show::hex(info));
+    if !domain::encodable(&from) || !domain::encodable(&to) {
+        println!("the Rust holds no such address: nothing to compare");
+        return true;
+    }
+    let known = flat::addresses(&[from, to]);
+    println!("Rust: {:?}", Ax25Frame::new_simple_ui_frame(known[0].clone(), known[1].clone(), info.to_vec()));
+    let mut checker = Checker::new();
+    let number = checker.port.simple_ui(source, destination, FLAT);
+    println!("port: number {} {}", number, show::record(&padded(checker.port.output())));
+    verdict(checker.simple_ui(source, destination, info))
+}
