@@ -1,6 +1,6 @@
 -- Laws of the flat form: how long its parts are, and that the parts written one after the other are the whole.
 use Prim.Native.Nat.{ℕ, zero, suc, _+_, _*_, _≤_}
-use mathlib.Core.Path.{_≡_, refl, sym, _∙_}
+use mathlib.Core.Path.{_≡_, refl, _∙_}
 use mathlib.Core.Bool.{Bool, true, false}
 use mathlib.Core.List.{List, [], _∷_, _++_, append-assoc}
 use native.Mathlib.Numerals.{add-one}
@@ -9,7 +9,7 @@ use mir.Val.{boolByte}
 use lib.ListN.{length, length-append}
 use Rattle.octets.specs.Octet.{flag}
 use Rattle.octets.specs.Splice.{splice}
-use Rattle.octets.proofs.Splice.{splice-more, splice-then}
+use Rattle.octets.proofs.Splice.{splice-then}
 use Rattle.content.specs.declared.FrameContent.{FrameContent}
 use Rattle.content.specs.declared.FrameContent.the-variants as kind
 use Rattle.frame.specs.declared.RouteEntry.{RouteEntry}

@@ -1,7 +1,9 @@
 -- Lent too little, either way; else the decoded frame and its places are written.
 use mathlib.Core.Path.{refl, _∙_}
+use native.Mathlib.Omega.{arith}
 use borrow.Author.Tests.{lt-ltb, le-ltb}
 use borrow.Author.Needs.{needs}
+use lib.ListN.{length}
 use Rattle.probe.proofs.probe_decode.Statement.{statement}
 use Rattle.probe.proofs.probe_decode.Tie as tie
 
@@ -9,7 +11,9 @@ returns : tie.Need-returns
 returns c = rw (lt-ltb _ _ (c .if1 .taken)) (refl, (refl, refl))
 
 returns-2 : tie.Need-returns-2
-returns-2 c = rw (le-ltb _ _ (c .before .if1 .left), lt-ltb _ _ (c .if2 .taken)) (refl, (refl, refl))
+returns-2 c =
+    let a = c .before .before .before .before .before .args in
+    rw (le-ltb _ _ (c .before .if1 .left), lt-ltb (length (a .places .now)) 5 (omega arith)) (refl, (refl, refl))
 
 from-bytes-requires : tie.Need-from-bytes-requires
 from-bytes-requires c κs = search needs
