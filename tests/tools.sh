@@ -44,7 +44,7 @@ tools_folder() {
 tools_can_fetch() { # PACKAGES
     tools_folder || return 1
     tools_has apt-get && tools_has dpkg-deb || { tools_say "missing: $1; and there is no apt-get to fetch it from Debian's packages"; return 1; }
-    : >"$tools_dir/apt.log"
+    mkdir -p "$tools_dir/apt" && true >"$tools_dir/apt.log"
 }
 
 tools_unpack() { # DIR: every package of the folder DIR/debs into DIR/root
@@ -65,7 +65,7 @@ tools_unpacked() { # NAME PACKAGE..
     case $into in
     *-x86)
         tools_status=$tools_dir/apt/nothing
-        : >"$tools_status"
+        true >"$tools_status"
         ;;
     esac
     tools_twice tools_apt --download-only --no-install-recommends install "$@"

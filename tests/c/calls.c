@@ -1,0 +1,327 @@
+/* The four calls on document 01's examples, on every octet string of length 0 to 2, and on random, damaged and long frames.
+   usage: calls [THOUSANDS [SEED]]: that many thousand random inputs */
+#include <stdio.h>
+#include <stdlib.h>
+#include <string.h>
+
+#include "ax25.h"
+#include "examine.h"
+
+/* Document 01's example frame, and its 14 address octets. */
+#define ADDRESS "8E 82 AA 8E 8A 40 E0 84 9E B0 62 64 40 67 "
+#define FRAME ADDRESS "03 F0 4F 4B"
+
+/* P1 to P13: what document 01 says of each, worked out by hand. */
+static const struct {
+    const char *name, *input;
+    unsigned number, canonical;
+    const char *reencoded;
+} examples[] = {
+    {"P1", "", 1, 0, ""},
+    {"P2", "8E 82", 2, 0, ""},
+    {"P3", "8E 82 AA 8E 8A 40 E0 84 9E B0 62 64 41", 3, 0, ""},
+    {"P4", ADDRESS, 4, 0, ""},
+    {"P5", FRAME, 0, 1, FRAME},
+    {"P6", "00 " FRAME, 0, 0, FRAME},
+    {"P7", ADDRESS "03", 5, 0, ""},
+    {"P8", ADDRESS "0D", 6, 0, ""},
+    {"P9", ADDRESS "6F", 7, 0, ""},
+    {"P10", ADDRESS "87 01 02", 8, 0, ""},
+    {"P11", ADDRESS "87 F1 03 44", 0, 0, ADDRESS "87 01 02 44"},
+    {"P12", ADDRESS "01 AA", 0, 0, ADDRESS "01"},
+    {"P13", ADDRESS "03 20", 0, 0, ADDRESS "03 10"},
+};
+
+static size_t from_hex(const char *text, uint8_t *octets) {
+    size_t len = 0;
+    char *end;
+    for (;;) {
+        unsigned long octet = strtoul(text, &end, 16);
+        if (end == text) return len;
+        octets[len++] = (uint8_t)octet;
+        text = end;
+    }
+}
+
+static int same_answer(const struct answer *a, const struct answer *b) {
+    return a->number == b->number && a->canonical == b->canonical && a->length == b->length &&
+           memcmp(a->reencoded, b->reencoded, a->length) == 0;
+}
+
+static void run_examples(void) {
+    uint8_t in[64], out[64];
+    int modelled = 1;
+    for (size_t i = 0; i < sizeof examples / sizeof *examples; i++) {
+        size_t len = from_hex(examples[i].input, in);
+        struct answer want = {examples[i].number, examples[i].canonical, from_hex(examples[i].reencoded, out), out};
+        set_begin(examples[i].name);
+        examine_everywhere(in, len, &want);
+        set_end_brief();
+        struct answer other = model(in, len);
+        modelled = modelled && same_answer(&want, &other);
+    }
+    say(modelled, "the model that random inputs are held to gives the examples");
+}
+
+/* A frame whose address field spans `span` octets, with the content `01` (RR) or none. */
+static size_t spanning(uint8_t *in, size_t span, int content) {
+    for (size_t i = 0; i < span; i++) in[i] = i % 7 == 6 ? 0x60 : 0x82;
+    in[6] = 0xE0;
+    in[span - 1] |= 1;
+    if (content) in[span] = 0x01;
+    return span + (content ? 1 : 0);
+}
+
+/* Document 01 on spans: 76 is eight repeaters, 77 is 9, 15 to 20 are none, below 14 is 3; nothing after the end is 4 before 9. */
+static void run_spans(void) {
+    uint8_t in[128], out[128];
+    set_begin("spans 1 to 90");
+    for (size_t span = 1; span <= 90; span++) {
+        for (int content = 0; content < 2; content++) {
+            size_t len = spanning(in, span, content);
+            size_t repeaters = span < 14 ? 0 : (span - 14) / 7;
+            struct answer want = {0, 0, 0, out};
+            if (span < 14) want.number = 3;
+            else if (!content) want.number = 4;
+            else if (span >= 77) want.number = 9;
+            else {
+                want.length = spanning(out, 14 + 7 * repeaters, 1);
+                want.canonical = span == 14 + 7 * repeaters;
+            }
+            examine_everywhere(in, len, &want);
+        }
+    }
+    set_end();
+}
+
+/* An empty input may have any pointer that is not null, and so may an output without room. */
+static void run_empty(void) {
+    const uint8_t *nowhere = (const uint8_t *)(uintptr_t)1;
+    uint8_t out[4] = {1, 2, 3, 4}, frame[32];
+    size_t len = from_hex(FRAME, frame);
+    say(ax25_decode(nowhere, 0) == 1, "ax25_decode of nothing at a pointer that leads nowhere is 1");
+    say(ax25_canonical(nowhere, 0) == 0, "ax25_canonical of nothing at a pointer that leads nowhere is 0");
+    say(ax25_reencoded_length(nowhere, 0) == 0, "ax25_reencoded_length of nothing at a pointer that leads nowhere is 0");
+    say(ax25_reencode(nowhere, 0, out, sizeof out) == 1 && memcmp(out, "\1\2\3\4", 4) == 0,
+        "ax25_reencode of nothing at a pointer that leads nowhere is 1 and leaves the output alone");
+    say(ax25_reencode(nowhere, 0, (uint8_t *)(uintptr_t)1, 0) == 1, "ax25_reencode of nothing into nothing is 1");
+    say(ax25_reencode(frame, len, (uint8_t *)(uintptr_t)1, 0) == 24, "ax25_reencode of a frame into nothing is 24");
+}
+
+static void run_short(void) {
+    uint8_t in[2];
+    struct answer want;
+    set_begin("every octet string of length 0 to 2");
+    want = model(in, 0);
+    examine_everywhere(in, 0, &want);
+    for (unsigned a = 0; a < 256; a++) {
+        in[0] = (uint8_t)a;
+        want = model(in, 1);
+        examine_everywhere(in, 1, &want);
+        for (unsigned b = 0; b < 256; b++) {
+            in[1] = (uint8_t)b;
+            want = model(in, 2);
+            examine(in, 2, &want, b % 3);
+        }
+    }
+    set_end();
+}
+
+/* Every control octet and every PID, with content of 1 to 6 octets, after the example's addresses. */
+static void run_contents(void) {
+    uint8_t in[64];
+    size_t at = from_hex(ADDRESS, in);
+    set_begin("every first two content octets, content of 1 to 6 octets");
+    for (unsigned control = 0; control < 256; control++) {
+        for (unsigned second = 0; second < 256; second++) {
+            size_t len = second % 6 + 1;
+            memset(in + at, 0xB5, 6);
+            in[at] = (uint8_t)control;
+            in[at + 1] = (uint8_t)second;
+            struct answer want = model(in, at + len);
+            examine(in, at + len, &want, (control + second) % 3);
+            want = model(in, at + 2);
+            examine(in, at + 2, &want, (control + second + 1) % 3);
+        }
+    }
+    set_end();
+}
+
+static uint64_t state;
+
+/* splitmix64 */
+static uint64_t draw(void) {
+    uint64_t z = state += 0x9E3779B97F4A7C15u;
+    z = (z ^ z >> 30) * 0xBF58476D1CE4E5B9u;
+    z = (z ^ z >> 27) * 0x94D049BB133111EBu;
+    return z ^ z >> 31;
+}
+
+static unsigned below(unsigned bound) { return (unsigned)(draw() >> 32) % bound; }
+static int one_in(unsigned n) { return below(n) == 0; }
+
+static const uint8_t known_controls[] = {0x00, 0x01, 0x05, 0x09, 0x2F, 0x43, 0x0F, 0x63, 0x87, 0x03};
+static const uint8_t known_pids[] = {0x01, 0x06, 0x07, 0x08, 0xC3, 0xC4, 0xCA, 0xCB, 0xCC, 0xCD, 0xCE, 0xCF, 0xF0, 0xFF, 0x10, 0x20, 0x9A, 0xA5};
+
+enum { SCRATCH = 1024 };
+
+/* One address group: mostly letters, mostly with the reserved bits. */
+static size_t random_group(uint8_t *out) {
+    for (int i = 0; i < 6; i++) out[i] = (uint8_t)((one_in(6) ? below(128) : 'A' + below(26)) << 1);
+    out[6] = (uint8_t)(below(2) << 7 | (one_in(8) ? below(4) << 5 : 0x60) | below(16) << 1);
+    return 7;
+}
+
+static size_t random_content(uint8_t *out) {
+    unsigned control = one_in(4) ? below(256) : known_controls[below(sizeof known_controls)];
+    if (one_in(2)) control ^= 0x10;
+    if ((control & 3) != 3 && one_in(2)) control ^= below(8) << 5;
+    size_t len = 0;
+    out[len++] = (uint8_t)control;
+    int has_pid = (control & 1) == 0 || (control & 0xEF) == 0x03;
+    if (has_pid && !one_in(12)) out[len++] = one_in(3) ? (uint8_t)below(256) : known_pids[below(sizeof known_pids)];
+    if ((control & 0xEF) == 0x87 && !one_in(4)) {
+        out[len++] = (uint8_t)(one_in(2) ? below(256) : below(16));
+        out[len++] = (uint8_t)(one_in(2) ? below(256) : below(128) << 1);
+        out[len++] = (uint8_t)below(256);
+    } else if (has_pid ? !one_in(4) : one_in(4)) {
+        for (size_t n = one_in(8) ? below(400) : below(24); n > 0; n--) out[len++] = (uint8_t)below(256);
+    }
+    return len;
+}
+
+/* A frame that is near to a good one: sometimes with nulls before it, octets left over, too many repeaters. */
+static size_t random_frame(uint8_t *out) {
+    size_t len = 0;
+    if (one_in(8)) for (size_t n = below(20); n > 0; n--) out[len++] = 0;
+    size_t groups = 2 + (one_in(3) ? 0 : below(one_in(6) ? 12 : 9));
+    for (size_t n = groups; n > 0; n--) len += random_group(out + len);
+    if (!one_in(6)) { /* one of the two marks */
+        size_t at = len - 7 * groups;
+        out[at + 6] = (uint8_t)((out[at + 6] & 0x7F) | (out[at + 13] & 0x80 ? 0 : 0x80));
+    }
+    if (one_in(8)) for (size_t n = below(7); n > 0; n--) out[len++] = (uint8_t)(below(128) << 1);
+    if (!one_in(40)) out[len - 1] |= 1;
+    if (!one_in(20)) len += random_content(out + len);
+    return len;
+}
+
+/* Octets without a plan, the low bits mostly clear so that an address field gets long. */
+static size_t random_octets(uint8_t *out) {
+    size_t len = below(one_in(4) ? 160 : 40);
+    unsigned odd = 1 + below(60);
+    for (size_t i = 0; i < len; i++) out[i] = (uint8_t)(below(128) << 1 | (one_in(odd) ? 1 : 0));
+    if (one_in(4)) memset(out, 0, below((unsigned)len + 1));
+    return len;
+}
+
+/* One damage: a bit, an octet, an octet less or more, an end cut off, or two octets swapped. */
+static size_t damage(uint8_t *in, size_t len) {
+    size_t at = len ? below((unsigned)len) : 0;
+    if (len == 0) return len;
+    switch (below(6)) {
+    case 0: in[at] ^= (uint8_t)(1u << below(8)); return len;
+    case 1: in[at] = (uint8_t)below(256); return len;
+    case 2: memmove(in + at, in + at + 1, len - at - 1); return len - 1;
+    case 3:
+        memmove(in + at + 1, in + at, len - at);
+        in[at] = (uint8_t)below(256);
+        return len + 1;
+    case 4: return at;
+    default: {
+        size_t other = below((unsigned)len);
+        uint8_t kept = in[at];
+        in[at] = in[other];
+        in[other] = kept;
+        return len;
+    }
+    }
+}
+
+static unsigned long seen[10], seen_canonical, seen_rewritten;
+
+static void examine_one(const uint8_t *in, size_t len) {
+    struct answer want = model(in, len);
+    seen[want.number]++;
+    seen_canonical += want.canonical;
+    seen_rewritten += want.number == 0 && !want.canonical;
+    examine(in, len, &want, below(3));
+}
+
+static void run_random(unsigned long thousands, uint64_t seed) {
+    uint8_t in[SCRATCH];
+    state = seed;
+    set_begin("random octets");
+    for (unsigned long n = thousands * 200; n > 0; n--) examine_one(in, random_octets(in));
+    set_end();
+    set_begin("random frames");
+    for (unsigned long n = thousands * 400; n > 0; n--) examine_one(in, random_frame(in));
+    set_end();
+    set_begin("canonical frames and damaged copies of them");
+    for (unsigned long n = thousands * 100; n > 0; n--) {
+        size_t len = random_frame(in);
+        struct answer good = model(in, len);
+        if (good.number == 0) {
+            len = good.length;
+            memcpy(in, good.reencoded, len);
+        }
+        examine_one(in, len);
+        for (int times = 3; times > 0; times--) examine_one(in, len = damage(in, len));
+    }
+    set_end();
+
+    int all = 1;
+    printf("  of these, by number:");
+    for (int n = 0; n < 10; n++) {
+        printf(" %d: %lu%s", n, seen[n], n < 9 ? "," : "");
+        all = all && seen[n] >= thousands;
+    }
+    printf("; canonical: %lu; accepted and not canonical: %lu\n", seen_canonical, seen_rewritten);
+    say(all && seen_canonical >= thousands && seen_rewritten >= thousands, "one random input in a thousand or more reaches each number of decoding, canonical or not");
+}
+
+/* Many nulls before a frame, long info, long tails, long leftovers. */
+static void run_long(void) {
+    static uint8_t in[LONGEST];
+    static const size_t lengths[] = {255, 256, 257, 4095, 4096, 4097, 65535, 65536, 65537, LONGEST};
+    uint8_t frame[64];
+    size_t len = from_hex(FRAME, frame);
+    set_begin("inputs of up to 1,048,576 octets");
+    for (size_t i = 0; i < sizeof lengths / sizeof *lengths; i++) {
+        struct answer want;
+        size_t all = lengths[i];
+        memset(in, 0, all); /* nulls, then the frame */
+        want = model(in, all);
+        examine_everywhere(in, all, &want);
+        memcpy(in + all - len, frame, len);
+        want = model(in, all);
+        examine_everywhere(in, all, &want);
+        memset(in, 0x5A, all); /* the frame with long info, then with a long tail */
+        want = model(in, all);
+        examine_everywhere(in, all, &want);
+        memcpy(in, frame, len);
+        want = model(in, all);
+        examine_everywhere(in, all, &want);
+        in[14] = 0x01;
+        want = model(in, all);
+        examine_everywhere(in, all, &want);
+        in[14] = 0x87;
+        want = model(in, all);
+        examine_everywhere(in, all, &want);
+    }
+    set_end();
+}
+
+int main(int argc, char **argv) {
+    unsigned long thousands = argc > 1 ? strtoul(argv[1], NULL, 10) : 500;
+    uint64_t seed = argc > 2 ? strtoull(argv[2], NULL, 0) : 0xA25;
+    examine_begin();
+    run_examples();
+    run_spans();
+    run_empty();
+    run_short();
+    run_contents();
+    run_long();
+    run_random(thousands, seed);
+    return failures() != 0;
+}

@@ -1,0 +1,184 @@
+#define _GNU_SOURCE
+#include "examine.h"
+
+#include <signal.h>
+#include <stdio.h>
+#include <stdlib.h>
+#include <string.h>
+#include <unistd.h>
+
+#include "ax25.h"
+#include "lent.h"
+
+enum check { NUMBER, CANONICAL, LENGTH, REENCODED, BEYOND, REFUSED, GUARDS, INPUT, AGREE, CHECKS };
+
+static const char *const names[CHECKS] = {
+    "ax25_decode gives the number",
+    "ax25_canonical gives 1 or 0",
+    "ax25_reencoded_length gives the length",
+    "ax25_reencode gives the number and the octets",
+    "octets beyond the written length stay",
+    "a refusal leaves the output alone",
+    "guard octets stay",
+    "the input stays",
+    "the four calls agree",
+};
+
+static const char *set = "start";
+static unsigned long inputs, looked[CHECKS], missed[CHECKS];
+static unsigned failed;
+
+static struct arena input_arena, output_arena;
+static const uint8_t *current;
+static size_t current_len;
+
+void say(int holds, const char *what) {
+    printf("%s: %s\n", holds ? "ok" : "FAILED", what);
+    failed += !holds;
+}
+
+unsigned failures(void) { return failed; }
+
+static void show_input(void) {
+    size_t shown = current_len < 400 ? current_len : 400;
+    printf("  input of %zu octets:", current_len);
+    for (size_t i = 0; i < shown; i++) printf(" %02X", current[i]);
+    printf(shown < current_len ? " ..\n" : "\n");
+}
+
+/* Not safe in a handler by the letter, but the program is at its end and nothing else of it runs. */
+static void on_stray(int signal_number) {
+    printf("FAILED: %s: a call stopped with signal %d: it touched memory that was not lent, or worse\n", set, signal_number);
+    show_input();
+    fflush(stdout);
+    _exit(1);
+}
+
+void examine_begin(void) {
+    setvbuf(stdout, NULL, _IOLBF, 0);
+    input_arena = arena_new(LONGEST + 65536);
+    output_arena = arena_new(LONGEST + 65536);
+    signal(SIGSEGV, on_stray);
+    signal(SIGBUS, on_stray);
+    signal(SIGILL, on_stray);
+    signal(SIGFPE, on_stray);
+}
+
+void set_begin(const char *name) {
+    set = name;
+    inputs = 0;
+    memset(looked, 0, sizeof looked);
+    memset(missed, 0, sizeof missed);
+}
+
+void set_end_brief(void) {
+    char line[200];
+    unsigned long all = 0, wrong = 0;
+    for (int c = 0; c < CHECKS; c++) {
+        all += looked[c];
+        wrong += missed[c];
+    }
+    snprintf(line, sizeof line, "%s: all four calls (%lu of %lu looks failed)", set, wrong, all);
+    say(all > 0 && wrong == 0, line);
+}
+
+void set_end(void) {
+    char line[200];
+    for (int c = 0; c < CHECKS; c++) {
+        if (missed[c]) snprintf(line, sizeof line, "%s: %s (%lu of %lu failed)", set, names[c], missed[c], looked[c]);
+        else snprintf(line, sizeof line, "%s: %s (%lu inputs, %lu looks)", set, names[c], inputs, looked[c]);
+        if (looked[c]) say(missed[c] == 0, line);
+    }
+    snprintf(line, sizeof line, "%s: there are inputs", set);
+    if (inputs == 0) say(0, line);
+}
+
+/* Counts a look. The first failures of a check in a set are shown. */
+static int look(enum check c, int holds, unsigned long want, unsigned long got) {
+    looked[c]++;
+    if (holds) return 1;
+    if (missed[c]++ < 3) {
+        printf("  %s: %s: wanted %lu, got %lu\n", set, names[c], want, got);
+        show_input();
+    }
+    return 0;
+}
+
+static void look_at_lent(const struct lent *in, const struct lent *out) {
+    look(GUARDS, guards_hold(in) && (!out || guards_hold(out)), 1, 0);
+    look(INPUT, in->len == 0 || memcmp(in->at, current, in->len) == 0, 1, 0);
+}
+
+static int filled_with(const uint8_t *octets, size_t len, uint8_t value) {
+    for (size_t i = 0; i < len; i++)
+        if (octets[i] != value) return 0;
+    return 1;
+}
+
+/* Re-encodes into a buffer of `room` octets. */
+static void reencode_with(const struct lent *in, const struct answer *want, unsigned place, size_t room) {
+    struct lent out = lend(&output_arena, (enum place)place, room);
+    uint8_t paint = fresh_paint();
+    memset(out.at, paint, room);
+    unsigned number = ax25_reencode(in->at, in->len, out.at, room);
+    unsigned due = want->number ? want->number : room < want->length ? AX25_NO_ROOM : AX25_ACCEPTED;
+    look(REENCODED, number == due, due, number);
+    look_at_lent(in, &out);
+    if (due != AX25_ACCEPTED) {
+        look(REFUSED, filled_with(out.at, room, paint), 1, 0);
+        return;
+    }
+    look(REENCODED, memcmp(out.at, want->reencoded, want->length) == 0, 1, 0);
+    if (room > want->length) look(BEYOND, filled_with(out.at + want->length, room - want->length, paint), 1, 0);
+}
+
+/* Each call's answer by the others': what is written is canonical and re-encodes as itself, and an input is canonical exactly
+   when it is what is written. */
+static void look_at_agreement(const struct lent *in, unsigned number, unsigned canonical, size_t length) {
+    look(AGREE, (number == 0) == (length != 0), number == 0, length);
+    look(AGREE, length <= in->len, in->len, length);
+    struct lent out = lend(&output_arena, HIGH, in->len);
+    if (ax25_reencode(in->at, in->len, out.at, in->len) != 0) {
+        look(AGREE, number != 0 && canonical == 0, 0, canonical);
+        return;
+    }
+    look(AGREE, number == 0, 0, number);
+    unsigned same = length == in->len && memcmp(out.at, in->at, length) == 0;
+    look(AGREE, canonical == same, same, canonical);
+    look(AGREE, ax25_decode(out.at, length) == 0, 0, 1);
+    look(AGREE, ax25_canonical(out.at, length) == 1, 1, 0);
+    look(AGREE, ax25_reencoded_length(out.at, length) == length, length, ax25_reencoded_length(out.at, length));
+}
+
+void examine(const uint8_t *octets, size_t len, const struct answer *want, unsigned place) {
+    struct lent in = lend(&input_arena, (enum place)place, len);
+    inputs++;
+    current = octets;
+    current_len = len;
+    if (len) memcpy(in.at, octets, len);
+
+    unsigned number = ax25_decode(in.at, len);
+    look(NUMBER, number == want->number, want->number, number);
+    look_at_lent(&in, NULL);
+    unsigned canonical = ax25_canonical(in.at, len);
+    look(CANONICAL, canonical == want->canonical, want->canonical, canonical);
+    look_at_lent(&in, NULL);
+    size_t length = ax25_reencoded_length(in.at, len);
+    look(LENGTH, length == want->length, want->length, length);
+    look_at_lent(&in, NULL);
+
+    size_t exact = want->length;
+    reencode_with(&in, want, place, 0);
+    reencode_with(&in, want, place, exact);
+    reencode_with(&in, want, place, exact + 1);
+    reencode_with(&in, want, place, exact + 77);
+    if (exact) {
+        reencode_with(&in, want, place, exact - 1);
+        reencode_with(&in, want, place, exact / 2);
+    }
+    look_at_agreement(&in, number, canonical, length);
+}
+
+void examine_everywhere(const uint8_t *octets, size_t len, const struct answer *want) {
+    for (unsigned place = 0; place < PLACES; place++) examine(octets, len, want, place);
+}

@@ -1,0 +1,26 @@
+/* All that the four calls owe on one input, looked at. Inputs come in sets; each set prints one line a check. */
+#ifndef EXAMINE_H
+#define EXAMINE_H
+
+#include "model.h"
+
+/* Ready the buffers, and have a stray access reported as a failure. */
+void examine_begin(void);
+
+void set_begin(const char *name);
+void set_end(void);
+void set_end_brief(void); /* one line for all checks */
+
+/* Every call, in one of the places that a buffer can have, held to the answer. */
+void examine(const uint8_t *in, size_t len, const struct answer *want, unsigned place);
+
+/* The same in every place. */
+void examine_everywhere(const uint8_t *in, size_t len, const struct answer *want);
+
+/* One check by itself: a line `ok: ..` or `FAILED: ..`. */
+void say(int holds, const char *what);
+
+/* How many failed so far. */
+unsigned failures(void);
+
+#endif

@@ -1,0 +1,168 @@
+#include "model.h"
+
+#include <string.h>
+
+enum kind { I, RR, RNR, REJ, SABM, DISC, DM, UA, FRMR, UI };
+enum mark { COMMAND, RESPONSE, ABSENT };
+
+struct station {
+    uint8_t callsign[6];
+    unsigned ssid, mark;
+};
+
+struct fields {
+    struct station destination, source, repeaters[8];
+    size_t repeater_count;
+    enum mark mark;
+    enum kind kind;
+    unsigned receive, send, poll;           /* N(R), N(S), P/F */
+    unsigned z, y, x, w;                    /* FRMR's flags */
+    unsigned rejected_receive, rejected_send, rejected_response, rejected_control;
+    unsigned pid;                           /* as it is written */
+    const uint8_t *info;
+    size_t info_len;
+};
+
+static unsigned bit(unsigned octet, int place) { return octet >> place & 1; }
+
+static struct station read_station(const uint8_t *group) {
+    struct station s;
+    for (int i = 0; i < 6; i++) s.callsign[i] = (uint8_t)(group[i] >> 1);
+    s.ssid = group[6] >> 1 & 15;
+    s.mark = bit(group[6], 7);
+    return s;
+}
+
+/* Rule 7, and what writing makes of it: the layer 3 class is one case. */
+static unsigned read_pid(unsigned octet) {
+    unsigned class_bits = octet >> 4 & 3;
+    return class_bits == 1 || class_bits == 2 ? 0x10 : octet;
+}
+
+static unsigned read_frmr(struct fields *f, const uint8_t *content, size_t len) {
+    if (len != 4) return 8;
+    f->z = bit(content[1], 3);
+    f->y = bit(content[1], 2);
+    f->x = bit(content[1], 1);
+    f->w = bit(content[1], 0);
+    f->rejected_receive = content[2] >> 5;
+    f->rejected_response = bit(content[2], 4);
+    f->rejected_send = content[2] >> 1 & 7;
+    f->rejected_control = content[3];
+    return 0;
+}
+
+static unsigned read_info(struct fields *f, const uint8_t *content, size_t len) {
+    if (len < 2) return 5;
+    f->pid = read_pid(content[1]);
+    f->info = content + 2;
+    f->info_len = len - 2;
+    return 0;
+}
+
+/* Rules 5 and 6. The content is not empty. */
+static unsigned read_content(struct fields *f, const uint8_t *content, size_t len) {
+    unsigned control = content[0];
+    f->poll = bit(control, 4);
+    f->receive = control >> 5;
+    f->send = control >> 1 & 7;
+    if (bit(control, 0) == 0) {
+        f->kind = I;
+        return read_info(f, content, len);
+    }
+    if (bit(control, 1) == 0) {
+        switch (control & 0x0F) {
+        case 0x1: f->kind = RR; return 0;
+        case 0x5: f->kind = RNR; return 0;
+        case 0x9: f->kind = REJ; return 0;
+        default: return 6;
+        }
+    }
+    switch (control & ~0x10u) {
+    case 0x2F: f->kind = SABM; return 0;
+    case 0x43: f->kind = DISC; return 0;
+    case 0x0F: f->kind = DM; return 0;
+    case 0x63: f->kind = UA; return 0;
+    case 0x87: f->kind = FRMR; return read_frmr(f, content, len);
+    case 0x03: f->kind = UI; return read_info(f, content, len);
+    default: return 7;
+    }
+}
+
+static unsigned read_frame(struct fields *f, const uint8_t *in, size_t len) {
+    size_t start = 0, end = 0;
+    while (start < len && in[start] == 0) start++;
+    if (start == len) return 1;
+    while (end < len && bit(in[end], 0) == 0) end++;
+    if (end == len) return 2;
+    size_t span = end - start + 1;
+    if (span < 14) return 3;
+    if (end + 1 == len) return 4;
+    size_t count = (span - 14) / 7;
+    if (count >= 9) return 9;
+
+    f->destination = read_station(in + start);
+    f->source = read_station(in + start + 7);
+    f->repeater_count = count;
+    for (size_t i = 0; i < count; i++) f->repeaters[i] = read_station(in + start + 14 + 7 * i);
+    if (f->destination.mark == f->source.mark) f->mark = ABSENT;
+    else f->mark = f->destination.mark ? COMMAND : RESPONSE;
+    return read_content(f, in + end + 1, len - end - 1);
+}
+
+static uint8_t written[LONGEST];
+static size_t written_len;
+
+static void put(unsigned octet) { written[written_len++] = (uint8_t)octet; }
+
+static void write_station(const struct station *s, unsigned mark, int last) {
+    for (int i = 0; i < 6; i++) put((unsigned)s->callsign[i] << 1);
+    put(mark << 7 | 0x60 | s->ssid << 1 | (last ? 1 : 0));
+}
+
+static void write_content(const struct fields *f) {
+    unsigned poll = f->poll << 4;
+    switch (f->kind) {
+    case I: put(f->receive << 5 | poll | f->send << 1); break;
+    case RR: put(f->receive << 5 | poll | 0x1); break;
+    case RNR: put(f->receive << 5 | poll | 0x5); break;
+    case REJ: put(f->receive << 5 | poll | 0x9); break;
+    case SABM: put(0x2F | poll); break;
+    case DISC: put(0x43 | poll); break;
+    case DM: put(0x0F | poll); break;
+    case UA: put(0x63 | poll); break;
+    case UI: put(0x03 | poll); break;
+    case FRMR:
+        put(0x87 | poll);
+        put(f->z << 3 | f->y << 2 | f->x << 1 | f->w);
+        put(f->rejected_receive << 5 | f->rejected_response << 4 | f->rejected_send << 1);
+        put(f->rejected_control);
+        break;
+    }
+    if (f->kind == I || f->kind == UI) {
+        put(f->pid);
+        memcpy(written + written_len, f->info, f->info_len);
+        written_len += f->info_len;
+    }
+}
+
+static void write_frame(const struct fields *f) {
+    written_len = 0;
+    write_station(&f->destination, f->mark != RESPONSE, 0);
+    write_station(&f->source, f->mark == RESPONSE, f->repeater_count == 0);
+    for (size_t i = 0; i < f->repeater_count; i++)
+        write_station(&f->repeaters[i], f->repeaters[i].mark, i + 1 == f->repeater_count);
+    write_content(f);
+}
+
+struct answer model(const uint8_t *in, size_t len) {
+    struct fields f;
+    struct answer a = {0, 0, 0, written};
+    memset(&f, 0, sizeof f);
+    a.number = read_frame(&f, in, len);
+    if (a.number != 0) return a;
+    write_frame(&f);
+    a.length = written_len;
+    a.canonical = written_len == len && memcmp(written, in, len) == 0;
+    return a;
+}

@@ -1,0 +1,97 @@
+/* The stack that each call really uses: the call runs on a painted stack of its own, and the lowest octet that lost its paint
+   tells. Painted twice, since an octet may be written with what was there. What is reserved and never written is not seen;
+   tests/stackdepth.py, which reads the code, sees that. Linked statically, so that no loader looks up memcpy on this stack. */
+#include <stdio.h>
+#include <string.h>
+
+#include "ax25.h"
+#include "examine.h"
+
+/* Of the stack's octets the upper ones are painted: twice what the header may state, and a call that uses all of them has failed. */
+#define SIZE 16384
+#define PAINTED (2 * AX25_STACK)
+
+static _Alignas(16) uint8_t stack[SIZE];
+
+/* Calls `call` with four arguments on the stack that ends at `top`, which is aligned to 16. */
+uint64_t on_stack(uint8_t *top, uint64_t call, uint64_t a, uint64_t b, uint64_t c, uint64_t d);
+__asm__(".text\n"
+        ".type on_stack, @function\n"
+        "on_stack:\n"
+        "    pushq %rbp\n"
+        "    movq %rsp, %rbp\n"
+        "    movq %rdi, %rsp\n"
+        "    movq %rsi, %rax\n"
+        "    movq %rdx, %rdi\n"
+        "    movq %rcx, %rsi\n"
+        "    movq %r8, %rdx\n"
+        "    movq %r9, %rcx\n"
+        "    callq *%rax\n"
+        "    movq %rbp, %rsp\n"
+        "    popq %rbp\n"
+        "    retq\n"
+        ".size on_stack, . - on_stack\n");
+
+enum call { DECODE, CANONICAL, LENGTH, REENCODE, CALLS };
+static const char *const names[CALLS] = {"ax25_decode", "ax25_canonical", "ax25_reencoded_length", "ax25_reencode"};
+static size_t deepest[CALLS];
+
+static uint8_t in[1024], out[1024];
+static size_t in_len;
+
+static uint64_t address_of(enum call call) {
+    switch (call) {
+    case DECODE: return (uint64_t)(uintptr_t)ax25_decode;
+    case CANONICAL: return (uint64_t)(uintptr_t)ax25_canonical;
+    case LENGTH: return (uint64_t)(uintptr_t)ax25_reencoded_length;
+    default: return (uint64_t)(uintptr_t)ax25_reencode;
+    }
+}
+
+static size_t used_by(enum call call, size_t room, uint8_t paint) {
+    memset(stack + SIZE - PAINTED, paint, PAINTED);
+    on_stack(stack + SIZE, address_of(call), (uint64_t)(uintptr_t)in, in_len, (uint64_t)(uintptr_t)out, room);
+    size_t low = SIZE - PAINTED;
+    while (low < SIZE && stack[low] == paint) low++;
+    return SIZE - low;
+}
+
+static void measure(size_t room) {
+    for (int call = 0; call < CALLS; call++) {
+        for (int turn = 0; turn < 2; turn++) {
+            size_t used = used_by((enum call)call, room, turn ? 0x5A : 0xA5);
+            if (used > deepest[call]) deepest[call] = used;
+        }
+    }
+}
+
+/* Nulls, an address field with so many repeaters, a control octet and what follows it. */
+static void make(size_t nulls, size_t repeaters, unsigned control, size_t content) {
+    size_t groups = repeaters + 2;
+    memset(in, 0, nulls);
+    for (size_t i = 0; i < 7 * groups; i++) in[nulls + i] = i % 7 == 6 ? 0x60 : 0x82;
+    in[nulls + 6] |= 0x80;
+    in[nulls + 7 * groups - 1] |= 1;
+    in_len = nulls + 7 * groups + content;
+    memset(in + nulls + 7 * groups, 0xF0, content);
+    if (content) in[nulls + 7 * groups] = (uint8_t)control;
+}
+
+int main(void) {
+    static const size_t contents[] = {0, 1, 2, 3, 4, 5, 300};
+    examine_begin();
+    in_len = 0;
+    measure(0);
+    for (size_t repeaters = 0; repeaters <= 9; repeaters += repeaters == 1 ? 7 : 1)
+        for (unsigned control = 0; control < 256; control++)
+            for (size_t i = 0; i < sizeof contents / sizeof *contents; i++) {
+                make(control % 3, repeaters, control, contents[i]);
+                measure(i % 2 ? sizeof out : 15);
+            }
+    for (int call = 0; call < CALLS; call++) {
+        char line[120];
+        snprintf(line, sizeof line, "%s was seen to use %zu octets of stack, of %d that the header states", names[call], deepest[call], AX25_STACK);
+        say(deepest[call] >= 8 && deepest[call] <= AX25_STACK, line);
+    }
+    return failures() != 0;
+}
