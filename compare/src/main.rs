@@ -64,7 +64,7 @@ fn refuse(message: &str) -> ! {
 
 fn options() -> Options {
     let mut options = Options { words: Vec::new(), json: None, seed: 25, only: None, format: None };
-    let mut args = std::env::args().skip(1);
+    let mut args = std::env::args_os().skip(1).map(word);
     while let Some(arg) = args.next() {
         let mut value = || args.next().unwrap_or_else(|| refuse(&format!("{} wants a value", arg)));
         match arg.as_str() {
@@ -76,6 +76,10 @@ fn options() -> Options {
         }
     }
     options
+}
+
+fn word(argument: std::ffi::OsString) -> String {
+    argument.into_string().unwrap_or_else(|octets| refuse(&format!("{:?} is no UTF-8 (a text of any octets: text-hex)", octets)))
 }
 
 fn number(text: &str) -> u64 {
