@@ -211,7 +211,9 @@ def pid_fields(octet):
     """Of a PID's octet, or '-', or the word for the layer 3 class: what it is, and which octet of the class."""
     if octet == DIREWOLF_LAYER_3:
         return {'pid': '10', 'layer3_octet': None}
-    if octet in ('-', None) or not is_layer_3(int(octet, 16)):
+    if octet is None:
+        return {'pid': None, 'layer3_octet': None}
+    if octet == '-' or not is_layer_3(int(octet, 16)):
         return {'pid': octet, 'layer3_octet': '-'}
     return {'pid': '10', 'layer3_octet': octet}
 
@@ -257,6 +259,7 @@ def tshark_elements(packet):
 
 
 def tshark_group(element):
+    """Its text is the address; it has no words for a mark and the reserved bits, but shows the group's octets."""
     seventh = int(element['value'], 16) & 0xFF
     return Group(element['showname'].partition(': ')[2], seventh >> 7, seventh >> 5 & 3, seventh & 1)
 
@@ -336,17 +339,11 @@ def readings_by_direwolf(text, frames):
     return [understood(by_direwolf, report.partition('\n-------------------\n')[0]) for report in reports[1:]]
 
 
-# What a program reports otherwise, or not, for a reason that is known. A frame that meets one of WHOLE is not compared at all. One that
-# meets another is not compared in the fields named, where the program says nothing or something else; where it agrees, it is.
+# What a program does not report, or reports otherwise, for a reason that is known. A frame that meets one of WHOLE is not compared at
+# all. One that meets another is not compared in the fields named: by a reason of SILENCE where the program, or the dumper, says nothing
+# there, by one of ANOTHER where the program says something else. Where it agrees, it is compared.
 
-def odd_character(lowest):
-    return lambda frame, field: any(not lowest <= character < 0x7F for character in frame.characters(field))
-
-
-def of_kind(*kinds):
-    return lambda frame, field: frame.kind() in kinds
-
-
+SILENCE, ANOTHER = 'silence', 'another'
 ADDRESSES = ('destination', 'source', 'repeaters')
 WHOLE = [
     (lambda frame: frame.nulls,
@@ -354,40 +351,50 @@ WHOLE = [
     (lambda frame: frame.left_over,
      'octets left over in the address field are ignored by the port alone (A2)'),
 ]
+
+
+def of_kind(*kinds):
+    return lambda frame, field: frame.kind() in kinds
+
+
+def odd_character(lowest):
+    return lambda frame, field: any(not lowest <= character < 0x7F for character in frame.characters(field))
+
+
 BOTH = [
-    (('accepted',), lambda frame, field: frame.content and frame.kind() is None,
+    (ANOTHER, ['accepted'], lambda frame, field: frame.content and frame.kind() is None,
      'a kind that the program knows and the port does not (A8), or one of HDLC alone'),
-    (('accepted',), lambda frame, field: frame.kind() == 'FRMR' and len(frame.content) != 4,
+    (ANOTHER, ['accepted'], lambda frame, field: frame.kind() == 'FRMR' and len(frame.content) != 4,
      "FRMR's length: the program does not look at it"),
-    (('frmr',), of_kind('FRMR'),
+    (SILENCE, ['frmr'], of_kind('FRMR'),
      "FRMR's three octets: neither the dumper nor the program prints them (A9, A10)"),
-    (('canonical',), of_kind('FRMR'),
-     "FRMR's bits without a name: the program does not print them (A10)"),
-    (('layer3_octet',), lambda frame, field: frame.layer_3(),
+    (SILENCE, ['canonical'], of_kind('FRMR'),
+     "whether FRMR's bits without a name are zero: the program does not say (A10)"),
+    (SILENCE, ['layer3_octet'], lambda frame, field: frame.layer_3(),
      'which octet of the layer 3 class it is: the dumper prints 10 for each, and decode_aprs none (A6); the class is compared'),
 ]
 TSHARK = BOTH + [
-    (('accepted',), lambda frame, field: len(frame.groups) > 10,
+    (ANOTHER, ['accepted'], lambda frame, field: len(frame.groups) > 10,
      'nine repeaters: tshark shows eight and passes over the rest (B1)'),
-    (('pid', 'info_length', 'canonical'), lambda frame, field: frame.kind() == 'UI' and frame.p_f(),
+    (SILENCE, ['pid', 'layer3_octet', 'info_length', 'canonical'], lambda frame, field: frame.kind() == 'UI' and frame.p_f(),
      'UI with P/F set: tshark looks for no PID'),
-    (('mark',), of_kind('I'),
-     'I as Response: tshark takes every I frame for a Command (A15)'),
-    (('mark',), lambda frame, field: frame.kind() in ('RR', 'RNR', 'REJ') and not frame.p_f(),
+    (SILENCE, ['mark'], of_kind('I'),
+     'I: tshark does not say whether Command or Response, since an I frame is a Command (A15)'),
+    (SILENCE, ['mark'], lambda frame, field: frame.kind() in ('RR', 'RNR', 'REJ') and not frame.p_f(),
      'S without P/F: tshark does not say whether Command or Response'),
-    (('kind',), lambda frame, field: (frame.kind(), frame.is_response()) in (('DISC', True), ('DM', False)),
-     "DISC as Response and DM as Command: tshark gives HDLC's names for these, RD and SARM (A15)"),
-    (ADDRESSES, odd_character(0x21),
+    (ANOTHER, ['kind'], lambda frame, field: (frame.kind(), frame.is_response()) in (('DISC', True), ('DM', False)),
+     "DISC as Response and DM as Command (A15): tshark gives HDLC's names for these, RD and SARM"),
+    (ANOTHER, ADDRESSES, odd_character(0x21),
      'tshark ends a callsign at a space and prints a dot for a character that is not printable (A3)'),
 ]
 DIREWOLF = BOTH + [
-    (('accepted',), lambda frame, field: frame.kind() in ('I', 'UI') and not frame.has_pid(),
+    (ANOTHER, ['accepted'], lambda frame, field: frame.kind() in ('I', 'UI') and not frame.has_pid(),
      'I and UI without a PID: decode_aprs reads a PID of 00'),
-    (('control',), lambda frame, field: True,
+    (SILENCE, ['control'], lambda frame, field: True,
      'the control octet: decode_aprs gives its parts, which are compared one by one'),
-    (('canonical',), lambda frame, field: frame.layer_3(),
+    (SILENCE, ['canonical'], lambda frame, field: frame.layer_3(),
      'whether a layer 3 PID is 10: decode_aprs does not say'),
-    (ADDRESSES, odd_character(0x20),
+    (ANOTHER, ADDRESSES, odd_character(0x20),
      'decode_aprs prints a dot for a character that is not printable (A3)'),
 ]
 PROGRAMS = {'tshark': (readings_by_tshark, TSHARK), 'decode_aprs': (readings_by_direwolf, DIREWOLF)}
@@ -446,7 +453,9 @@ class Comparison:
         if mine == theirs and mine is not None:
             self.agreed[field] += 1
             return None
-        reason = next((reason for fields, meets, reason in self.excuses if field in fields and meets(layout, field)), None)
+        case = SILENCE if None in (mine, theirs) else ANOTHER
+        reasons = (reason for of, fields, meets, reason in self.excuses if of == case and field in fields and meets(layout, field))
+        reason = next(reasons, None)
         if reason:
             self.left_out[reason] += 1
         else:
@@ -461,13 +470,13 @@ class Comparison:
             if more > 0:
                 count.fail(f'{field}: and so in {more} frames more')
             if self.agreed[field] and not shown:
-                count.ok(f'{self.program}: {field} agrees in {self.agreed[field]} frames')
+                count.ok(f'{self.program}, {field}: {self.agreed[field]} frames agree')
         print(f'{self.program}: {self.frames} frames and {sum(self.agreed.values())} of their fields compared; not compared: '
               f'{sum(self.whole.values())} frames, and {sum(self.left_out.values())} fields of others')
         for _, reason in WHOLE:
-            print(f'not compared: {self.whole[reason]} frames: {reason}')
-        for _, _, reason in self.excuses:
-            print(f'not compared: {self.left_out[reason]} fields of {self.frames_left_out[reason]} frames: {reason}')
+            print(f'not compared (frames: {self.whole[reason]}): {reason}')
+        for _, _, _, reason in self.excuses:
+            print(f'not compared (fields: {self.left_out[reason]}, frames: {self.frames_left_out[reason]}): {reason}')
 
 
 def compare(folder, program):
