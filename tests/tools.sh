@@ -47,21 +47,21 @@ tools_can_fetch() { # PACKAGES
     mkdir -p "$tools_dir/apt" && true >"$tools_dir/apt.log"
 }
 
-tools_unpack() { # DIR: every package of the folder DIR/debs into DIR/root
+tools_unpack() { # DIR: every package of the folder DIR/debs into DIR/tree
     for deb in "$1"/debs/*.deb; do
-        dpkg-deb -x "$deb" "$1/root" >>"$tools_dir/apt.log" 2>&1 || return 1
+        dpkg-deb -x "$deb" "$1/tree" >>"$tools_dir/apt.log" 2>&1 || return 1
     done
     rm -rf "$1/debs" "$tools_dir/apt/cache/archives"
 }
 
-# Unpacks packages, and all that they rest on and the host lacks, into tools/NAME/root. A compiler looks for its own parts, headers and
+# Unpacks packages, and all that they rest on and the host lacks, into tools/NAME/tree. A compiler looks for its own parts, headers and
 # libraries from where it stands, so that the host's are of no use to it: of those only the run-time libraries are left out,
 # which any host with apt-get has.
 tools_unpacked() { # NAME PACKAGE..
     into=$tools_dir/$1
     shift
     rm -rf "$into.part" "$tools_dir/apt/cache/archives"
-    mkdir -p "$into.part/debs" "$into.part/root" || return 1
+    mkdir -p "$into.part/debs" "$into.part/tree" || return 1
     case $into in
     *-x86)
         tools_status=$tools_dir/apt/nothing
@@ -97,7 +97,7 @@ tools_wrap() { # PACKAGES PROGRAM [WORDS, in which $at is the packages' folder]
     tools_folder || return 1
     cat >"$tools_dir/bin/$2" <<WRAPPER
 #!/bin/sh
-at=\$(dirname -- "\$(readlink -f -- "\$0")")/../$1/root
+at=\$(dirname -- "\$(readlink -f -- "\$0")")/../$1/tree
 lib=\$at/usr/lib/$tools_machine-linux-gnu
 LD_LIBRARY_PATH=\$lib:\$lib/wireshark:\$at/lib/$tools_machine-linux-gnu
 WIRESHARK_DATA_DIR=\$at/usr/share/wireshark
@@ -110,7 +110,7 @@ WRAPPER
 # Prints the path of a program: the host's, or that of the unpacked packages.
 tools_path() { # PROGRAM PACKAGES
     if tools_has "$1"; then command -v "$1"
-    elif [ -x "$tools_dir/$2/root/usr/bin/$1" ] && [ -x "$tools_dir/bin/$1" ]; then echo "$tools_dir/bin/$1"
+    elif [ -x "$tools_dir/$2/tree/usr/bin/$1" ] && [ -x "$tools_dir/bin/$1" ]; then echo "$tools_dir/bin/$1"
     else return 1
     fi
 }
@@ -180,7 +180,7 @@ tools_compiler() { # c|c++ PACKAGES PROGRAM..
 
 # Writes the wrapper of an unpacked compiler: the packages' own assembler, headers and C library, wherever they are unpacked.
 tools_wrap_compiler() { # PACKAGES PROGRAM
-    [ -x "$tools_dir/$1/root/usr/bin/$2" ] || return 0
+    [ -x "$tools_dir/$1/tree/usr/bin/$2" ] || return 0
     case $2 in
     x86_64-*) tools_wrap "$1" "$2" '-B"$at/usr/bin/x86_64-linux-gnu-"' ;;
     *) tools_wrap "$1" "$2" '-B"$at/usr/bin/" -B"$lib/" -idirafter "$at/usr/include/x86_64-linux-gnu" -idirafter "$at/usr/include" -L"$lib"' ;;
@@ -226,7 +226,7 @@ tools_fetch_rust() {
     tools_say "unpacking rustc-web and its x86-64 library into $tools_dir/rust (about 400 MB)"
     into=$tools_dir/rust.part
     rm -rf "$into" "$tools_dir/rust" "$tools_dir/apt/cache/archives"
-    mkdir -p "$into/debs" "$into/root"
+    mkdir -p "$into/debs" "$into/tree"
     tools_apt update >>"$tools_dir/apt.log" 2>&1
     (
         cd "$into/debs" || exit 1
@@ -275,7 +275,7 @@ tools_need_programs() { # PACKAGE VARIABLE=PROGRAM..
             fetched=yes
             tools_fetch "$package" "$package" || return 1
             for other in "$@"; do
-                [ ! -x "$tools_dir/$package/root/usr/bin/${other#*=}" ] || tools_wrap "$package" "${other#*=}"
+                [ ! -x "$tools_dir/$package/tree/usr/bin/${other#*=}" ] || tools_wrap "$package" "${other#*=}"
             done
         fi
         found=$(tools_path "$program" "$package") || { tools_say "the package $package has no $program here"; return 1; }

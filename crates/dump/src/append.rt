@@ -11,7 +11,7 @@ ghost use lib.Dec.{eqb};
 ghost use lib.ListN.{length};
 ghost use Rattle.dump.specs.Text.{leading, decimal, textIn, characters, addressText, entryText, routeText, Put};
 
-pub fn put(out: &mut [u8], at: usize, part: &[u8]) -> usize
+pub(crate) fn put(out: &mut [u8], at: usize, part: &[u8]) -> usize
     requires { ⌜ at + length (now part) ≤ length (now out) ⌝ }
     ensures { λ r. ⌜ Put (now (out .entry)) (now (out .exit)) at r (now (part .entry)) ⌝ }
 {
@@ -19,7 +19,7 @@ pub fn put(out: &mut [u8], at: usize, part: &[u8]) -> usize
     at + part.len()
 }
 
-pub fn put_word(out: &mut [u8], at: usize, word: Word) -> usize
+pub(crate) fn put_word(out: &mut [u8], at: usize, word: Word) -> usize
     requires { ⌜ (word .length ≤ 8) × (at + length (textIn word) ≤ length (now out)) ⌝ }
     ensures { λ r. ⌜ Put (now (out .entry)) (now (out .exit)) at r (textIn word) ⌝ }
 {
@@ -50,7 +50,7 @@ fn digit(n: usize) -> u8
     b'0' + (n % 10) as u8
 }
 
-pub fn put_decimal(out: &mut [u8], at: usize, n: usize) -> usize
+pub(crate) fn put_decimal(out: &mut [u8], at: usize, n: usize) -> usize
     requires { ⌜ at + length (decimal n) ≤ length (now out) ⌝ }
     ensures { λ r. ⌜ Put (now (out .entry)) (now (out .exit)) at r (decimal n) ⌝ }
 {
@@ -73,7 +73,7 @@ fn put_characters(out: &mut [u8], at: usize, text: &[u8]) -> usize
     next
 }
 
-pub fn put_address(out: &mut [u8], at: usize, address: Address) -> usize
+pub(crate) fn put_address(out: &mut [u8], at: usize, address: Address) -> usize
     requires { ⌜ at + length (addressText address) ≤ length (now out) ⌝ }
     ensures { λ r. ⌜ Put (now (out .entry)) (now (out .exit)) at r (addressText address) ⌝ }
 {
@@ -104,7 +104,7 @@ fn put_entry(out: &mut [u8], at: usize, entry: RouteEntry) -> usize
     put_if(out, next, entry.has_repeated, b"*")
 }
 
-pub fn put_route(out: &mut [u8], at: usize, route: [RouteEntry; 8], count: usize) -> usize
+pub(crate) fn put_route(out: &mut [u8], at: usize, route: [RouteEntry; 8], count: usize) -> usize
     requires { ⌜ (count ≤ 8) × (at + length (routeText route count) ≤ length (now out)) ⌝ }
     ensures { λ r. ⌜ Put (now (out .entry)) (now (out .exit)) at r (routeText route count) ⌝ }
 {

@@ -18,7 +18,7 @@ ghost use Rattle.dump.specs.Ascii.{ascii};
 ghost use Rattle.dump.specs.Text.{decimal, addressText, routeText, textIn, Put};
 ghost use Rattle.dump.specs.Dump.{stationLines, contentLines};
 
-pub fn put_word_line(out: &mut [u8], at: usize, key: &[u8], word: Word) -> usize
+pub(crate) fn put_word_line(out: &mut [u8], at: usize, key: &[u8], word: Word) -> usize
     requires { ⌜ (word .length ≤ 8) × (at + length (now key ++ (textIn word ++ ascii "\n")) ≤ length (now out)) ⌝ }
     ensures { λ r. ⌜ Put (now (out .entry)) (now (out .exit)) at r (now (key .entry) ++ (textIn word ++ ascii "\n")) ⌝ }
 {
@@ -27,7 +27,7 @@ pub fn put_word_line(out: &mut [u8], at: usize, key: &[u8], word: Word) -> usize
     put(out, next, b"\n")
 }
 
-pub fn put_number_line(out: &mut [u8], at: usize, key: &[u8], n: usize) -> usize
+pub(crate) fn put_number_line(out: &mut [u8], at: usize, key: &[u8], n: usize) -> usize
     requires { ⌜ at + length (now key ++ (decimal n ++ ascii "\n")) ≤ length (now out) ⌝ }
     ensures { λ r. ⌜ Put (now (out .entry)) (now (out .exit)) at r (now (key .entry) ++ (decimal n ++ ascii "\n")) ⌝ }
 {
@@ -60,7 +60,7 @@ fn put_route_line(
     put(out, next, b"\n")
 }
 
-pub fn put_station_lines(out: &mut [u8], at: usize, frame: Ax25Frame) -> usize
+pub(crate) fn put_station_lines(out: &mut [u8], at: usize, frame: Ax25Frame) -> usize
     requires { ⌜ (frame .«route_count» ≤ 8) × (at + length (stationLines frame) ≤ length (now out)) ⌝ }
     ensures { λ r. ⌜ Put (now (out .entry)) (now (out .exit)) at r (stationLines frame) ⌝ }
 {
@@ -74,7 +74,7 @@ pub fn put_station_lines(out: &mut [u8], at: usize, frame: Ax25Frame) -> usize
     put_word_line(out, next, b"mark=", words::mark(mark))
 }
 
-pub fn put_content_lines(out: &mut [u8], at: usize, content: FrameContent) -> usize
+pub(crate) fn put_content_lines(out: &mut [u8], at: usize, content: FrameContent) -> usize
     requires { ⌜ at + length (contentLines content) ≤ length (now out) ⌝ }
     ensures { λ r. ⌜ Put (now (out .entry)) (now (out .exit)) at r (contentLines content) ⌝ }
 {

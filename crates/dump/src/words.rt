@@ -21,7 +21,7 @@ fn hex_digit(d: u8) -> u8
     if d < 10 { b'0' + d } else { b'a' - 10 + d }
 }
 
-pub fn hex(b: u8) -> Word
+pub(crate) fn hex(b: u8) -> Word
     ensures { λ r. ⌜ r ≡ wordOf (hex b) ⌝ }
 {
     let high = hex_digit(b / 16);
@@ -33,7 +33,7 @@ pub fn hex(b: u8) -> Word
 }
 
 // An address character: a letter or digit as itself, any other as % and two hex digits.
-pub fn character(c: u8) -> Word
+pub(crate) fn character(c: u8) -> Word
     ensures { λ r. ⌜ r ≡ wordOf (character c) ⌝ }
 {
     if address::text::is_alphanumeric(c) {
@@ -50,7 +50,7 @@ pub fn character(c: u8) -> Word
     }
 }
 
-pub fn mark(mark: Mark) -> Word
+pub(crate) fn mark(mark: Mark) -> Word
     ensures { λ r. ⌜ r ≡ wordOf (markText mark) ⌝ }
 {
     match mark {
@@ -69,7 +69,7 @@ pub fn mark(mark: Mark) -> Word
     }
 }
 
-pub fn kind(content: FrameContent) -> Word
+pub(crate) fn kind(content: FrameContent) -> Word
     ensures { λ r. ⌜ r ≡ wordOf (kindText content) ⌝ }
 {
     match content {
@@ -121,7 +121,7 @@ pub fn kind(content: FrameContent) -> Word
 }
 
 // The control octet as re-encoded.
-pub fn control(content: FrameContent) -> Word
+pub(crate) fn control(content: FrameContent) -> Word
     ensures { λ r. ⌜ r ≡ wordOf (controlText content) ⌝ }
 {
     let front = content.front();
@@ -129,7 +129,7 @@ pub fn control(content: FrameContent) -> Word
 }
 
 // The PID as re-encoded; a hyphen where there is none.
-pub fn pid(content: FrameContent) -> Word
+pub(crate) fn pid(content: FrameContent) -> Word
     ensures { λ r. ⌜ r ≡ wordOf (pidText content) ⌝ }
 {
     if content.has_info() {
@@ -142,7 +142,7 @@ pub fn pid(content: FrameContent) -> Word
     }
 }
 
-pub fn yes_no(yes: bool) -> Word
+pub(crate) fn yes_no(yes: bool) -> Word
     ensures { λ r. ⌜ r ≡ wordOf (yesNo yes) ⌝ }
 {
     if yes {

@@ -100,7 +100,7 @@ fn refusal_rooms() {
     into(b"", &mut full);
 }
 
-pub fn all() {
+pub(crate) fn all() {
     long();
     far();
     rooms(b"\x8E\x82\xAA\x8E\x8A\x40\xE0\x84\x9E\xB0\x62\x64\x40\x67\x03\xF0OK");

@@ -15,7 +15,7 @@ ghost use lib.ListN.{length};
 ghost use Rattle.octets.specs.Splice.{splice};
 ghost use Rattle.probe.specs.Flat.{addressFlat, entryFlat, routeFlat, countFlat, markFlat, responseFlat, pidCase, pidOctet, bareFlat, withPidFlat, rejectFlat, contentFlat, restFlat, flatOf, detailsOf, placesOf};
 
-pub fn put_address(out: &mut [u8], at: usize, address: Address)
+pub(crate) fn put_address(out: &mut [u8], at: usize, address: Address)
     ensures { λ r. ⌜ now (out .exit) ≡ splice (now (out .entry)) at (addressFlat address) ⌝ }
 {
     let c = address.callsign;
@@ -201,7 +201,7 @@ fn put_rest(out: &mut [u8], frame: Ax25Frame)
     lent::put(out, 80, &octets);
 }
 
-pub fn put_frame(out: &mut [u8], frame: Ax25Frame)
+pub(crate) fn put_frame(out: &mut [u8], frame: Ax25Frame)
     requires { ⌜ 92 ≤ length (now out) ⌝ }
     ensures { λ r. ⌜ now (out .exit) ≡ splice (now (out .entry)) 0 (flatOf frame) ⌝ }
 {
@@ -233,7 +233,7 @@ fn details(answer: DecodeAnswer) -> [usize; 3]
 }
 
 // The details, then the place of the info.
-pub fn put_places(places: &mut [usize], decoded: Decoded)
+pub(crate) fn put_places(places: &mut [usize], decoded: Decoded)
     requires { ⌜ 5 ≤ length (now places) ⌝ }
     ensures { λ r. ⌜ now (places .exit) ≡ splice (now (places .entry)) 0 (placesOf decoded) ⌝ }
 {

@@ -32,7 +32,7 @@ fn flag(flat: &[u8], at: usize) -> bool
     octet(flat, at) != 0
 }
 
-pub fn address_at(flat: &[u8], at: usize) -> Address
+pub(crate) fn address_at(flat: &[u8], at: usize) -> Address
     requires { ⌜ at ≤ 92 ⌝ }
     ensures { λ r. ⌜ r ≡ addressAt (now (flat .entry)) at ⌝ }
 {
@@ -182,7 +182,7 @@ fn content_from(flat: &[u8]) -> FrameContent
     content_with(octet(flat, 80), pid, fields)
 }
 
-pub fn frame_from(flat: &[u8]) -> Ax25Frame
+pub(crate) fn frame_from(flat: &[u8]) -> Ax25Frame
     ensures { λ r. ⌜ r ≡ frameFrom (now (flat .entry)) ⌝ }
 {
     let destination = address_at(flat, 0);

@@ -32,7 +32,7 @@ fn show_again(input: &[u8]) {
     show_octets(first(&out, length));
 }
 
-pub fn decode(l: &[u8]) {
+pub(crate) fn decode(l: &[u8]) {
     let mut input = [0u8; 512];
     let n = octets(word(l), &mut input);
     show_frame(first(&input, n));
@@ -55,7 +55,7 @@ fn write_room(flat: &[u8], info: &[u8], room: usize) {
     write_into(flat, info, &mut out[..room]);
 }
 
-pub fn write(l: &[u8]) {
+pub(crate) fn write(l: &[u8]) {
     let mut flat = [0u8; 92];
     let n = octets(word(l), &mut flat);
     let mut info = [0u8; 512];
@@ -64,7 +64,7 @@ pub fn write(l: &[u8]) {
     write_room(first(&flat, n), first(&info, m), number(word(after(l))));
 }
 
-pub fn text(l: &[u8]) {
+pub(crate) fn text(l: &[u8]) {
     let mut text = [0u8; 512];
     let n = octets(word(l), &mut text);
     let mut address = [0u8; 7];
@@ -73,7 +73,7 @@ pub fn text(l: &[u8]) {
     show_octets(&address);
 }
 
-pub fn parts(l: &[u8]) {
+pub(crate) fn parts(l: &[u8]) {
     let mut callsign = [0u8; 512];
     let n = octets(word(l), &mut callsign);
     let ssid = (number(word(after(l))) % 256) as u8;
@@ -90,7 +90,7 @@ fn print_into(address: &[u8], room: &mut [u8]) {
     show_octets(first(room, length[0]));
 }
 
-pub fn print(l: &[u8]) {
+pub(crate) fn print(l: &[u8]) {
     let mut address = [0u8; 7];
     let n = octets(word(l), &mut address);
     let room = number(word(after(l)));

@@ -4,12 +4,12 @@ use show_frame::cutting::first;
 use show_frame::cutting::place;
 
 // The first word.
-pub fn word(l: &[u8]) -> &[u8] {
+pub(crate) fn word(l: &[u8]) -> &[u8] {
     first(l, place(l, b' '))
 }
 
 // What follows the first word.
-pub fn after(l: &[u8]) -> &[u8] {
+pub(crate) fn after(l: &[u8]) -> &[u8] {
     let n = place(l, b' ');
     if l.len() <= n {
         return &l[n..];
@@ -41,7 +41,7 @@ fn octet(high: u8, low: u8) -> u8 {
 }
 
 // The octets of a word, as many as there is room for, and how many they are.
-pub fn octets(w: &[u8], out: &mut [u8]) -> usize {
+pub(crate) fn octets(w: &[u8], out: &mut [u8]) -> usize {
     let n = w.len() / 2;
     let mut i = 0;
     while i < n {
@@ -55,7 +55,7 @@ pub fn octets(w: &[u8], out: &mut [u8]) -> usize {
 }
 
 // A number of up to four digits.
-pub fn number(w: &[u8]) -> usize
+pub(crate) fn number(w: &[u8]) -> usize
     ensures { λ r. ⌜ r ≤ 9999 ⌝ }
 {
     let mut n: usize = 0;
@@ -80,7 +80,7 @@ fn show_octet(b: u8) {
 }
 
 // A space, then the octets.
-pub fn show_octets(s: &[u8]) {
+pub(crate) fn show_octets(s: &[u8]) {
     show::text(b" ");
     if s.len() == 0 {
         show::text(b"-");
@@ -93,12 +93,12 @@ pub fn show_octets(s: &[u8]) {
 }
 
 // A space, then the number.
-pub fn show_number(n: usize) {
+pub(crate) fn show_number(n: usize) {
     show::text(b" ");
     show::number(n as u64);
 }
 
 // The same for a number that an octet holds.
-pub fn show_small(n: u8) {
+pub(crate) fn show_small(n: u8) {
     show_number(n as usize);
 }
