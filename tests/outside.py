@@ -87,6 +87,34 @@ def made_frames():
     return frames
 
 
+def equal_marks(dice, frame):
+    both = dice.roll(2) << 7
+    for place in (6, 13):
+        frame[place] = frame[place] & 0x7F | both
+
+
+def reserved_bits(dice, frame):
+    place = 7 * dice.roll(len(Layout(frame).groups)) + 6
+    frame[place] ^= (1 + dice.roll(3)) << 5
+
+
+def tail(dice, frame):
+    frame += bytes(dice.roll(256) for _ in range(1 + dice.roll(3)))
+
+
+def spoilt_frames():
+    """Frames made as above with one thing that the port accepts and does not call canonical (A12, A5, A4)."""
+    dice = Dice(52)
+    frames = made_frames()
+    short = [frame for frame in frames if Layout(frame).kind() not in ('I', 'UI', 'FRMR')]
+    spoilt = []
+    for spoil, whole in ((equal_marks, frames[::12]), (reserved_bits, frames[6::12]), (tail, short[::2])):
+        for frame in map(bytearray, whole):
+            spoil(dice, frame)
+            spoilt.append(bytes(frame))
+    return spoilt
+
+
 def listed_frames():
     listed = pathlib.Path(__file__).resolve().parent / 'captures' / 'frames.hex'
     lines = [line.partition('#')[0] for line in listed.read_text('ascii').splitlines()]
@@ -94,7 +122,7 @@ def listed_frames():
 
 
 def all_frames():
-    return listed_frames() + made_frames()
+    return listed_frames() + made_frames() + spoilt_frames()
 
 
 def hex_line(octets):
@@ -116,7 +144,7 @@ def make(folder):
     (folder / 'frames.hex').write_text(''.join(hex_line(frame) + '\n' for frame in frames))
 
 
-# The layout of a frame, for saying which frames a program is known to report otherwise. It excuses; it is never compared.
+# The layout of a frame, for spoiling one, and for saying which a program is known to report otherwise. It is compared with nothing.
 
 class Layout:
     def __init__(self, octets):
@@ -179,10 +207,6 @@ def listed(things):
     return ','.join(things) or '-'
 
 
-def marked(groups):
-    return listed(str(group.mark) for group in groups)
-
-
 def unescaped(text):
     return re.sub('%(..)', lambda found: chr(int(found[1], 16)), text)
 
@@ -208,7 +232,7 @@ def by_dumper(text):
 
 
 def pid_fields(octet):
-    """Of a PID's octet, or '-', or the word for the layer 3 class: what it is, and which octet of the class."""
+    """Of a PID's octet, or direwolf's words for the layer 3 class, or '-': which PID, and which octet of the class."""
     if octet == DIREWOLF_LAYER_3:
         return {'pid': '10', 'layer3_octet': None}
     if octet is None:
@@ -218,15 +242,15 @@ def pid_fields(octet):
     return {'pid': '10', 'layer3_octet': octet}
 
 
-def canonical(groups, kind, fields, tail):
-    """What the reader's report says of the spelling: None where it leaves out what decides."""
+def canonical(groups, kind, pid, stray):
+    """What a report says of the spelling: None where it leaves out what decides. `stray`: octets follow where no info may."""
     marks = groups[0].mark != groups[1].mark
     ends = [group.last for group in groups] == [0] * (len(groups) - 1) + [1]
-    if not (marks and ends and all(group.reserved == 3 for group in groups)) or tail:
+    if not (marks and ends and all(group.reserved == 3 for group in groups)) or stray:
         return 'no'
-    if kind == 'FRMR' or fields['pid'] is None or fields['layer3_octet'] is None:
+    if kind == 'FRMR' or pid['layer3_octet'] is None:
         return None
-    return 'yes' if fields['layer3_octet'] in ('-', '10') else 'no'
+    return 'yes' if pid['layer3_octet'] in ('-', '10') else 'no'
 
 
 def common(groups, kind, octet, after):
@@ -235,9 +259,9 @@ def common(groups, kind, octet, after):
     pid = pid_fields(octet)
     return {
         'accepted': 'yes', 'destination': groups[0].address, 'source': groups[1].address, 'kind': kind,
-        'repeaters': listed(group.address for group in groups[2:]), 'marks': marked(groups[2:]), **pid,
+        'repeaters': listed(group.address for group in groups[2:]), 'marks': listed(str(group.mark) for group in groups[2:]), **pid,
         'frmr': None if kind == 'FRMR' else '-', 'info_length': '-' if not has_info else None if octet is None else str(after),
-        'canonical': canonical(groups, kind, pid, tail=not has_info and kind != 'FRMR' and after)}
+        'canonical': canonical(groups, kind, pid, stray=not has_info and kind != 'FRMR' and after)}
 
 
 # tshark
@@ -313,7 +337,8 @@ def direwolf_pid(words):
 
 
 def by_direwolf(report):
-    found = re.search(r'^(?:(I) frame|[SU] frame (\w+)): (?:n\(r\)=(\d+), )?(?:p/f|p|f)=([01])(?:, n\(s\)=(\d+))?(?:, (.+))?, length = (\d+)$', report, re.M)
+    found = re.search(r'^(?:(I) frame|[SU] frame (\w+)): (?:n\(r\)=(\d+), )?(?:p/f|p|f)=([01])(?:, n\(s\)=(\d+))?(?:, (.+))?, '
+                      r'length = (\d+)$', report, re.M)
     if not found:
         return REFUSED
     information, kind, nr, pf, ns, words, length = found.groups()
@@ -341,9 +366,10 @@ def readings_by_direwolf(text, frames):
 
 # What a program does not report, or reports otherwise, for a reason that is known. A frame that meets one of WHOLE is not compared at
 # all. One that meets another is not compared in the fields named: by a reason of SILENCE where the program, or the dumper, says nothing
-# there, by one of ANOTHER where the program says something else. Where it agrees, it is compared.
+# there, by one of ANOTHER where the program says something else, by one of REFUSAL where it accepts what the port refuses. Where both
+# agree, it is compared.
 
-SILENCE, ANOTHER = 'silence', 'another'
+SILENCE, ANOTHER, REFUSAL = 'silence', 'another', 'refusal'
 ADDRESSES = ('destination', 'source', 'repeaters')
 WHOLE = [
     (lambda frame: frame.nulls,
@@ -362,9 +388,9 @@ def odd_character(lowest):
 
 
 BOTH = [
-    (ANOTHER, ['accepted'], lambda frame, field: frame.content and frame.kind() is None,
+    (REFUSAL, ['accepted'], lambda frame, field: frame.content and frame.kind() is None,
      'a kind that the program knows and the port does not (A8), or one of HDLC alone'),
-    (ANOTHER, ['accepted'], lambda frame, field: frame.kind() == 'FRMR' and len(frame.content) != 4,
+    (REFUSAL, ['accepted'], lambda frame, field: frame.kind() == 'FRMR' and len(frame.content) != 4,
      "FRMR's length: the program does not look at it"),
     (SILENCE, ['frmr'], of_kind('FRMR'),
      "FRMR's three octets: neither the dumper nor the program prints them (A9, A10)"),
@@ -374,7 +400,7 @@ BOTH = [
      'which octet of the layer 3 class it is: the dumper prints 10 for each, and decode_aprs none (A6); the class is compared'),
 ]
 TSHARK = BOTH + [
-    (ANOTHER, ['accepted'], lambda frame, field: len(frame.groups) > 10,
+    (REFUSAL, ['accepted'], lambda frame, field: len(frame.groups) > 10,
      'nine repeaters: tshark shows eight and passes over the rest (B1)'),
     (SILENCE, ['pid', 'layer3_octet', 'info_length', 'canonical'], lambda frame, field: frame.kind() == 'UI' and frame.p_f(),
      'UI with P/F set: tshark looks for no PID'),
@@ -388,7 +414,7 @@ TSHARK = BOTH + [
      'tshark ends a callsign at a space and prints a dot for a character that is not printable (A3)'),
 ]
 DIREWOLF = BOTH + [
-    (ANOTHER, ['accepted'], lambda frame, field: frame.kind() in ('I', 'UI') and not frame.has_pid(),
+    (REFUSAL, ['accepted'], lambda frame, field: frame.kind() in ('I', 'UI') and not frame.has_pid(),
      'I and UI without a PID: decode_aprs reads a PID of 00'),
     (SILENCE, ['control'], lambda frame, field: True,
      'the control octet: decode_aprs gives its parts, which are compared one by one'),
@@ -429,6 +455,14 @@ def in_both(mine, theirs):
     return FIELDS if mine['accepted'] == theirs['accepted'] == 'yes' else ['accepted']
 
 
+def case_of(field, mine, theirs):
+    if None in (mine, theirs):
+        return SILENCE
+    if field == 'accepted':
+        return REFUSAL if (mine, theirs) == ('no', 'yes') else None
+    return ANOTHER
+
+
 class Comparison:
     def __init__(self, program, excuses):
         self.program, self.excuses = program, excuses
@@ -453,7 +487,7 @@ class Comparison:
         if mine == theirs and mine is not None:
             self.agreed[field] += 1
             return None
-        case = SILENCE if None in (mine, theirs) else ANOTHER
+        case = case_of(field, mine, theirs)
         reasons = (reason for of, fields, meets, reason in self.excuses if of == case and field in fields and meets(layout, field))
         reason = next(reasons, None)
         if reason:
@@ -494,17 +528,19 @@ def compare(folder, program):
 
 
 def made(folder):
-    """What is known of the frames made here without any other program: each is accepted, and canonical unless its PID is another of
-    the layer 3 class than 10."""
-    frames, count = all_frames(), Count()
-    first = len(listed_frames())
-    pairs = list(zip(frames, dumper_readings(folder, frames)))[first:]
-    wanted = lambda layout: 'no' if layout.layer_3() and layout.content[1] != 0x10 else 'yes'
-    wrong = [octets for octets, mine in pairs if mine.get('canonical') != wanted(Layout(octets))]
-    for octets in wrong[:5]:
-        count.fail(f'not accepted, or canonical is otherwise than it was made: {hex_line(octets)}')
-    if not wrong:
-        count.ok(f'the dumper accepts the {len(pairs)} frames made here, and says rightly which are canonical')
+    """What is known of the frames made here without any other program."""
+    count, every = Count(), all_frames()
+    readings = dict(zip(every, dumper_readings(folder, every)))
+    plain = lambda frame: not Layout(frame).layer_3() or Layout(frame).content[1] == 0x10
+    for frames, wanted, what in (
+            ([frame for frame in made_frames() if plain(frame)], 'yes', 'plain frames'),
+            ([frame for frame in made_frames() if not plain(frame)], 'no', 'frames that are plain but for their layer 3 PID'),
+            (spoilt_frames(), 'no', 'frames with equal marks, a reserved bit clear or a tail')):
+        wrong = [frame for frame in frames if readings[frame].get('canonical') != wanted]
+        for frame in wrong[:5]:
+            count.fail(f'the dumper should accept this and say canonical={wanted}: {hex_line(frame)}')
+        if not wrong:
+            count.ok(f'the dumper accepts {len(frames)} {what} and says canonical={wanted}')
     count.end()
 
 
