@@ -174,7 +174,7 @@ fn side_by_side(checker: &mut Checker, report: &mut Report, scale: usize, seed: 
 }
 
 fn frame_records(checker: &mut Checker, report: &mut Report, scale: usize, seeds: &mut Rng) {
-    let [a, b, c] = [0; 3].map(|_: u64| seeds.next());
+    let [a, b, c, d] = [0; 4].map(|_: u64| seeds.next());
     let mut run = |name: &str, body: &mut dyn FnMut(records::Each)| {
         class(checker, report, name, |c| body(&mut |record, info| c.record(record, info)));
     };
@@ -183,7 +183,7 @@ fn frame_records(checker: &mut Checker, report: &mut Report, scale: usize, seeds
     run("records: FRMR's fields", &mut |each| records::frmr_fields(each));
     run("records: every way to mark 0 to 8 repeaters, each kind", &mut |each| records::routes(each));
     run("records: every seven-bit character at every place", &mut |each| records::characters(each));
-    run("records: cut short", &mut |each| records::cut(each));
+    run("records: cut short", &mut |each| records::cut(d, each));
     run("records: seeded, as the Rust can hold them", &mut |each| records::holdable(a, 250_000 * scale, each));
     run("records: those that the Rust can't hold", &mut |each| {
         records::unholdable(each);
@@ -195,8 +195,9 @@ fn frame_records(checker: &mut Checker, report: &mut Report, scale: usize, seeds
     });
     class(checker, report, "records: new_simple_ui_frame", |class| {
         let mut rng = Rng::new(c);
-        class.simple_ui(&[], &[], b"");
-        class.simple_ui(b"BOX", b"GAUGE \x00and more", b"OK");
+        for length in 0..=9 {
+            class.simple_ui(&b"BOX123\x0C78"[..length], &b"GAUGE7\x0D89"[..9 - length], b"OK");
+        }
         for _ in 0..30_000 * scale {
             let (source, destination) = (records::any_address(&mut rng), records::any_address(&mut rng));
             let length = rng.within(0, 20);

@@ -117,18 +117,23 @@ pub fn characters(each: Each) {
     }
 }
 
-/// Records cut short, octets past the end counting as 0, and longer ones.
-pub fn cut(each: Each) {
+/// Records cut short at every place, octets past the end counting as 0, and longer ones. All their fields are in use.
+pub fn cut(seed: u64, each: Each) {
+    let mut rng = Rng::new(seed);
     for kind in 0..=UNKNOWN_CONTENT {
-        let mut record = base(kind).to_vec();
-        record[COUNT] = 2;
-        record[POLL] = 1;
-        record[RECEIVE] = 5;
-        record[SEND] = 6;
-        record[REJECTED_CONTROL] = 0x3F;
-        record.extend([0xFF; 9]);
-        for length in 0..=record.len() {
-            each(&record[..length], b"");
+        for _ in 0..8 {
+            let mut record = seeded(&mut rng);
+            record[KIND] = kind;
+            for flag in [POLL, Z, Y, X, W, REJECTED_RESPONSE] {
+                record[flag] = 1;
+            }
+            for ssid in [DESTINATION + 6, SOURCE + 6] {
+                record[ssid] = rng.within(1, 15) as u8;
+            }
+            let longer = [&record[..], &[0xFF; 9]].concat();
+            for length in 0..=longer.len() {
+                each(&longer[..length], b"");
+            }
         }
     }
 }
