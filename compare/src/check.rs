@@ -23,6 +23,8 @@ pub struct Checker {
     /// Differences are only counted, and not described.
     pub quiet: bool,
     found: Vec<Difference>,
+    /// Counts the inputs.
+    turn: u64,
 }
 
 /// How much longer than needed the longer buffers are.
@@ -30,7 +32,7 @@ const LONGER: usize = 9;
 
 impl Checker {
     pub fn new() -> Checker {
-        Checker { port: Port::new(), seen: Seen::new(), quiet: false, found: Vec::new() }
+        Checker { port: Port::new(), seen: Seen::new(), quiet: false, found: Vec::new(), turn: 0 }
     }
 
     fn differ(&mut self, what: &str, owed: impl FnOnce() -> String, port: impl FnOnce(&Checker) -> String) {
@@ -43,6 +45,7 @@ impl Checker {
     }
 
     fn finish(&mut self) -> Vec<Difference> {
+        self.turn += 1;
         if let Some(fault) = self.port.fault() {
             self.differ("lent storage", || "nothing else is written".to_string(), |_| fault.to_string());
         }
@@ -126,7 +129,7 @@ impl Checker {
             };
             self.differ("the loader's calls", || say(owed), |_| say(port));
         }
-        for room in rooms(octets.len()) {
+        for room in rooms(octets.len(), self.turn) {
             self.reencode(input, number, octets, room);
         }
     }
@@ -155,7 +158,7 @@ impl Checker {
     /// Writing a record, into room that suffices exactly, is one short, or more than is needed.
     fn write(&mut self, record: &[u8], info: &[u8], octets: &[u8]) {
         self.seen.writes += 1;
-        for room in rooms(octets.len()) {
+        for room in rooms(octets.len(), self.turn) {
             self.write_in(record, info, 0, octets, room);
         }
     }
@@ -284,7 +287,7 @@ impl Checker {
         if domain::encodable(&whole) {
             let text = flat::addresses(&[whole])[0].to_string();
             self.seen.print(0);
-            for room in rooms(text.len()) {
+            for room in rooms(text.len(), self.turn) {
                 self.print_in(address, 0, text.as_bytes(), room);
             }
         } else {
@@ -362,9 +365,14 @@ impl Checker {
     }
 }
 
-/// Room exactly full, longer, and one short where that can be.
-fn rooms(len: usize) -> impl Iterator<Item = usize> {
-    [Some(len), Some(len + LONGER), len.checked_sub(1)].into_iter().flatten()
+/// Room exactly full, and in turns, on every second input, longer, or one short where that can be.
+fn rooms(len: usize, turn: u64) -> impl Iterator<Item = usize> {
+    let other = match turn % 4 {
+        0 => Some(len + LONGER),
+        2 => len.checked_sub(1),
+        _ => None,
+    };
+    [Some(len), other].into_iter().flatten()
 }
 
 /// The octets, and 0 past their end.
