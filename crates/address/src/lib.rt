@@ -1,10 +1,9 @@
-// The address of a station: a callsign and a numeric SSID. `group` has its seven octets, `text` its text.
+// The address of a station: a callsign and a numeric SSID. `group` has its seven octets; the crate `text` its text.
 ghost use mathlib.Core.Path.{_≡_};
 ghost use Rattle.octets.specs.All.{all};
 ghost use Rattle.address.specs.Address.{low, noCall, encodable};
 
 pub mod group;
-pub mod text;
 
 // A source, destination or repeater. The callsign is padded at its end with spaces.
 pub struct Address {
@@ -35,7 +34,7 @@ impl Address {
 }
 
 // Whether every octet is below 128.
-fn is_ascii(text: &[u8]) -> bool
+pub fn is_ascii(text: &[u8]) -> bool
     ensures { λ r. ⌜ r ≡ all low (now (text .entry)) ⌝ }
 {
     let mut i = 0;

@@ -2,8 +2,8 @@
 // document 01's list of texts and from the unchanged Rust (a refusal by its number); the Rust has no counterpart for 35, 22 and
 // 24, and the lines with these come from document 01's table.
 use address::Address;
-use address::text::AddressRead;
-use address::text::Printed;
+use text::AddressRead;
+use text::Printed;
 
 fn main() {
     show::text(
@@ -123,7 +123,7 @@ fn texts(list: &[u8]) {
 fn text(input: &[u8]) {
     show::text(b"text ");
     show::quoted(input);
-    outcome(address::text::from_str(input));
+    outcome(text::from_str(input));
 }
 
 fn parts(callsign: &[u8], ssid: u8) {
@@ -131,7 +131,7 @@ fn parts(callsign: &[u8], ssid: u8) {
     show::quoted(callsign);
     show::text(b" ");
     show::number(ssid as u64);
-    outcome(address::text::from_parts(callsign, ssid));
+    outcome(text::from_parts(callsign, ssid));
 }
 
 fn outcome(read: AddressRead) {
@@ -157,9 +157,9 @@ fn print(callsign: [u8; 6], ssid: u8, room: usize) {
 
 fn print_into(address: Address, out: &mut [u8], room: usize) -> Printed {
     if room > out.len() {
-        return address::text::print(address, out);
+        return text::print(address, out);
     }
-    address::text::print(address, &mut out[..room])
+    text::print(address, &mut out[..room])
 }
 
 fn result(printed: Printed, out: [u8; 12]) {

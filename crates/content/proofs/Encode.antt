@@ -9,8 +9,7 @@ use lib.ListN.{length, take, length-append}
 use Rattle.octets.specs.Splice.{splice}
 use Rattle.octets.proofs.Choice.{by}
 use Rattle.octets.proofs.Splice.{splice-more}
-use Rattle.content.specs.Content.{hasInfo}
-use Rattle.content.specs.Spell.{front, spellContent}
+use Rattle.content.specs.Spell.{hasInfo, front, spellContent}
 use Rattle.content.specs.Encode.{strayInfo, lacksRoom, answerOf, encodeNumber, encodeOf, encoded, writtenLength, writtenOctets, four}
 use Rattle.content.specs.declared.FrameContent.{FrameContent}
 use Rattle.content.specs.declared.FrameContent.the-variants as kind

@@ -1,7 +1,2 @@
 pub mod Masks
 pub mod Encode
-pub mod Back
-pub mod Read
-pub mod Numbers
-pub mod Lean
-pub mod Laws

@@ -4,8 +4,7 @@ use mathlib.Core.Bool.{Bool, not, _&&_, cond}
 use mathlib.Core.List.{List, [], _∷_}
 use lib.Dec.{eqb, ltb}
 use lib.ListN.{length, getD}
-use Rattle.content.specs.Content.{hasInfo}
-use Rattle.content.specs.Spell.{front, spellContent}
+use Rattle.content.specs.Spell.{hasInfo, front, spellContent}
 use Rattle.content.specs.declared.FrameContent.{FrameContent}
 use Rattle.content.specs.declared.EncodeAnswer.{EncodeAnswer}
 use Rattle.content.specs.declared.EncodeAnswer.the-variants.{Written, InfoNotAllowed, NoRoom}

@@ -52,6 +52,20 @@ front (kind.FrameReject k) =
 front (kind.UnnumberedInformation k) = unnumbered ui (k .«poll_or_final») ∷ octetOf (k .pid) ∷ []
 front kind.UnknownContent = []
 
+-- the kinds that have info: I, UI and `UnknownContent`
+abbrev pub hasInfo : FrameContent → Bool
+hasInfo (kind.Information k) = true
+hasInfo (kind.ReceiveReady k) = false
+hasInfo (kind.ReceiveNotReady k) = false
+hasInfo (kind.Reject k) = false
+hasInfo (kind.SetAsynchronousBalancedMode k) = false
+hasInfo (kind.Disconnect k) = false
+hasInfo (kind.DisconnectedMode k) = false
+hasInfo (kind.UnnumberedAcknowledge k) = false
+hasInfo (kind.FrameReject k) = false
+hasInfo (kind.UnnumberedInformation k) = true
+hasInfo kind.UnknownContent = true
+
 -- all octets of content with this info; of `UnknownContent` the info alone
 abbrev pub spellContent : FrameContent → List ℕ → List ℕ
 spellContent k info = front k ++ info

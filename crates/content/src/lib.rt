@@ -1,15 +1,9 @@
-// The content of a frame, which is everything after the address field: its kinds, reading them and writing them.
+// The content of a frame, which is everything after the address field: its kinds, and writing them. The crate `parse` reads them.
 use protocol::ProtocolIdentifier;
 ghost use mathlib.Core.Path.{_≡_};
-ghost use Rattle.content.specs.Content.{numberOf};
 ghost use Rattle.content.specs.Encode.{encodeNumber};
 
-mod reading; // reading.rt: from octets to a kind and its fields
 mod writing; // writing.rt: from a kind and its info to octets
-mod spelled; // spelled.rt: whether octets are just as writing gives them
-
-pub use reading::parse_content;
-pub use spelled::is_lean;
 
 // Indicates whether a given frame is a Command or a Response.
 pub enum CommandResponse {
@@ -103,16 +97,6 @@ pub enum FrameContent {
     UnknownContent,
 }
 
-// What reading content gives.
-pub enum ContentAnswer {
-    Accepted(FrameContent),
-    ContentZeroLength,
-    MissingPidField,
-    UnrecognisedSFieldType,
-    UnrecognisedUFieldType,
-    WrongSizeFrmrInfo,
-}
-
 // What writing content gives.
 pub enum EncodeAnswer {
     Written,
@@ -123,21 +107,6 @@ pub enum EncodeAnswer {
 pub struct ContentWritten {
     pub answer: EncodeAnswer,
     pub length: usize,
-}
-
-impl ContentAnswer {
-    pub fn number(self) -> u32
-        ensures { λ r. ⌜ r ≡ numberOf self ⌝ }
-    {
-        match self {
-            ContentAnswer::Accepted(_) => 0,
-            ContentAnswer::ContentZeroLength => 4,
-            ContentAnswer::MissingPidField => 5,
-            ContentAnswer::UnrecognisedSFieldType => 6,
-            ContentAnswer::UnrecognisedUFieldType => 7,
-            ContentAnswer::WrongSizeFrmrInfo => 8,
-        }
-    }
 }
 
 impl EncodeAnswer {

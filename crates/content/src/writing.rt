@@ -10,8 +10,7 @@ ghost use Prim.Native.Nat.{_%_};
 ghost use lib.ListN.{length};
 ghost use Rattle.octets.specs.Splice.{splice};
 ghost use Rattle.content.specs.Control.{uKind};
-ghost use Rattle.content.specs.Content.{hasInfo};
-ghost use Rattle.content.specs.Spell.{numbered, sent, unnumbered, flags, isResponse, front};
+ghost use Rattle.content.specs.Spell.{hasInfo, numbered, sent, unnumbered, flags, isResponse, front};
 ghost use Rattle.content.specs.Encode.{strayInfo, lacksRoom, encodeOf, encoded, four};
 
 fn bit_if(on: bool, value: u8) -> u8

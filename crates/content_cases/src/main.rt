@@ -18,9 +18,9 @@ fn case(control: u8, length: usize) {
 }
 
 fn read_again(part: &[u8]) {
-    let answer = content::parse_content(part);
+    let answer = parse::parse_content(part);
     show::field(b"number", answer.number() as u64);
-    let content::ContentAnswer::Accepted(kind) = answer else {
+    let parse::ContentAnswer::Accepted(kind) = answer else {
         return;
     };
     show::kind(kind);

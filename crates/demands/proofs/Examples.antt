@@ -6,9 +6,9 @@ use Rattle.octets.specs.Same.{same}
 use Rattle.protocol.specs.Pid.{among, pidOf}
 use Rattle.address.specs.Address.{noCall}
 use Rattle.address.specs.Group.{addressOf, markOf, ssidOctet, groupOf}
-use Rattle.content.specs.Content.{iOf, sOf, uiOf, responseOf, frmrOf, uOf, contentOf}
+use Rattle.parse.specs.Content.{iOf, sOf, uiOf, responseOf, frmrOf, uOf, contentOf}
 use Rattle.frame.specs.Frame.{noEntry, noRoute, simpleUi, defaultFrame}
-use Rattle.frame.specs.Read.{parsedAt, entryAt, placeAt, routeAt, frameAt, refusedWith, acceptedWith, withContent, decodeField, decode}
+use Rattle.decode.specs.Read.{parsedAt, entryAt, placeAt, routeAt, frameAt, refusedWith, acceptedWith, withContent, decodeField, decode}
 use Rattle.frame.specs.Spell.{groupsOf, addressField, spell}
 use Rattle.spelling.specs.Canonical.{again, canonical}
 use Rattle.spelling.specs.Reencode.{due}

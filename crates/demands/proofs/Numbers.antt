@@ -8,13 +8,14 @@ use mathlib.Core.Logic.{_↔_}
 use lib.ListN.{length}
 use Rattle.octets.specs.Splice.{splice}
 use Rattle.octets.proofs.Splice.{splice-none}
-use Rattle.address.specs.Text.{addressNumberOf, printNumberOf, readParts, readText, printed}
+use Rattle.text.specs.Text.{addressNumberOf, printNumberOf, readParts, readText, printed}
 use Rattle.address.specs.declared.Address.{Address}
-use Rattle.address.proofs.TextLaws.{text-numbers, parts-numbers, print-numbers, text-rows, parts-rows, print-rows}
+use Rattle.text.proofs.Laws.{text-numbers, parts-numbers, print-numbers, text-rows, parts-rows, print-rows}
 use Rattle.content.specs.declared.FrameContent.the-variants.{UnknownContent}
-use Rattle.frame.specs.Frame.{numberOf, reportOf, writeNumber, isAccepted, defaultFrame}
-use Rattle.frame.specs.Numbers.{reported}
-use Rattle.frame.specs.Read.{decode}
+use Rattle.decode.specs.Answer.{numberOf, reportOf, isAccepted}
+use Rattle.frame.specs.Frame.{writeNumber, defaultFrame}
+use Rattle.decode.specs.Numbers.{reported}
+use Rattle.decode.specs.Read.{decode}
 use Rattle.frame.specs.Write.{writeAnswer, octetsWritten, written}
 use Rattle.frame.specs.declared.Written.{Written}
 use Rattle.frame.specs.declared.Ax25Frame.{Ax25Frame}

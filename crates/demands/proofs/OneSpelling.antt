@@ -9,8 +9,8 @@ use lib.ListN.{length, drop}
 use Rattle.octets.specs.Octet.{Octets}
 use Rattle.octets.specs.Splice.{splice}
 use Rattle.octets.proofs.Splice.{splice-in}
-use Rattle.frame.specs.Frame.{isAccepted}
-use Rattle.frame.specs.Read.{decode, infoIn}
+use Rattle.decode.specs.Answer.{isAccepted}
+use Rattle.decode.specs.Read.{decode, infoIn}
 use Rattle.frame.specs.Spell.{withMark}
 use Rattle.grammar.proofs.Back.{unique}
 use Rattle.spelling.specs.Canonical.{again, canonical}

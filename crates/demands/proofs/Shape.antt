@@ -10,9 +10,8 @@ use Rattle.octets.specs.Octet.{bit}
 use Rattle.octets.proofs.First.{first-before, first-passes}
 use Rattle.protocol.specs.Pid.{layer3, octetOf, pidOf}
 use Rattle.protocol.proofs.Laws.{octet-pid}
-use Rattle.content.specs.Content.{hasInfo}
-use Rattle.content.specs.Spell.{front}
-use Rattle.content.proofs.Laws.{front-two, front-pid, front-some, front-octets}
+use Rattle.content.specs.Spell.{hasInfo, front}
+use Rattle.lean.proofs.Laws.{front-two, front-pid, front-some, front-octets}
 use Rattle.frame.specs.Spell.{spell, Plain}
 use Rattle.frame.specs.declared.Ax25Frame.{Ax25Frame}
 use Rattle.frame.proofs.Write.{spell-length}

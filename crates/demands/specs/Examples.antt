@@ -9,8 +9,9 @@ use Rattle.address.specs.declared.Address.{Address}
 use Rattle.content.specs.declared.CommandResponse.the-variants as fault
 use Rattle.content.specs.declared.FrameContent.{FrameContent}
 use Rattle.content.specs.declared.FrameContent.the-variants.{UnnumberedInformation, ReceiveReady, FrameReject}
-use Rattle.frame.specs.Frame.{Report, number, reportOf, noRoute, defaultFrame}
-use Rattle.frame.specs.Read.{decode}
+use Rattle.decode.specs.Answer.{Report, number, reportOf}
+use Rattle.frame.specs.Frame.{noRoute, defaultFrame}
+use Rattle.decode.specs.Read.{decode}
 use Rattle.frame.specs.declared.Mark.the-variants.{Command}
 use Rattle.frame.specs.declared.Ax25Frame.{Ax25Frame}
 use Rattle.spelling.specs.Canonical.{canonical}

@@ -5,12 +5,12 @@ use mathlib.Core.List.{List, [], _∷_}
 use lib.Dec.{ltb}
 use lib.ListN.{length, drop}
 use Rattle.address.specs.Address.{encodable}
-use Rattle.address.specs.Text.{high, manyHyphens, badSsid, empty, long, strange, wide, short, callsignText, ssidValue}
+use Rattle.text.specs.Text.{high, manyHyphens, badSsid, empty, long, strange, wide, short, callsignText, ssidValue}
 use Rattle.address.specs.declared.Address.{Address}
 use Rattle.content.specs.Encode.{strayInfo}
-use Rattle.content.specs.Numbers.{lacksPid, strangeS, strangeU, wrongFrmr}
-use Rattle.frame.specs.Read.{endOf}
-use Rattle.frame.specs.Numbers.{noStart, noEnd, shortField, noContent, manyRepeaters}
+use Rattle.parse.specs.Numbers.{lacksPid, strangeS, strangeU, wrongFrmr}
+use Rattle.decode.specs.Read.{endOf}
+use Rattle.decode.specs.Numbers.{noStart, noEnd, shortField, noContent, manyRepeaters}
 use Rattle.frame.specs.Spell.{spell}
 use Rattle.frame.specs.Write.{frameEncodable}
 use Rattle.frame.specs.declared.Ax25Frame.{Ax25Frame}

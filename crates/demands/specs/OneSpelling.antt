@@ -5,8 +5,8 @@ use mathlib.Core.Bool.{true}
 use mathlib.Core.List.{List}
 use mathlib.Core.Logic.{_↔_}
 use lib.ListN.{length}
-use Rattle.frame.specs.Frame.{isAccepted}
-use Rattle.frame.specs.Read.{decode, infoIn}
+use Rattle.decode.specs.Answer.{isAccepted}
+use Rattle.decode.specs.Read.{decode, infoIn}
 use Rattle.frame.specs.Spell.{spell, Plain, withMark, inUse}
 use Rattle.frame.specs.declared.Ax25Frame.{Ax25Frame}
 use Rattle.spelling.specs.Canonical.{again, canonical}

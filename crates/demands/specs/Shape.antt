@@ -7,8 +7,8 @@ use lib.ListN.{getD}
 use Rattle.octets.specs.Octet.{bit}
 use Rattle.protocol.specs.Pid.{layer3}
 use Rattle.address.specs.Group.{markOf, reserved}
-use Rattle.content.specs.Content.{hasInfo}
-use Rattle.frame.specs.Read.{groupAt}
+use Rattle.content.specs.Spell.{hasInfo}
+use Rattle.decode.specs.Read.{groupAt}
 use Rattle.frame.specs.Spell.{spell}
 use Rattle.frame.specs.declared.Ax25Frame.{Ax25Frame}
 

@@ -9,19 +9,19 @@ use lib.ListN.{length, length-append, length-drop}
 use Rattle.octets.specs.Octet.{Octets}
 use Rattle.octets.proofs.Choice.{by, either}
 use Rattle.address.specs.Address.{PlainAddress}
-use Rattle.address.specs.Text.{alphanumeric, trimmed, used, ssidSuffix}
+use Rattle.text.specs.Text.{alphanumeric, trimmed, used, ssidSuffix}
 use Rattle.address.specs.declared.Address.{Address}
-use Rattle.address.proofs.Printing.{used-le, trimmed-length, suffix-short}
-use Rattle.content.specs.Content.{hasInfo}
+use Rattle.text.proofs.Printing.{used-le, trimmed-length, suffix-short}
+use Rattle.content.specs.Spell.{hasInfo}
 use Rattle.content.specs.declared.FrameContent.{FrameContent}
 use Rattle.content.specs.declared.FrameContent.the-variants as kind
-use Rattle.frame.specs.Frame.{isAccepted, numberOf}
-use Rattle.frame.specs.Read.{decode}
+use Rattle.decode.specs.Answer.{isAccepted, numberOf}
+use Rattle.decode.specs.Read.{decode}
 use Rattle.frame.specs.Spell.{repeaterAt}
 use Rattle.frame.specs.declared.Ax25Frame.{Ax25Frame}
-use Rattle.frame.specs.declared.Decoded.{Decoded}
-use Rattle.frame.specs.declared.DecodeAnswer.{DecodeAnswer}
-use Rattle.frame.specs.declared.DecodeAnswer.the-variants as answer
+use Rattle.decode.specs.declared.Decoded.{Decoded}
+use Rattle.decode.specs.declared.DecodeAnswer.{DecodeAnswer}
+use Rattle.decode.specs.declared.DecodeAnswer.the-variants as answer
 use Rattle.frame.specs.declared.Mark.{Mark}
 use Rattle.frame.specs.declared.Mark.the-variants.{Command, Response, Absent}
 use Rattle.frame.specs.declared.RouteEntry.{RouteEntry}

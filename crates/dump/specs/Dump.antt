@@ -5,16 +5,15 @@ use mathlib.Core.Bool.{Bool, cond}
 use mathlib.Core.List.{List, [], _++_}
 use lib.Dec.{ltb}
 use lib.ListN.{length, getD}
-use Rattle.content.specs.Content.{hasInfo}
-use Rattle.content.specs.Spell.{front}
+use Rattle.content.specs.Spell.{hasInfo, front}
 use Rattle.content.specs.declared.FrameContent.{FrameContent}
 use Rattle.content.specs.declared.FrameContent.the-variants as kind
-use Rattle.frame.specs.Frame.{numberOf, isAccepted}
-use Rattle.frame.specs.Read.{decode}
+use Rattle.decode.specs.Answer.{numberOf, isAccepted}
+use Rattle.decode.specs.Read.{decode}
 use Rattle.frame.specs.declared.Ax25Frame.{Ax25Frame}
-use Rattle.frame.specs.declared.DecodeAnswer.{DecodeAnswer}
-use Rattle.frame.specs.declared.DecodeAnswer.the-variants as answer
-use Rattle.frame.specs.declared.Decoded.{Decoded}
+use Rattle.decode.specs.declared.DecodeAnswer.{DecodeAnswer}
+use Rattle.decode.specs.declared.DecodeAnswer.the-variants as answer
+use Rattle.decode.specs.declared.Decoded.{Decoded}
 use Rattle.frame.specs.declared.Mark.{Mark}
 use Rattle.frame.specs.declared.Mark.the-variants.{Command, Response, Absent}
 use Rattle.spelling.specs.Canonical.{canonical}

@@ -1,13 +1,13 @@
 // What the dumper prints of an octet string, as octets in a lent buffer.
 use frame::Ax25Frame;
-use frame::DecodeAnswer;
-use frame::Decoded;
+use decode::DecodeAnswer;
+use decode::Decoded;
 ghost use mathlib.Core.Path.{_≡_};
 ghost use mathlib.Core.Bool.{true};
 ghost use Prim.Native.Nat.{_+_, _≤_};
 ghost use lib.ListN.{length};
 ghost use Rattle.octets.specs.Splice.{splice};
-ghost use Rattle.frame.specs.Frame.{isAccepted};
+ghost use Rattle.decode.specs.Answer.{isAccepted};
 ghost use Rattle.dump.specs.Text.{Put};
 ghost use Rattle.dump.specs.Dump.{frameText, detailText, refusalText, decodedText, dumpText, dumped, dumpNumber};
 
@@ -98,7 +98,7 @@ fn put_dump(out: &mut [u8], input: &[u8]) -> usize
     if 4096 < input.len() {
         return lines::put_number_line(out, 0, b"answer=", 50);
     }
-    let decoded = Ax25Frame::from_bytes(input);
+    let decoded = decode::from_bytes(input);
     let canonical = spelling::is_canonical(input);
     put_decoded(out, decoded, canonical)
 }

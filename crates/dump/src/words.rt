@@ -36,7 +36,7 @@ pub(crate) fn hex(b: u8) -> Word
 pub(crate) fn character(c: u8) -> Word
     ensures { λ r. ⌜ r ≡ wordOf (character c) ⌝ }
 {
-    if address::text::is_alphanumeric(c) {
+    if text::is_alphanumeric(c) {
         return Word {
             letters: [c, 0, 0, 0, 0, 0, 0, 0],
             length: 1,

@@ -1,2 +1,1 @@
-pub mod Read
 pub mod Write

@@ -1,6 +1,3 @@
 pub mod Frame
-pub mod Search
-pub mod Read
 pub mod Spell
 pub mod Write
-pub mod Numbers

@@ -8,8 +8,7 @@ use lib.ListN.{length, getD}
 use Rattle.octets.specs.Octet.{Octets}
 use Rattle.address.specs.Address.{PlainAddress}
 use Rattle.address.specs.Group.{groupOf}
-use Rattle.content.specs.Content.{hasInfo}
-use Rattle.content.specs.Spell.{front, PlainContent}
+use Rattle.content.specs.Spell.{hasInfo, front, PlainContent}
 use Rattle.frame.specs.Frame.{noEntry}
 use Rattle.frame.specs.declared.Mark.{Mark}
 use Rattle.frame.specs.declared.Mark.the-variants.{Command, Response, Absent}

@@ -1,14 +1,12 @@
-// A frame: its record, reading it from octets and writing it back.
+// A frame: its record, and writing it. The crate `decode` reads it.
 use address::Address;
 use content::FrameContent;
 use content::UnnumberedInformation;
 use protocol::ProtocolIdentifier;
 ghost use mathlib.Core.Path.{_≡_};
 ghost use mathlib.Core.Bool.{false};
-ghost use Rattle.frame.specs.Frame.{noEntry, noRoute, defaultFrame, numberOf, writeNumber, simpleUi};
+ghost use Rattle.frame.specs.Frame.{noEntry, noRoute, defaultFrame, writeNumber, simpleUi};
 
-mod search; // search.rt: where the address field starts and ends
-mod reading; // reading.rt: from octets to a frame
 mod writing; // writing.rt: from a frame and its info to octets
 
 // Whether a frame is a command or a response. Equal bits, as the first versions of AX.25 sent them, say neither.
@@ -39,27 +37,6 @@ pub struct Ax25Frame {
     pub content: FrameContent,
 }
 
-pub enum DecodeAnswer {
-    Accepted,
-    OnlyNullBytes,
-    NoEndToAddressField,
-    AddressFieldTooShort { start: usize, end: usize },
-    FrameTooShort { len: usize },
-    MissingPidField,
-    UnrecognisedSFieldType,
-    UnrecognisedUFieldType,
-    WrongSizeFrmrInfo,
-    TooManyRepeaters,
-}
-
-// What reading gives. The info is `info_len` octets of the input from `info_start` on.
-pub struct Decoded {
-    pub answer: DecodeAnswer,
-    pub frame: Ax25Frame,
-    pub info_start: usize,
-    pub info_len: usize,
-}
-
 pub enum WriteAnswer {
     Accepted,
     RouteTooLong,
@@ -72,25 +49,6 @@ pub enum WriteAnswer {
 pub struct Written {
     pub answer: WriteAnswer,
     pub length: usize,
-}
-
-impl DecodeAnswer {
-    pub fn number(self) -> u32
-        ensures { λ r. ⌜ r ≡ numberOf self ⌝ }
-    {
-        match self {
-            DecodeAnswer::Accepted => 0,
-            DecodeAnswer::OnlyNullBytes => 1,
-            DecodeAnswer::NoEndToAddressField => 2,
-            DecodeAnswer::AddressFieldTooShort { start: _, end: _ } => 3,
-            DecodeAnswer::FrameTooShort { len: _ } => 4,
-            DecodeAnswer::MissingPidField => 5,
-            DecodeAnswer::UnrecognisedSFieldType => 6,
-            DecodeAnswer::UnrecognisedUFieldType => 7,
-            DecodeAnswer::WrongSizeFrmrInfo => 8,
-            DecodeAnswer::TooManyRepeaters => 9,
-        }
-    }
 }
 
 impl WriteAnswer {

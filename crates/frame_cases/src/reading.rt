@@ -7,7 +7,7 @@ use show_frame::rooms;
 
 // One line, and three more where the input is accepted.
 pub fn read(input: &[u8]) {
-    let d = Ax25Frame::from_bytes(input);
+    let d = decode::from_bytes(input);
     frames::line(d);
     rooms::again(d, input);
 }

@@ -9,14 +9,14 @@ use lib.Dec.{eqb, ltb}
 use lib.ListN.{length, drop}
 use Rattle.octets.specs.Octet.{bit}
 use Rattle.octets.proofs.First.{first-le}
-use Rattle.content.specs.Content.{contentOf}
+use Rattle.parse.specs.Content.{contentOf}
 use Rattle.content.specs.declared.FrameContent.{FrameContent}
-use Rattle.content.specs.declared.ContentAnswer.{ContentAnswer}
-use Rattle.content.specs.declared.ContentAnswer.the-variants as content
-use Rattle.frame.specs.Frame.{isAccepted}
-use Rattle.frame.specs.Read.{nonzero, startOf, endOf, repeatersOf, frameAt, refusedWith, acceptedWith, withContent, decodeField, decode}
-use Rattle.frame.specs.declared.Decoded.{Decoded}
-use Rattle.frame.specs.declared.DecodeAnswer.{DecodeAnswer}
+use Rattle.parse.specs.declared.ContentAnswer.{ContentAnswer}
+use Rattle.parse.specs.declared.ContentAnswer.the-variants as content
+use Rattle.decode.specs.Answer.{isAccepted}
+use Rattle.decode.specs.Read.{nonzero, startOf, endOf, repeatersOf, frameAt, refusedWith, acceptedWith, withContent, decodeField, decode}
+use Rattle.decode.specs.declared.Decoded.{Decoded}
+use Rattle.decode.specs.declared.DecodeAnswer.{DecodeAnswer}
 
 pub record Accepts (s : List ℕ) (d : Decoded) : Type 0 where
   pub count : ℕ

@@ -15,17 +15,17 @@ use Rattle.address.specs.Address.{PlainAddress}
 use Rattle.address.specs.Group.{groupOf, addressOf, markOf}
 use Rattle.address.specs.declared.Address.{Address}
 use Rattle.address.proofs.Laws.{group-length, read-written, mark-written}
-use Rattle.content.specs.Content.{hasInfo, contentOf}
-use Rattle.content.specs.Spell.{front}
-use Rattle.content.specs.declared.ContentAnswer.the-variants.{Accepted}
-use Rattle.content.proofs.Laws.{content-back, content-some, front-two}
-use Rattle.frame.specs.Read.{startOf, endOf, groupAt, parsedAt, entryAt, placeAt, routeAt, commandOf, frameAt, acceptedWith, withContent, decodeField, decode, infoIn}
+use Rattle.content.specs.Spell.{hasInfo, front}
+use Rattle.parse.specs.Content.{contentOf}
+use Rattle.parse.specs.declared.ContentAnswer.the-variants.{Accepted}
+use Rattle.lean.proofs.Laws.{content-back, content-some, front-two}
+use Rattle.decode.specs.Read.{startOf, endOf, groupAt, parsedAt, entryAt, placeAt, routeAt, commandOf, frameAt, acceptedWith, withContent, decodeField, decode, infoIn}
 use Rattle.frame.specs.Spell.{repeaterAt, groupsOf, destinationMark, sourceMark, addressField, spell, marked, Plain, placeInUse, routeInUse, inUse}
 use Rattle.frame.specs.declared.Mark.{Mark}
 use Rattle.frame.specs.declared.Mark.the-variants.{Command, Response, Absent}
 use Rattle.frame.specs.declared.RouteEntry.{RouteEntry}
 use Rattle.frame.specs.declared.Ax25Frame.{Ax25Frame}
-use Rattle.frame.specs.declared.Decoded.{Decoded}
+use Rattle.decode.specs.declared.Decoded.{Decoded}
 use Rattle.grammar.proofs.Ends.{end-past, end-route, start-here}
 use Rattle.frame.proofs.Write.{groups-length, spell-length, marks-differ}
 

@@ -17,19 +17,19 @@ use Rattle.octets.proofs.Octet.{octets-drop, octets-take}
 use Rattle.octets.proofs.First.{first-passes, first-before, first-is}
 use Rattle.address.specs.Group.{groupOf, reserved, reservedSet}
 use Rattle.address.proofs.Laws.{group-reserved, written-exact, reserved-last}
-use Rattle.content.specs.Content.{hasInfo, contentOf}
-use Rattle.content.specs.Spell.{front, spellContent}
-use Rattle.content.specs.Lean.{lean, infoOf}
+use Rattle.content.specs.Spell.{hasInfo, front, spellContent}
+use Rattle.parse.specs.Content.{contentOf}
+use Rattle.lean.specs.Lean.{lean, infoOf}
 use Rattle.content.specs.declared.FrameContent.{FrameContent}
-use Rattle.content.proofs.Laws.{content-exact, front-some}
-use Rattle.content.proofs.Lean.{lean-spelled}
-use Rattle.frame.specs.Read.{nonzero, startOf, endOf, groupAt, parsedAt, entryAt, placeAt, routeAt, commandOf, frameAt, acceptedWith, decode, infoIn}
+use Rattle.lean.proofs.Laws.{content-exact, front-some}
+use Rattle.lean.proofs.Lean.{lean-spelled}
+use Rattle.decode.specs.Read.{nonzero, startOf, endOf, groupAt, parsedAt, entryAt, placeAt, routeAt, commandOf, frameAt, acceptedWith, decode, infoIn}
 use Rattle.frame.specs.Spell.{repeaterAt, groupsOf, destinationMark, sourceMark, addressField, spell, marked, Plain, inUse}
 use Rattle.frame.proofs.Write.{spell-length}
 use Rattle.frame.specs.declared.Mark.{Mark}
 use Rattle.frame.specs.declared.Mark.the-variants.{Command, Response, Absent}
 use Rattle.frame.specs.declared.Ax25Frame.{Ax25Frame}
-use Rattle.frame.specs.declared.Decoded.{Decoded}
+use Rattle.decode.specs.declared.Decoded.{Decoded}
 use Rattle.grammar.specs.Direct.{reservedGroups, direct}
 use Rattle.grammar.proofs.Accepted.{Accepts}
 use Rattle.grammar.proofs.Back.{spelled-start, group-front, group-in, in-order, after-dest, after-src, after-field, spelled-end, frame-spell}

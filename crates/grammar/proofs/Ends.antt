@@ -15,7 +15,7 @@ use Rattle.address.specs.Address.{PlainAddress}
 use Rattle.address.specs.Group.{groupOf}
 use Rattle.address.specs.declared.Address.{Address}
 use Rattle.address.proofs.Laws.{group-length, group-even, group-end, group-starts}
-use Rattle.frame.specs.Read.{nonzero, startOf, endOf}
+use Rattle.decode.specs.Read.{nonzero, startOf, endOf}
 use Rattle.frame.specs.Spell.{groupsOf}
 use Rattle.frame.specs.declared.RouteEntry.{RouteEntry}
 

@@ -10,19 +10,20 @@ use lib.ListN.{length, length-drop, drop}
 use Rattle.octets.specs.Octet.{bit}
 use Rattle.octets.proofs.Choice.{by, either}
 use Rattle.octets.proofs.First.{first-all, first-le}
-use Rattle.content.specs.Content as content
+use Rattle.parse.specs.Content as content
 use Rattle.content.specs.Encode.{strayInfo}
-use Rattle.content.specs.Numbers.{rows, lacksPid, strangeS, strangeU, wrongFrmr}
-use Rattle.content.proofs.Laws.{numbers, rows-some}
-use Rattle.content.specs.declared.ContentAnswer.{ContentAnswer}
-use Rattle.content.specs.declared.ContentAnswer.the-variants.{Accepted, ContentZeroLength, MissingPidField, UnrecognisedSFieldType, UnrecognisedUFieldType, WrongSizeFrmrInfo}
-use Rattle.frame.specs.Frame.{Report, number, reportOf, numberOf, writeNumber}
+use Rattle.parse.specs.Numbers.{rows, lacksPid, strangeS, strangeU, wrongFrmr}
+use Rattle.parse.proofs.Numbers.{numbers, rows-some}
+use Rattle.parse.specs.declared.ContentAnswer.{ContentAnswer}
+use Rattle.parse.specs.declared.ContentAnswer.the-variants.{Accepted, ContentZeroLength, MissingPidField, UnrecognisedSFieldType, UnrecognisedUFieldType, WrongSizeFrmrInfo}
+use Rattle.decode.specs.Answer.{Report, number, reportOf, numberOf}
+use Rattle.frame.specs.Frame.{writeNumber}
 use Rattle.frame.specs.Spell.{spell}
 use Rattle.frame.specs.Write.{frameEncodable, writeAnswer}
 use Rattle.frame.specs.declared.Ax25Frame.{Ax25Frame}
-use Rattle.frame.specs.Read.{nonzero, startOf, endOf, repeatersOf, refusedWith, acceptedWith, refusalOf, withContent, decodeField, decode}
-use Rattle.frame.specs.Numbers.{noStart, noEnd, shortField, noContent, manyRepeaters, reported}
-use Rattle.frame.specs.declared.Decoded.{Decoded}
+use Rattle.decode.specs.Read.{nonzero, startOf, endOf, repeatersOf, refusedWith, acceptedWith, refusalOf, withContent, decodeField, decode}
+use Rattle.decode.specs.Numbers.{noStart, noEnd, shortField, noContent, manyRepeaters, reported}
+use Rattle.decode.specs.declared.Decoded.{Decoded}
 
 -- the content's answer by its number
 content-report : (s : List ℕ) (start n control : ℕ) (a : ContentAnswer)

@@ -15,18 +15,19 @@ use Rattle.octets.proofs.Octet.{octets-drop, octets-take}
 use Rattle.octets.proofs.First.{first-passes, first-before}
 use Rattle.address.specs.Address.{PlainAddress}
 use Rattle.address.proofs.Laws.{read-plain, no-call-plain, group-character}
-use Rattle.content.specs.Content.{hasInfo}
-use Rattle.content.specs.Spell.{front, PlainContent}
+use Rattle.content.specs.Spell.{hasInfo, front, PlainContent}
 use Rattle.content.specs.declared.FrameContent.{FrameContent}
-use Rattle.content.proofs.Laws.{content-plain, content-fits, content-some, content-room, front-two}
-use Rattle.frame.specs.Frame.{noEntry, isAccepted}
-use Rattle.frame.specs.Read.{nonzero, startOf, endOf, groupAt, parsedAt, entryAt, placeAt, routeAt, frameAt, acceptedWith, decode, infoIn}
+use Rattle.lean.proofs.Laws.{content-plain, content-fits, content-some, front-two}
+use Rattle.parse.proofs.Read.{content-room}
+use Rattle.frame.specs.Frame.{noEntry}
+use Rattle.decode.specs.Answer.{isAccepted}
+use Rattle.decode.specs.Read.{nonzero, startOf, endOf, groupAt, parsedAt, entryAt, placeAt, routeAt, frameAt, acceptedWith, decode, infoIn}
 use Rattle.frame.specs.Spell.{repeaterAt, marked, madeCommand, withMark, spell, Plain, placeInUse, routeInUse, inUse}
 use Rattle.frame.proofs.Write.{spell-length}
 use Rattle.frame.specs.declared.Mark.{Mark}
 use Rattle.frame.specs.declared.Mark.the-variants.{Command, Response, Absent}
 use Rattle.frame.specs.declared.Ax25Frame.{Ax25Frame}
-use Rattle.frame.specs.declared.Decoded.{Decoded}
+use Rattle.decode.specs.declared.Decoded.{Decoded}
 use Rattle.grammar.proofs.Accepted.{Accepts, accepts}
 
 made-marked : (m : Mark) → marked (madeCommand m) ≡ true

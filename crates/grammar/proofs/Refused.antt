@@ -7,22 +7,23 @@ use native.Mathlib.Omega.{arith}
 use lib.Dec.{eqb, ltb}
 use lib.ListN.{length, drop}
 use Rattle.octets.proofs.Choice.{by, either}
-use Rattle.content.specs.Content.{contentOf}
+use Rattle.parse.specs.Content.{contentOf}
 use Rattle.content.specs.declared.FrameContent.{FrameContent}
 use Rattle.content.specs.declared.FrameContent.the-variants as kind
 use Rattle.content.specs.declared.UnnumberedInformation.{UnnumberedInformation}
-use Rattle.content.specs.declared.ContentAnswer.{ContentAnswer}
-use Rattle.content.specs.declared.ContentAnswer.the-variants as content
-use Rattle.content.proofs.Laws.{never-unknown}
-use Rattle.frame.specs.Frame.{isAccepted, writeNumber, simpleUi, defaultFrame}
+use Rattle.parse.specs.declared.ContentAnswer.{ContentAnswer}
+use Rattle.parse.specs.declared.ContentAnswer.the-variants as content
+use Rattle.lean.proofs.Laws.{never-unknown}
+use Rattle.decode.specs.Answer.{isAccepted}
+use Rattle.frame.specs.Frame.{writeNumber, simpleUi, defaultFrame}
 use Rattle.frame.specs.Spell.{spell}
 use Rattle.frame.specs.Write.{writeAnswer, octetsBy, octetsWritten}
 use Rattle.frame.specs.declared.WriteAnswer.{WriteAnswer}
 use Rattle.frame.specs.declared.WriteAnswer.the-variants as write
-use Rattle.frame.specs.Read.{startOf, endOf, repeatersOf, frameAt, refusedWith, acceptedWith, withContent, decodeField, decode}
+use Rattle.decode.specs.Read.{startOf, endOf, repeatersOf, frameAt, refusedWith, acceptedWith, withContent, decodeField, decode}
 use Rattle.frame.specs.declared.Ax25Frame.{Ax25Frame}
-use Rattle.frame.specs.declared.Decoded.{Decoded}
-use Rattle.frame.specs.declared.DecodeAnswer.{DecodeAnswer}
+use Rattle.decode.specs.declared.Decoded.{Decoded}
+use Rattle.decode.specs.declared.DecodeAnswer.{DecodeAnswer}
 use Rattle.grammar.proofs.Accepted.{Accepts, accepts}
 
 abbrev Bare : Decoded → Type 0

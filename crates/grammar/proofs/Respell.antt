@@ -10,10 +10,10 @@ use lib.ListN.{length, getD}
 use Rattle.octets.specs.Octet.{Octets}
 use Rattle.octets.proofs.Choice.{by}
 use Rattle.address.specs.Address.{PlainAddress}
-use Rattle.content.specs.Content.{hasInfo}
+use Rattle.content.specs.Spell.{hasInfo}
 use Rattle.content.specs.Encode.{strayInfo}
-use Rattle.frame.specs.Frame.{isAccepted}
-use Rattle.frame.specs.Read.{acceptedWith, decode, infoIn}
+use Rattle.decode.specs.Answer.{isAccepted}
+use Rattle.decode.specs.Read.{acceptedWith, decode, infoIn}
 use Rattle.frame.specs.Write.{routeEncodable, frameEncodable, writeAnswer, octetsWritten, written}
 use Rattle.frame.specs.declared.WriteAnswer.the-variants.{Accepted, NoRoom}
 use Rattle.frame.specs.Spell.{repeaterAt, groupsOf, destinationMark, sourceMark, addressField, spell, madeCommand, withMark, Plain, placeInUse, routeInUse, inUse}
@@ -21,7 +21,7 @@ use Rattle.frame.specs.declared.Mark.{Mark}
 use Rattle.frame.specs.declared.Mark.the-variants.{Command, Response, Absent}
 use Rattle.frame.specs.declared.RouteEntry.{RouteEntry}
 use Rattle.frame.specs.declared.Ax25Frame.{Ax25Frame}
-use Rattle.frame.specs.declared.Decoded.{Decoded}
+use Rattle.decode.specs.declared.Decoded.{Decoded}
 use Rattle.grammar.proofs.Back.{decode-spell}
 use Rattle.grammar.proofs.Plain.{read}
 

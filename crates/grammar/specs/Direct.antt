@@ -5,8 +5,8 @@ use mathlib.Core.List.{List}
 use lib.ListN.{getD, drop}
 use Rattle.octets.specs.Octet.{bit}
 use Rattle.address.specs.Group.{reserved}
-use Rattle.content.specs.Lean.{lean}
-use Rattle.frame.specs.Read.{nonzero, groupAt}
+use Rattle.lean.specs.Lean.{lean}
+use Rattle.decode.specs.Read.{nonzero, groupAt}
 use Rattle.frame.specs.Spell.{marked}
 use Rattle.frame.specs.declared.Mark.{Mark}
 

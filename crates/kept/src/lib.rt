@@ -1,6 +1,6 @@
 // The demands as contracts of the code: each function only calls the product's, and its contract is the demand.
 use frame::Ax25Frame;
-use frame::Decoded;
+use decode::Decoded;
 use frame::Written;
 use spelling::Reencoded;
 ghost use mathlib.Core.Path.{_≡_};
@@ -9,8 +9,9 @@ ghost use mathlib.Core.List.{_++_};
 ghost use mathlib.Core.Logic.{_↔_};
 ghost use Prim.Native.Nat.{ℕ, _≤_};
 ghost use lib.ListN.{length, drop};
-ghost use Rattle.frame.specs.Frame.{numberOf, writeNumber, isAccepted};
-ghost use Rattle.frame.specs.Read.{decode};
+ghost use Rattle.decode.specs.Answer.{numberOf, isAccepted};
+ghost use Rattle.frame.specs.Frame.{writeNumber};
+ghost use Rattle.decode.specs.Read.{decode};
 ghost use Rattle.spelling.specs.Canonical.{again};
 ghost use Rattle.spelling.specs.declared.ReencodeAnswer.the-variants.{Written as Done};
 ghost use Rattle.demands.specs.Table.{FirstRow};
@@ -28,7 +29,7 @@ pub fn canonical(bytes: &[u8]) -> bool
 pub fn decoded(bytes: &[u8]) -> Decoded
     ensures { λ r. ⌜ FirstRow (decodeTable (now (bytes .entry))) (numberOf (r .answer)) ⌝ }
 {
-    Ax25Frame::from_bytes(bytes)
+    decode::from_bytes(bytes)
 }
 
 // Demand 1: so for writing, and a refusal leaves the buffer as it was.

@@ -4,8 +4,8 @@ ghost use mathlib.Core.Path.{_≡_};
 ghost use mathlib.Core.Bool.{cond};
 ghost use lib.ListN.{length};
 ghost use Rattle.octets.specs.Splice.{splice};
-ghost use Rattle.frame.specs.Frame.{numberOf};
-ghost use Rattle.frame.specs.Read.{decode};
+ghost use Rattle.decode.specs.Answer.{numberOf};
+ghost use Rattle.decode.specs.Read.{decode};
 ghost use Rattle.spelling.specs.Canonical.{canonical};
 ghost use Rattle.spelling.specs.Reencode.{due, reencode, reencoded, reencodeNumber};
 
@@ -14,7 +14,7 @@ ghost use Rattle.spelling.specs.Reencode.{due, reencode, reencoded, reencodeNum
 pub extern "C" fn ax25_decode(input: &[u8]) -> u32
     ensures { λ r. ⌜ r ≡ numberOf (decode (now (input .entry)) .answer) ⌝ }
 {
-    let decoded = Ax25Frame::from_bytes(input);
+    let decoded = decode::from_bytes(input);
     let answer = decoded.answer;
     answer.number()
 }

@@ -17,9 +17,9 @@ use Rattle.frame.specs.declared.Mark.{Mark}
 use Rattle.frame.specs.declared.Mark.the-variants.{Command, Response, Absent}
 use Rattle.frame.specs.declared.RouteEntry.{RouteEntry}
 use Rattle.frame.specs.declared.Ax25Frame.{Ax25Frame}
-use Rattle.frame.specs.declared.DecodeAnswer.{DecodeAnswer}
-use Rattle.frame.specs.declared.Decoded.{Decoded}
-use Rattle.frame.specs.Frame.{reportOf}
+use Rattle.decode.specs.declared.DecodeAnswer.{DecodeAnswer}
+use Rattle.decode.specs.declared.Decoded.{Decoded}
+use Rattle.decode.specs.Answer.{reportOf}
 use Rattle.frame.specs.Spell.{repeaterAt}
 
 -- an address: the six octets of the callsign, the SSID

@@ -5,9 +5,10 @@ ghost use mathlib.Core.Path.{_≡_};
 ghost use mathlib.Core.Bool.{cond, _||_};
 ghost use mathlib.Core.List.{[], _∷_};
 ghost use lib.ListN.{length};
-ghost use Rattle.address.specs.Text.{addressNumberOf, readParts, readText, printNumberOf, printed, printedInto};
-ghost use Rattle.frame.specs.Frame.{numberOf, writeNumber, simpleUi, defaultFrame};
-ghost use Rattle.frame.specs.Read.{decode};
+ghost use Rattle.text.specs.Text.{addressNumberOf, readParts, readText, printNumberOf, printed, printedInto};
+ghost use Rattle.decode.specs.Answer.{numberOf};
+ghost use Rattle.frame.specs.Frame.{writeNumber, simpleUi, defaultFrame};
+ghost use Rattle.decode.specs.Read.{decode};
 ghost use Rattle.frame.specs.Write.{written, octetsWritten};
 ghost use Rattle.probe.specs.Flat.{addressFlat, flatOf, placesOf};
 ghost use Rattle.probe.specs.Given.{addressAt, frameFrom};
@@ -39,7 +40,7 @@ pub extern "C" fn probe_decode(input: &[u8], flat: &mut [u8], places: &mut [usiz
     if places.len() < PLACES {
         return NO_ROOM;
     }
-    let decoded = Ax25Frame::from_bytes(input);
+    let decoded = decode::from_bytes(input);
     let answer = decoded.answer;
     let frame = decoded.frame;
     flat::put_frame(flat, frame);
@@ -73,7 +74,7 @@ pub extern "C" fn probe_from_parts(callsign: &[u8], ssid: u8, flat: &mut [u8]) -
     if flat.len() < ADDRESS {
         return NO_ROOM;
     }
-    let read = address::text::from_parts(callsign, ssid);
+    let read = text::from_parts(callsign, ssid);
     let answer = read.answer;
     let address = read.address;
     flat::put_address(flat, 0, address);
@@ -89,7 +90,7 @@ pub extern "C" fn probe_from_str(text: &[u8], flat: &mut [u8]) -> u32
     if flat.len() < ADDRESS {
         return NO_ROOM;
     }
-    let read = address::text::from_str(text);
+    let read = text::from_str(text);
     let answer = read.answer;
     let address = read.address;
     flat::put_address(flat, 0, address);
@@ -107,7 +108,7 @@ pub extern "C" fn probe_print(flat: &[u8], out: &mut [u8], len: &mut [usize]) ->
         return NO_ROOM;
     }
     let address = given::address_at(flat, 0);
-    let printed = address::text::print(address, out);
+    let printed = text::print(address, out);
     let answer = printed.answer;
     len[0] = printed.length;
     answer.number()

@@ -2,8 +2,8 @@
 use address::Address;
 use content::FrameContent;
 use frame::Ax25Frame;
-use frame::DecodeAnswer;
-use frame::Decoded;
+use decode::DecodeAnswer;
+use decode::Decoded;
 use frame::Mark;
 use frame::RouteEntry;
 

@@ -2,7 +2,7 @@
 use super::cutting::first;
 use super::cutting::part;
 use frame::Ax25Frame;
-use frame::Decoded;
+use decode::Decoded;
 use frame::Written;
 
 // Shown: number, length, and the lent octets with the three behind them.

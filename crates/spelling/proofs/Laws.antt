@@ -12,8 +12,8 @@ use Rattle.octets.specs.Same.{same}
 use Rattle.octets.proofs.Choice.{by, both, equal}
 use Rattle.octets.proofs.Same.{same-refl, same-eq}
 use Rattle.content.specs.Spell.{front}
-use Rattle.frame.specs.Frame.{isAccepted}
-use Rattle.frame.specs.Read.{decode, infoIn}
+use Rattle.decode.specs.Answer.{isAccepted}
+use Rattle.decode.specs.Read.{decode, infoIn}
 use Rattle.frame.specs.Spell.{withMark, spell, Plain, inUse}
 use Rattle.frame.specs.Write.{octetsWritten, written}
 use Rattle.frame.specs.declared.Ax25Frame.{Ax25Frame}

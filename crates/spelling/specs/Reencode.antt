@@ -4,8 +4,8 @@ use mathlib.Core.Bool.{Bool, cond}
 use mathlib.Core.List.{List, []}
 use lib.Dec.{ltb}
 use lib.ListN.{length}
-use Rattle.frame.specs.Frame.{numberOf, isAccepted}
-use Rattle.frame.specs.Read.{decode}
+use Rattle.decode.specs.Answer.{numberOf, isAccepted}
+use Rattle.decode.specs.Read.{decode}
 use Rattle.frame.specs.declared.WriteAnswer.{WriteAnswer}
 use Rattle.frame.specs.declared.WriteAnswer.the-variants as write
 use Rattle.spelling.specs.Canonical.{again}

@@ -1,6 +1,6 @@
 // One spelling: the canonical check, and re-encoding.
 use frame::Ax25Frame;
-use frame::DecodeAnswer;
+use decode::DecodeAnswer;
 use frame::Mark;
 use frame::WriteAnswer;
 ghost use mathlib.Core.Path.{_≡_};
@@ -81,14 +81,14 @@ fn is_direct(bytes: &[u8], count: usize, mark: Mark) -> bool
         return false;
     }
     let control = 14 + 7 * count;
-    content::is_lean(&bytes[control..])
+    lean::is_lean(&bytes[control..])
 }
 
 // Whether the octets are the one spelling of a frame.
 pub fn is_canonical(bytes: &[u8]) -> bool
     ensures { λ r. ⌜ r ≡ canonical (now (bytes .entry)) ⌝ }
 {
-    let decoded = Ax25Frame::from_bytes(bytes);
+    let decoded = decode::from_bytes(bytes);
     let answer = decoded.answer;
     let DecodeAnswer::Accepted = answer else {
         return false;
@@ -102,7 +102,7 @@ pub fn is_canonical(bytes: &[u8]) -> bool
 pub fn reencoded_length(bytes: &[u8]) -> usize
     ensures { λ r. ⌜ r ≡ length (due (now (bytes .entry))) ⌝ }
 {
-    let decoded = Ax25Frame::from_bytes(bytes);
+    let decoded = decode::from_bytes(bytes);
     let answer = decoded.answer;
     let DecodeAnswer::Accepted = answer else {
         return 0;
@@ -130,7 +130,7 @@ pub fn reencode(bytes: &[u8], out: &mut [u8]) -> Reencoded
     ensures { λ r. ⌜ r ≡ reencode (now (bytes .entry)) (length (now (out .entry))) ⌝ }
     ensures { λ r. ⌜ now (out .exit) ≡ splice (now (out .entry)) 0 (reencoded (now (bytes .entry)) (length (now (out .entry)))) ⌝ }
 {
-    let decoded = Ax25Frame::from_bytes(bytes);
+    let decoded = decode::from_bytes(bytes);
     let answer = decoded.answer;
     let DecodeAnswer::Accepted = answer else {
         return Reencoded {

@@ -1,8 +1,8 @@
 use mathlib.Core.Path.{_≡_, refl}
 use mathlib.Core.Bool.{Bool, true, false}
-use Rattle.frame.specs.Frame.{isAccepted}
-use Rattle.frame.specs.declared.Decoded.{Decoded}
-use Rattle.frame.proofs.Read.{told-refused}
+use Rattle.decode.specs.Answer.{isAccepted}
+use Rattle.decode.specs.declared.Decoded.{Decoded}
+use Rattle.decode.proofs.Read.{told-refused}
 use Rattle.dump.specs.Dump.{frameText, refusalText, decodedText}
 use borrow.Author.Needs.{needs}
 use Rattle.dump.proofs.put_decoded.Statement.{statement}

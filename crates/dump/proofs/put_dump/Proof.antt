@@ -4,7 +4,7 @@ use native.Mathlib.Omega.{arith}
 use mathlib.Core.List.{List}
 use borrow.Author.Tests.{lt-ltb, le-ltb}
 use lib.ListN.{length}
-use Rattle.frame.specs.Read.{decode}
+use Rattle.decode.specs.Read.{decode}
 use Rattle.grammar.proofs.Plain.{inside}
 use Rattle.spelling.specs.Canonical.{canonical}
 use Rattle.dump.specs.Text.{decimal}

@@ -5,7 +5,7 @@ use native.Mathlib.Omega.{arith}
 use Prim.Native.Nat.{ℕ, _+_, _≤_}
 use mathlib.Core.List.{List, _++_}
 use lib.ListN.{length}
-use Rattle.frame.specs.declared.Decoded.{Decoded}
+use Rattle.decode.specs.declared.Decoded.{Decoded}
 use Rattle.dump.specs.Text.{decimal, textIn}
 use Rattle.dump.specs.Dump.{line, yesNo, stationLines, contentLines, frameText}
 use Rattle.dump.proofs.Short.{yes-no-short}

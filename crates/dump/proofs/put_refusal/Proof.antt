@@ -2,8 +2,8 @@
 use Prim.Native.Nat.{ℕ, _+_, _≤_}
 use mathlib.Core.List.{List, _++_}
 use lib.ListN.{length}
-use Rattle.frame.specs.Frame.{numberOf}
-use Rattle.frame.specs.declared.DecodeAnswer.{DecodeAnswer}
+use Rattle.decode.specs.Answer.{numberOf}
+use Rattle.decode.specs.declared.DecodeAnswer.{DecodeAnswer}
 use Rattle.dump.specs.Text.{decimal, Put}
 use Rattle.dump.specs.Dump.{line, detailText, refusalText}
 use Rattle.dump.proofs.Laws.{from-zero, fits-first, fits-next, put-then}

@@ -2,9 +2,9 @@
 use mathlib.Core.Path.{_≡_, refl, ap, sym, _∙_}
 use mathlib.Core.Bool.{true, false}
 use Rattle.octets.specs.Octet.{Octets}
-use Rattle.frame.specs.Frame.{isAccepted}
-use Rattle.frame.specs.Read.{decode}
-use Rattle.frame.proofs.Read.{told-refused}
+use Rattle.decode.specs.Answer.{isAccepted}
+use Rattle.decode.specs.Read.{decode}
+use Rattle.decode.proofs.Read.{told-refused}
 use Rattle.grammar.proofs.Plain.{inside}
 use Rattle.spelling.proofs.Laws.{canonical-direct, refused-not-canonical}
 use borrow.Author.Needs.{needs}

@@ -9,7 +9,7 @@ use Rattle.octets.specs.Octet.{bit}
 use Rattle.octets.proofs.Bits.{bit-test}
 use Rattle.octets.proofs.Splice.{part-from}
 use Rattle.frame.specs.Spell.{marked}
-use Rattle.frame.specs.Read.{nonzero}
+use Rattle.decode.specs.Read.{nonzero}
 use Rattle.grammar.specs.Direct.{reservedGroups}
 use Rattle.grammar.proofs.Direct.{direct-is}
 use borrow.Author.Needs.{needs}

@@ -6,9 +6,9 @@ use native.Mathlib.Omega.{arith}
 use lib.ListN.{length, take, drop}
 use Rattle.octets.specs.Octet.{Octets}
 use Rattle.octets.proofs.Splice.{splice-none}
-use Rattle.frame.specs.Frame.{isAccepted}
-use Rattle.frame.specs.Read.{decode, infoIn}
-use Rattle.frame.proofs.Read.{told-refused}
+use Rattle.decode.specs.Answer.{isAccepted}
+use Rattle.decode.specs.Read.{decode, infoIn}
+use Rattle.decode.proofs.Read.{told-refused}
 use Rattle.grammar.proofs.Plain.{Inside, inside}
 use Rattle.spelling.proofs.Laws.{refused-answer, accepted-answer}
 use borrow.Author.Needs.{needs}

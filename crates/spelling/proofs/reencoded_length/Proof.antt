@@ -6,9 +6,9 @@ use native.Mathlib.Omega.{arith}
 use lib.ListN.{length}
 use Rattle.octets.specs.Octet.{Octets}
 use Rattle.content.proofs.Encode.{front-short}
-use Rattle.frame.specs.Frame.{isAccepted}
-use Rattle.frame.specs.Read.{decode}
-use Rattle.frame.proofs.Read.{told-refused}
+use Rattle.decode.specs.Answer.{isAccepted}
+use Rattle.decode.specs.Read.{decode}
+use Rattle.decode.proofs.Read.{told-refused}
 use Rattle.grammar.proofs.Plain.{Inside, inside}
 use Rattle.spelling.specs.Reencode.{due}
 use Rattle.spelling.proofs.Laws.{due-refused, due-length, due-fits}

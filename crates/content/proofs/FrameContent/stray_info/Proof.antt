@@ -2,7 +2,7 @@
 use mathlib.Core.Path.{_≡_, refl, sym, _∙_}
 use mathlib.Core.Bool.{false}
 use borrow.Author.Needs.{needs}
-use Rattle.content.specs.Content.{hasInfo}
+use Rattle.content.specs.Spell.{hasInfo}
 use Rattle.content.proofs.FrameContent.stray_info.Statement.{statement}
 use Rattle.content.proofs.FrameContent.stray_info.Tie as tie
 

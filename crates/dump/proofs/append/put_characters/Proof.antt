@@ -3,14 +3,13 @@ use mathlib.Core.List.{_++_}
 use lib.ListN.{getD}
 use lib.Seq.{take-all}
 use Rattle.octets.proofs.Splice.{splice-length}
-use Rattle.dump.specs.Text.{character, textIn}
+use Rattle.dump.specs.Text.{character, textIn, characters, Put}
 use Rattle.dump.proofs.Laws.{put-none, fits-next, put-then, word-is, characters-next, characters-fit}
 use Rattle.dump.proofs.Short.{character-short}
 use mathlib.Core.Path.{_≡_, refl, ap, sym, _∙_}
 use native.Mathlib.Omega.{arith}
 use Prim.Native.Nat.{_-_, _≤_}
 use lib.ListN.{length, take}
-use Rattle.dump.specs.Text.{characters, Put}
 use borrow.Author.Needs.{needs}
 use Rattle.dump.proofs.append.put_characters.Statement.{statement}
 use Rattle.dump.proofs.append.put_characters.Tie as tie

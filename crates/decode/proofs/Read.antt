@@ -1,0 +1,90 @@
+-- Laws of reading that the functions' proofs share: the seven octets of a group, a route with one repeater more, the start no
+-- later than the end, a refused content.
+use Prim.Native.Nat.{ℕ, zero, suc, _+_, _*_, _%_, _/_, _≤_, _<_}
+use mathlib.Core.Path.{_≡_, refl, ap, sym, _∙_}
+use mathlib.Core.Bool.{Bool, true, false, cond, not}
+use mathlib.Core.List.{List, [], _∷_}
+use native.Mathlib.Nat.{add-suc, mod-eq-of-lt}
+use native.Mathlib.Numerals.{add-one}
+use native.Mathlib.Omega.{arith}
+use borrow.Author.Tests.{ne-eqb, eqb-true}
+use types.Run.{OneOf, miss}
+use denote.Enum.Declared.{tagOf}
+use lib.Bits.{and-mask}
+use lib.ListN.{length, getD, set, drop}
+use lib.Seq.{drop-cons}
+use Rattle.octets.specs.Octet.{Octets, bit}
+use Rattle.octets.specs.First.{first}
+use Rattle.octets.proofs.Bits.{bit-test}
+use Rattle.octets.proofs.First.{first-sooner, first-same}
+use Rattle.parse.proofs.ContentAnswer.{the-type}
+use Rattle.parse.specs.declared.ContentAnswer.{ContentAnswer}
+use Rattle.parse.specs.declared.ContentAnswer.the-variants as content
+use Rattle.decode.specs.Answer.{isAccepted}
+use Rattle.decode.specs.declared.DecodeAnswer.{DecodeAnswer}
+use Rattle.decode.specs.declared.DecodeAnswer.the-variants as answer
+use Rattle.decode.proofs.DecodeAnswer.{the-type as decode-type}
+use Rattle.search.specs.Search.{masked}
+use Rattle.decode.specs.Read.{nonzero, startOf, endOf, groupAt, entryAt, placeAt, routeAt, refusedWith, refusalOf, withContent}
+
+-- the seven octets of a group, one by one
+pub group-seven : (s : List ℕ) (at : ℕ) → at + 7 ≤ length s
+    → getD s at 0 ∷ getD s (at + 1) 0 ∷ getD s (at + 2) 0 ∷ getD s (at + 3) 0 ∷ getD s (at + 4) 0 ∷ getD s (at + 5) 0 ∷ getD s (at + 6) 0 ∷ []
+    ≡ groupAt s at
+group-seven s at h =
+    let z : drop at s ≡ getD s at 0 ∷ drop (at + 1) s = rw add-one (drop-cons s at 0 (omega arith)) in
+    sym (rw (z, from 1 (omega arith), from 2 (omega arith), from 3 (omega arith), from 4 (omega arith), from 5 (omega arith), from 6 (omega arith)))
+  where
+    from : (k : ℕ) → k < 7 → drop (at + k) s ≡ getD s (at + k) 0 ∷ drop (at + suc k) s
+    from k l = rw (add-suc, drop-cons s (at + k) 0 (omega arith))
+
+-- a route of one repeater more
+pub route-next : (s : List ℕ) (at i : ℕ) → i < 8 → set (routeAt s at i) i (entryAt s (at + 7 * i)) ≡ routeAt s at (i + 1)
+unfolding routeAt placeAt
+route-next s at zero h = refl
+route-next s at (suc zero) h = refl
+route-next s at (suc (suc zero)) h = refl
+route-next s at (suc (suc (suc zero))) h = refl
+route-next s at (suc (suc (suc (suc zero)))) h = refl
+route-next s at (suc (suc (suc (suc (suc zero))))) h = refl
+route-next s at (suc (suc (suc (suc (suc (suc zero)))))) h = refl
+route-next s at (suc (suc (suc (suc (suc (suc (suc zero))))))) h = refl
+route-next s at (suc (suc (suc (suc (suc (suc (suc (suc i)))))))) h = absurd (omega arith)
+
+-- an octet with its low bit set is not zero
+low-nonzero : (x : ℕ) → bit 0 x ≡ true → nonzero x ≡ true
+low-nonzero x e = ap not (ne-eqb x 0 (λ z. let o : x / 1 % 2 ≡ 1 = eqb-true _ _ e in omega arith))
+
+pub start-le-end : (s : List ℕ) → startOf s ≤ endOf s
+start-le-end s = first-sooner (bit 0) nonzero low-nonzero s
+
+-- a content answer that is not the first variant is passed on
+pub refused-content : (s : List ℕ) (start n control : ℕ) (a : ContentAnswer)
+    → OneOf (1 ∷ 2 ∷ 3 ∷ 4 ∷ 5 ∷ []) (tagOf the-type a) → refusedWith (refusalOf a) ≡ withContent s start n control a
+unfolding withContent
+refused-content s start n control (content.Accepted k) h = absurd (miss (1 ∷ 2 ∷ 3 ∷ 4 ∷ 5 ∷ []) 0 tt h)
+refused-content s start n control content.ContentZeroLength h = refl
+refused-content s start n control content.MissingPidField h = refl
+refused-content s start n control content.UnrecognisedSFieldType h = refl
+refused-content s start n control content.UnrecognisedUFieldType h = refl
+refused-content s start n control content.WrongSizeFrmrInfo h = refl
+
+-- the code's searches by a mask, on octets: any bit of eight, and bit 0
+pub start-masked : (s : List ℕ) → Octets s → first (masked 0xFF) s ≡ startOf s
+start-masked s o = first-same (masked 0xFF) nonzero s 0 (λ k h. rw (and-mask (getD s k 0) 8, mod-eq-of-lt (o k)))
+
+pub end-masked : (s : List ℕ) → first (masked 0x01) s ≡ endOf s
+end-masked s = first-same (masked 0x01) (bit 0) s 0 (λ k h. bit-test (getD s k 0) 0)
+
+-- what a match on the answer tells where it is not the first case
+pub told-refused : (a : DecodeAnswer) → OneOf (1 ∷ 2 ∷ 3 ∷ 4 ∷ 5 ∷ 6 ∷ 7 ∷ 8 ∷ 9 ∷ []) (tagOf decode-type a) → isAccepted a ≡ false
+told-refused answer.Accepted h = absurd (miss (1 ∷ 2 ∷ 3 ∷ 4 ∷ 5 ∷ 6 ∷ 7 ∷ 8 ∷ 9 ∷ []) 0 tt h)
+told-refused answer.OnlyNullBytes h = refl
+told-refused answer.NoEndToAddressField h = refl
+told-refused (answer.AddressFieldTooShort start end) h = refl
+told-refused (answer.FrameTooShort len) h = refl
+told-refused answer.MissingPidField h = refl
+told-refused answer.UnrecognisedSFieldType h = refl
+told-refused answer.UnrecognisedUFieldType h = refl
+told-refused answer.WrongSizeFrmrInfo h = refl
+told-refused answer.TooManyRepeaters h = refl

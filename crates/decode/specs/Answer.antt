@@ -1,0 +1,42 @@
+-- The answers of decoding: document 01's numbers for them.
+use Prim.Native.Nat.{ℕ}
+use mathlib.Core.Bool.{Bool, true, false}
+use Rattle.decode.specs.declared.DecodeAnswer.{DecodeAnswer}
+use Rattle.decode.specs.declared.DecodeAnswer.the-variants as read
+
+-- what document 01's table gives for an answer of decoding: its number, and the details that the number gives, else 0
+pub record Report : Type 0 where
+  pub number : ℕ
+  pub start : ℕ
+  pub end : ℕ
+  pub len : ℕ
+
+abbrev pub number : ℕ → Report
+number n = record { number = n; start = 0; end = 0; len = 0 }
+
+abbrev pub reportOf : DecodeAnswer → Report
+reportOf read.Accepted = number 0
+reportOf read.OnlyNullBytes = number 1
+reportOf read.NoEndToAddressField = number 2
+reportOf (read.AddressFieldTooShort start end) = record { number = 3; start = start; end = end; len = 0 }
+reportOf (read.FrameTooShort len) = record { number = 4; start = 0; end = 0; len = len }
+reportOf read.MissingPidField = number 5
+reportOf read.UnrecognisedSFieldType = number 6
+reportOf read.UnrecognisedUFieldType = number 7
+reportOf read.WrongSizeFrmrInfo = number 8
+reportOf read.TooManyRepeaters = number 9
+
+abbrev pub numberOf : DecodeAnswer → ℕ
+numberOf a = reportOf a .number
+
+abbrev pub isAccepted : DecodeAnswer → Bool
+isAccepted read.Accepted = true
+isAccepted read.OnlyNullBytes = false
+isAccepted read.NoEndToAddressField = false
+isAccepted (read.AddressFieldTooShort start end) = false
+isAccepted (read.FrameTooShort len) = false
+isAccepted read.MissingPidField = false
+isAccepted read.UnrecognisedSFieldType = false
+isAccepted read.UnrecognisedUFieldType = false
+isAccepted read.WrongSizeFrmrInfo = false
+isAccepted read.TooManyRepeaters = false

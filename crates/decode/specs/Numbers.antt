@@ -1,0 +1,41 @@
+-- When each number of decoding is given (document 01, Numbers), said of the octets and not by decoding them.
+use Prim.Native.Nat.{ℕ, _+_, _-_}
+use mathlib.Core.Bool.{Bool, cond, not}
+use mathlib.Core.List.{List}
+use lib.Dec.{eqb, ltb, leb}
+use lib.ListN.{length, drop}
+use Rattle.octets.specs.Octet.{bit}
+use Rattle.octets.specs.All.{all}
+use Rattle.parse.specs.Numbers.{rows}
+use Rattle.decode.specs.Answer.{Report, number}
+use Rattle.decode.specs.Read.{nonzero, startOf, endOf, repeatersOf}
+
+-- 1: no nonzero octet
+abbrev pub noStart : List ℕ → Bool
+noStart s = all (λ b. not (nonzero b)) s
+
+-- 2: no octet with its low bit set
+abbrev pub noEnd : List ℕ → Bool
+noEnd s = all (λ b. not (bit 0 b)) s
+
+-- 3: span below 14
+abbrev pub shortField : List ℕ → Bool
+shortField s = ltb (endOf s + 1 - startOf s) 14
+
+-- 4: nothing after the end
+abbrev pub noContent : List ℕ → Bool
+noContent s = eqb (endOf s + 1) (length s)
+
+-- 9: nine or more repeaters
+abbrev pub manyRepeaters : List ℕ → Bool
+manyRepeaters s = leb 9 (repeatersOf (startOf s) (endOf s))
+
+-- the table in decoding's order: 1, 2, 3 with start and end, 4 with length, 9, then the content's number
+unfoldable pub reported : List ℕ → Report
+reported s =
+    cond (noStart s) (number 1)
+    (cond (noEnd s) (number 2)
+    (cond (shortField s) (record { number = 3; start = startOf s; end = endOf s; len = 0 })
+    (cond (noContent s) (record { number = 4; start = 0; end = 0; len = length s })
+    (cond (manyRepeaters s) (number 9)
+    (number (rows (drop (endOf s + 1) s)))))))

@@ -1,0 +1,3 @@
+pub mod Back
+pub mod Lean
+pub mod Laws

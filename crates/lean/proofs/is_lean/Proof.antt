@@ -1,0 +1,101 @@
+-- The control octet's tests are those of the definition, in its order.
+use Prim.Native.Nat.{ℕ}
+use mathlib.Core.Path.{_≡_, refl, sym, _∙_}
+use mathlib.Core.Bool.{true, false}
+use borrow.Author.Tests.{eq-eqb, ne-eqb}
+use lib.Bits.{bitAnd}
+use lib.ListN.{getD}
+use Rattle.content.specs.Control.{uKind}
+use Rattle.parse.specs.Numbers.{isI}
+use Rattle.lean.specs.Lean.{lean}
+use Rattle.content.proofs.Masks.{u-mask}
+use borrow.Author.Needs.{needs}
+use Rattle.lean.proofs.is_lean.Statement.{statement}
+use Rattle.lean.proofs.is_lean.Tie as tie
+
+i-test : (c : tie.After-is-i) → isI (getD (c .before .before .before .args .bytes .now) 0 0) ≡ c .is-i .result
+i-test c = rw (← c .before .octet .ensures) (sym (c .is-i .ensures))
+
+kind : (c : tie.Else1) → bitAnd (c .before .before .octet .result) 0xEF ≡ uKind (getD (c .before .before .before .before .args .bytes .now) 0 0)
+kind c = rw (c .before .before .octet .ensures) (u-mask _ (c .before .before .before .shared-slice-known .given 0 .fits))
+
+octet-requires : tie.Need-octet-requires
+octet-requires c κs = search needs
+
+is-i-requires : tie.Need-is-i-requires
+is-i-requires c κs = search needs
+
+octet-requires-2 : tie.Need-octet-requires-2
+octet-requires-2 c κs = search needs
+
+pid-kept-requires : tie.Need-pid-kept-requires
+pid-kept-requires c κs = search needs
+
+returns : tie.Need-returns
+unfolding lean
+returns c =
+    let t = c .before .before in
+    simp (i-test (t .before), t .if1 .taken, c .pid-kept .ensures, c .before .octet2 .ensures)
+
+octet-requires-3 : tie.Need-octet-requires-3
+octet-requires-3 c κs = search needs
+
+pid-kept-requires-2 : tie.Need-pid-kept-requires-2
+pid-kept-requires-2 c κs = search needs
+
+returns-2 : tie.Need-returns-2
+unfolding lean
+returns-2 c =
+    let t = c .before .before in
+    let e = t .before in
+    simp (i-test (e .before), e .if1 .left, eq-eqb _ _ (sym (kind e) ∙ t .if2 .taken), c .pid-kept2 .ensures, c .before .octet3 .ensures)
+
+octet-requires-4 : tie.Need-octet-requires-4
+octet-requires-4 c κs = search needs
+
+octet-requires-5 : tie.Need-octet-requires-5
+octet-requires-5 c κs = search needs
+
+frmr-tidy-requires : tie.Need-frmr-tidy-requires
+frmr-tidy-requires c κs = search needs
+
+returns-3 : tie.Need-returns-3
+unfolding lean
+returns-3 c =
+    let t = c .before .before .before in
+    let u = t .before in
+    let e = u .before in
+    simp (
+      i-test (e .before),
+      e .if1 .left,
+      ne-eqb _ _ (λ q. u .if2 .left (kind e ∙ q)),
+      eq-eqb _ _ (sym (kind e) ∙ t .if3 .taken),
+      c .frmr-tidy .ensures,
+      c .before .octet5 .ensures,
+      c .before .before .octet4 .ensures,
+    )
+
+returns-4 : tie.Need-returns-4
+unfolding lean
+returns-4 c =
+    let u = c .before in
+    let e = u .before in
+    simp (i-test (e .before), e .if1 .left, ne-eqb _ _ (λ q. u .if2 .left (kind e ∙ q)), ne-eqb _ _ (λ q. c .if3 .left (kind e ∙ q)))
+
+pub is-lean-spec : {M : Type 1} → statement M
+is-lean-spec =
+    tie.close
+    (tie.spec
+    octet-requires
+    is-i-requires
+    octet-requires-2
+    pid-kept-requires
+    returns
+    octet-requires-3
+    pid-kept-requires-2
+    returns-2
+    octet-requires-4
+    octet-requires-5
+    frmr-tidy-requires
+    returns-3
+    returns-4)

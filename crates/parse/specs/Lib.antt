@@ -1,0 +1,2 @@
+pub mod Content
+pub mod Numbers

@@ -1,0 +1,3 @@
+pub mod Laws
+mod Reading
+pub mod Printing

@@ -1,0 +1,59 @@
+-- How the printer comes to its definitions: the callsign's length by one pass, and the text in two parts.
+use Prim.Native.Nat.{ℕ, suc, _+_, _≤_, _<_}
+use mathlib.Core.Path.{_≡_, refl, _∙_}
+use mathlib.Core.Bool.{cond, _&&_}
+use mathlib.Core.List.{List, [], _∷_, _++_}
+use native.Mathlib.Numerals.{add-one}
+use native.Mathlib.Omega.{arith}
+use borrow.Author.Tests.{ne-eqb}
+use lib.Dec.{eqb, ltb}
+use lib.ListN.{length, getD, take, length-append}
+use lib.Seq.{take-suc, length-take-le}
+use Rattle.octets.proofs.Choice.{by, either}
+use Rattle.octets.specs.Splice.{splice}
+use Rattle.octets.proofs.Splice.{splice-more}
+use Rattle.text.specs.Text.{space, used, trimmed, decimalText, ssidSuffix}
+
+pub used-le : (s : List ℕ) → used s ≤ length s
+unfolding used
+used-le [] = omega arith
+used-le (c ∷ s) =
+    either (λ (n : ℕ). n ≤ suc (length s)) (eqb (used s) 0 && space c) (λ e. omega arith) (λ e. omega (arith, used-le s))
+
+-- one character more
+used-more : (s : List ℕ) (c : ℕ) → used (s ++ (c ∷ [])) ≡ cond (space c) (used s) (suc (length s))
+unfolding used
+used-more [] c = refl
+used-more (x ∷ s) c =
+    by (space c)
+    (λ e. let h : used (s ++ (c ∷ [])) ≡ used s = used-more s c ∙ simp e in simp (e, h))
+    (λ e. let h : used (s ++ (c ∷ [])) ≡ suc (length s) = used-more s c ∙ simp e in simp (e, h, ne-eqb (suc (length s)) 0 (λ z. omega arith)))
+
+pub used-turn : (s : List ℕ) (i : ℕ) → i < length s → used (take (i + 1) s) ≡ cond (space (getD s i 0)) (used (take i s)) (i + 1)
+used-turn s i h =
+    rw (add-one, take-suc s i 0) (used-more (take i s) (getD s i 0) ∙ rw (length-take-le i s (omega arith)) refl)
+
+-- the callsign without its padding is as long as that
+pub trimmed-length : (s : List ℕ) → length (take (used s) s) ≡ used s
+trimmed-length s = length-take-le (used s) s (used-le s)
+
+pub suffix-short : (s : ℕ) → length (ssidSuffix s) ≤ 3
+unfolding ssidSuffix decimalText
+suffix-short s =
+    by (eqb s 0)
+    (λ e. simp e (omega arith))
+    (λ e. by (ltb s 10) (λ h. simp (e, h) (omega arith)) (λ h. simp (e, h) (omega arith)))
+
+-- the text's length, and the text in two parts
+module _ (c : List ℕ) (s n : ℕ) (e : n ≡ used c) where
+  pub text-length : (m : ℕ) → m ≡ length (ssidSuffix s) → n + m ≡ length (trimmed c ++ ssidSuffix s)
+  text-length m f = rw (length-append, trimmed-length, e, f) refl
+
+  pub text-put : (out : List ℕ) → n + length (ssidSuffix s) ≤ length out
+      → splice (splice out 0 (take n c)) n (ssidSuffix s) ≡ splice out 0 (trimmed c ++ ssidSuffix s)
+  text-put out h =
+      let l : length (take n c) ≡ n = length-take-le n c (omega (arith, used-le c)) in
+      let m : splice (splice out 0 (take n c)) (0 + length (take n c)) (ssidSuffix s) ≡ splice out 0 (take n c ++ ssidSuffix s) =
+      splice-more out 0 (take n c) (ssidSuffix s) (omega arith) in
+      let z : 0 + length (take n c) ≡ n = omega arith in
+      rw z at m ∙ rw e refl

@@ -1,0 +1,234 @@
+-- The text of an address: callsign, hyphen, SSID. The conditions of document 01's number table, the readers, and what is printed.
+use Prim.Native.Nat.{ℕ, suc, _+_, _*_, _-_, _/_, _%_, _≤_, _<_}
+use mathlib.Core.Path.{_≡_}
+use mathlib.Core.Bool.{Bool, true, cond, not, _&&_, _||_}
+use mathlib.Core.List.{List, [], _∷_, _++_}
+use lib.Dec.{eqb, ltb, leb}
+use lib.ListN.{length, getD, take, drop}
+use Rattle.octets.specs.All.{all}
+use Rattle.octets.specs.First.{first}
+use Rattle.octets.specs.Splice.{splice}
+use Rattle.address.specs.declared.Address.{Address}
+use Rattle.text.specs.declared.AddressAnswer.{AddressAnswer}
+use Rattle.text.specs.declared.AddressAnswer.the-variants.{Accepted, CallsignTooLong, InvalidFormat, InvalidSsid, SsidOutOfRange, NotAscii}
+use Rattle.text.specs.declared.AddressRead.{AddressRead}
+use Rattle.text.specs.declared.PrintAnswer.{PrintAnswer}
+use Rattle.text.specs.declared.PrintAnswer.the-variants as print
+use Rattle.text.specs.declared.Printed.{Printed}
+use Rattle.text.specs.declared.Ssid.{Ssid}
+use Rattle.text.specs.declared.Ssid.the-variants.{Number, NotANumber}
+use Rattle.address.specs.Address.{low, noCall, encodable}
+
+-- document 01's numbers for reading an address
+abbrev pub addressNumberOf : AddressAnswer → ℕ
+addressNumberOf Accepted = 0
+addressNumberOf CallsignTooLong = 31
+addressNumberOf InvalidFormat = 32
+addressNumberOf InvalidSsid = 33
+addressNumberOf SsidOutOfRange = 34
+addressNumberOf NotAscii = 35
+
+-- characters of ASCII
+abbrev pub hyphen : ℕ → Bool
+hyphen c = eqb c 45
+
+abbrev pub plus : ℕ → Bool
+plus c = eqb c 43
+
+abbrev pub space : ℕ → Bool
+space c = eqb c 32
+
+abbrev pub digit : ℕ → Bool
+digit c = leb 48 c && leb c 57
+
+abbrev pub upperCase : ℕ → Bool
+upperCase c = leb 65 c && leb c 90
+
+abbrev pub lowerCase : ℕ → Bool
+lowerCase c = leb 97 c && leb c 122
+
+-- a letter or a digit
+abbrev pub alphanumeric : ℕ → Bool
+alphanumeric c = digit c || upperCase c || lowerCase c
+
+-- lower case becomes upper
+unfoldable pub upper : ℕ → ℕ
+upper c = cond (lowerCase c) (c - 32) c
+
+-- how many elements pass a test
+unfoldable pub count : {A : Type 0} → (A → Bool) → List A → ℕ
+count p [] = 0
+count p (x ∷ s) = cond (p x) (suc (count p s)) (count p s)
+
+-- the value of decimal digits, the highest first
+unfoldable pub decimalFrom : ℕ → List ℕ → ℕ
+decimalFrom v [] = v
+decimalFrom v (d ∷ ds) = decimalFrom (v * 10 + (d - 48)) ds
+
+abbrev pub decimal : List ℕ → ℕ
+decimal ds = decimalFrom 0 ds
+
+-- one or more decimal digits, of an 8-bit number; leading zeros are allowed
+unfoldable pub digits8 : List ℕ → Bool
+digits8 ds = ltb 0 (length ds) && (all digit ds && leb (decimal ds) 255)
+
+-- what follows the optional plus sign
+unfoldable pub afterPlus : List ℕ → List ℕ
+afterPlus [] = []
+afterPlus (c ∷ s) = cond (plus c) s (c ∷ s)
+
+-- the parts of a text: what stands before the first hyphen, whether there is one, and what stands after it
+abbrev pub callsignText : List ℕ → List ℕ
+callsignText t = take (first hyphen t) t
+
+abbrev pub hasSsid : List ℕ → Bool
+hasSsid t = ltb (first hyphen t) (length t)
+
+abbrev pub ssidText : List ℕ → List ℕ
+ssidText t = drop (first hyphen t + 1) t
+
+-- the SSID of a text: 0 without a hyphen
+unfoldable pub ssidValue : List ℕ → ℕ
+ssidValue t = cond (hasSsid t) (decimal (afterPlus (ssidText t))) 0
+
+-- the conditions of the table
+-- 35: an octet of 128 or more
+abbrev pub high : List ℕ → Bool
+high t = not (all low t)
+
+-- 32: two or more hyphens
+abbrev pub manyHyphens : List ℕ → Bool
+manyHyphens t = ltb 1 (count hyphen t)
+
+-- 33: the SSID text is no 8-bit number
+unfoldable pub badSsid : List ℕ → Bool
+badSsid t = hasSsid t && not (digits8 (afterPlus (ssidText t)))
+
+-- 32: the callsign is empty
+abbrev pub empty : List ℕ → Bool
+empty c = eqb (length c) 0
+
+-- 31: it is longer than 6
+abbrev pub long : List ℕ → Bool
+long c = ltb 6 (length c)
+
+-- 32: a character of it is not a letter or digit
+abbrev pub strange : List ℕ → Bool
+strange c = not (all alphanumeric c)
+
+-- 34: the SSID is 16 or more
+abbrev pub wide : ℕ → Bool
+wide s = ltb 15 s
+
+-- the numbers in the table's order: empty (32); 31; characters (32); 34
+unfoldable pub callsignNumber : List ℕ → ℕ → ℕ
+callsignNumber c s = cond (empty c) 32 (cond (long c) 31 (cond (strange c) 32 (cond (wide s) 34 0)))
+
+-- `from_parts`: 35 before these
+unfoldable pub partsNumber : List ℕ → ℕ → ℕ
+partsNumber c s = cond (high c) 35 (callsignNumber c s)
+
+-- text: 35; hyphens (32); 33; then the callsign's and the SSID's
+unfoldable pub textNumber : List ℕ → ℕ
+textNumber t = cond (high t) 35 (cond (manyHyphens t) 32 (cond (badSsid t) 33 (callsignNumber (callsignText t) (ssidValue t))))
+
+-- the callsign that is read: in upper case, padded with spaces to six
+abbrev pub upperAt : List ℕ → ℕ → ℕ
+upperAt c k = upper (getD c k 32)
+
+unfoldable pub padded : List ℕ → List ℕ
+padded c = upperAt c 0 ∷ upperAt c 1 ∷ upperAt c 2 ∷ upperAt c 3 ∷ upperAt c 4 ∷ upperAt c 5 ∷ []
+
+-- a refused read gives NOCALL, SSID 0
+abbrev pub refused : AddressAnswer → AddressRead
+refused answer = record { answer = answer; address = noCall }
+
+-- what reading a callsign without octets of 128 or more, and an SSID, gives
+unfoldable pub readCallsign : List ℕ → ℕ → AddressRead
+readCallsign c s =
+    cond (empty c) (refused InvalidFormat)
+    (cond (long c) (refused CallsignTooLong)
+    (cond (strange c) (refused InvalidFormat)
+    (cond (wide s) (refused SsidOutOfRange)
+    (record { answer = Accepted; address = record { callsign = padded c; ssid = s } }))))
+
+-- what `from_parts` gives
+unfoldable pub readParts : List ℕ → ℕ → AddressRead
+readParts c s = cond (high c) (refused NotAscii) (readCallsign c s)
+
+-- what the text gives
+unfoldable pub readText : List ℕ → AddressRead
+readText t =
+    cond (high t) (refused NotAscii)
+    (cond (manyHyphens t) (refused InvalidFormat)
+    (cond (badSsid t) (refused InvalidSsid)
+    (readCallsign (callsignText t) (ssidValue t))))
+
+-- the steps of the text's reader: what digits say, what the text says from the hyphen at a place on, and the address of both parts
+unfoldable pub digitsSay : List ℕ → Ssid
+digitsSay ds = cond (digits8 ds) (Number (decimal ds)) NotANumber
+
+unfoldable pub ssidFrom : List ℕ → ℕ → Ssid
+ssidFrom t at = cond (ltb at (length t)) (digitsSay (afterPlus (drop (at + 1) t))) (Number 0)
+
+abbrev pub readWith : List ℕ → Ssid → AddressRead
+readWith c (Number s) = readCallsign c s
+readWith c NotANumber = refused InvalidSsid
+
+-- how many characters stand before the spaces at the end
+unfoldable pub used : List ℕ → ℕ
+used [] = 0
+used (c ∷ s) = cond (eqb (used s) 0 && space c) 0 (suc (used s))
+
+-- the callsign without its padding
+abbrev pub trimmed : List ℕ → List ℕ
+trimmed c = take (used c) c
+
+-- a number below 100 in decimal
+unfoldable pub decimalText : ℕ → List ℕ
+decimalText n = cond (ltb n 10) ((48 + n) ∷ []) ((48 + n / 10) ∷ (48 + n % 10) ∷ [])
+
+-- a hyphen and the SSID; "-0" is omitted
+unfoldable pub ssidSuffix : ℕ → List ℕ
+ssidSuffix s = cond (eqb s 0) [] (45 ∷ decimalText s)
+
+-- the text of an address, for those that printing takes
+abbrev pub textOf : Address → List ℕ
+textOf a = trimmed (a .callsign) ++ ssidSuffix (a .ssid)
+
+-- document 01's numbers for printing
+abbrev pub printNumberOf : PrintAnswer → ℕ
+printNumberOf print.Printed = 0
+printNumberOf print.NotEncodable = 22
+printNumberOf print.NoRoom = 24
+
+-- 24: the output is shorter than the text
+abbrev pub short : Address → ℕ → Bool
+short a room = ltb room (length (textOf a))
+
+-- the numbers in the table's order
+unfoldable pub printNumber : Address → ℕ → ℕ
+printNumber a room = cond (not (encodable a)) 22 (cond (short a room) 24 0)
+
+-- what printing answers, with room for that many octets
+unfoldable pub printed : Address → ℕ → Printed
+printed a room =
+    cond (encodable a)
+    (cond (short a room)
+    (record { answer = print.NoRoom; length = 0 })
+    (record { answer = print.Printed; length = length (textOf a) }))
+    (record { answer = print.NotEncodable; length = 0 })
+
+-- what it leaves in the output: the text at its start, or all as it was
+unfoldable pub printedInto : Address → List ℕ → List ℕ
+printedInto a out = cond (encodable a) (splice out 0 (textOf a)) out
+
+-- an address as people write it: 1 to 6 upper-case letters and digits, then spaces; an SSID up to 15
+abbrev pub upperOrDigit : ℕ → Bool
+upperOrDigit c = digit c || upperCase c
+
+pub record TextAddress (a : Address) : Type 0 where
+  pub six : length (a .callsign) ≡ 6
+  pub some : 0 < used (a .callsign)
+  pub characters : all upperOrDigit (trimmed (a .callsign)) ≡ true
+  pub small : a .ssid ≤ 15
