@@ -1,1 +1,4 @@
 pub mod Read
+pub mod Accepts
+pub mod Refusals
+pub mod Whole

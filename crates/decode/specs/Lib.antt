@@ -1,3 +1,4 @@
 pub mod Answer
 pub mod Read
+pub mod Outline
 pub mod Numbers

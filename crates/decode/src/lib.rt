@@ -1,18 +1,19 @@
-// Reading a frame.
+// Reading a frame: first its outline, then its addresses.
+use address::group::ParsedAddress;
+use content::FrameContent;
+use content::UnnumberedInformation;
 use frame::Ax25Frame;
 use frame::Mark;
 use frame::RouteEntry;
-use address::group::ParsedAddress;
 use parse::ContentAnswer;
-use content::FrameContent;
+use protocol::ProtocolIdentifier;
 ghost use mathlib.Core.Path.{_≡_};
-ghost use mathlib.Core.Bool.{true};
 ghost use Prim.Native.Nat.{_+_, _*_, _≤_, _<_};
 ghost use lib.ListN.{length, drop};
 ghost use Rattle.parse.specs.Content.{contentOf};
-ghost use Rattle.content.specs.Spell.{hasInfo};
 ghost use Rattle.decode.specs.Answer.{numberOf};
-ghost use Rattle.decode.specs.Read.{parsedAt, routeAt, commandOf, frameAt, refusedWith, acceptedWith, refusalOf, withContent, decodeField, decode};
+ghost use Rattle.decode.specs.Outline.{outlineBy, outlineOf, Fits, framed};
+ghost use Rattle.decode.specs.Read.{parsedAt, routeAt, commandOf, markAt, refusedWith, refusalOf, withContent, decodeField, decode};
 
 pub enum DecodeAnswer {
     Accepted,
@@ -31,6 +32,18 @@ pub enum DecodeAnswer {
 pub struct Decoded {
     pub answer: DecodeAnswer,
     pub frame: Ax25Frame,
+    pub info_start: usize,
+    pub info_len: usize,
+}
+
+// What reading gives but for the addresses, which take most of its time: of a refused input what the default frame has.
+pub struct Outline {
+    pub answer: DecodeAnswer,
+    // Where the address field starts.
+    pub start: usize,
+    pub route_count: usize,
+    pub command_or_response: Mark,
+    pub content: FrameContent,
     pub info_start: usize,
     pub info_len: usize,
 }
@@ -101,58 +114,14 @@ fn command_of(destination: bool, source: bool) -> Mark
     }
 }
 
-fn parse_frame(bytes: &[u8], start: usize, count: usize, content: FrameContent) -> Ax25Frame
-    requires { ⌜ (count ≤ 8) × (start + 14 + 7 * count ≤ length (now bytes)) ⌝ }
-    ensures { λ r. ⌜ r ≡ frameAt (now (bytes .entry)) start count content ⌝ }
+// The mark of the frame whose groups start at `start`.
+fn mark_at(bytes: &[u8], start: usize) -> Mark
+    requires { ⌜ start + 14 ≤ length (now bytes) ⌝ }
+    ensures { λ r. ⌜ r ≡ markAt (now (bytes .entry)) start ⌝ }
 {
     let to = parse_group(bytes, start);
     let from = parse_group(bytes, start + 7);
-    let route = parse_route(bytes, start + 14, count);
-    let command_or_response = command_of(to.high_bit, from.high_bit);
-    let source = from.address;
-    let destination = to.address;
-    Ax25Frame {
-        source,
-        destination,
-        route,
-        route_count: count,
-        command_or_response,
-        content,
-    }
-}
-
-fn refused(answer: DecodeAnswer) -> Decoded
-    ensures { λ r. ⌜ r ≡ refusedWith answer ⌝ }
-{
-    let frame = Ax25Frame::default();
-    Decoded {
-        answer,
-        frame,
-        info_start: 0,
-        info_len: 0,
-    }
-}
-
-fn accepted(frame: Ax25Frame, control: usize, len: usize) -> Decoded
-    requires { ⌜ (control < len) × (hasInfo (frame .content) ≡ true → control + 2 ≤ len) ⌝ }
-    ensures { λ r. ⌜ r ≡ acceptedWith frame control len ⌝ }
-{
-    let content = frame.content;
-    if content.has_info() {
-        let info_start = control + 2;
-        return Decoded {
-            answer: DecodeAnswer::Accepted,
-            frame,
-            info_start,
-            info_len: len - info_start,
-        };
-    }
-    Decoded {
-        answer: DecodeAnswer::Accepted,
-        frame,
-        info_start: 0,
-        info_len: 0,
-    }
+    command_of(to.high_bit, from.high_bit)
 }
 
 // The frame's answer where the content was refused.
@@ -169,50 +138,135 @@ fn refusal(answer: ContentAnswer) -> DecodeAnswer
     }
 }
 
-// The content, from the control octet on, and the frame around it.
-fn decode_content(bytes: &[u8], start: usize, count: usize, control: usize) -> Decoded
-    requires { ⌜ (count ≤ 8) × (start + 14 + 7 * count ≤ length (now bytes)) × (control < length (now bytes)) ⌝ }
-    ensures { λ r. ⌜ r ≡ withContent (now (bytes .entry)) start count control (contentOf (drop control (now (bytes .entry)))) ⌝ }
+fn refused_outline(start: usize, answer: DecodeAnswer) -> Outline
+    ensures { λ r. ⌜ r ≡ outlineBy start (refusedWith answer) ⌝ }
+{
+    let frame = Ax25Frame::default();
+    let command_or_response = frame.command_or_response;
+    let content = frame.content;
+    Outline {
+        answer,
+        start,
+        route_count: frame.route_count,
+        command_or_response,
+        content,
+        info_start: 0,
+        info_len: 0,
+    }
+}
+
+// The content, from the control octet on, and the info's place.
+fn outline_content(bytes: &[u8], start: usize, count: usize, control: usize) -> Outline
+    requires { ⌜ (start + 14 ≤ length (now bytes)) × (control < length (now bytes)) ⌝ }
+    ensures { λ r. ⌜ r ≡ outlineBy start (withContent (now (bytes .entry)) start count control (contentOf (drop control (now (bytes .entry))))) ⌝ }
 {
     let answer = parse::parse_content(&bytes[control..]);
     let ContentAnswer::Accepted(content) = answer else {
-        return refused(refusal(answer));
+        return refused_outline(start, refusal(answer));
     };
-    let frame = parse_frame(bytes, start, count, content);
-    accepted(frame, control, bytes.len())
+    let command_or_response = mark_at(bytes, start);
+    let mut info_start = 0;
+    let mut info_len = 0;
+    if content.has_info() {
+        info_start = control + 2;
+        info_len = bytes.len() - info_start;
+    }
+    Outline {
+        answer: DecodeAnswer::Accepted,
+        start,
+        route_count: count,
+        command_or_response,
+        content,
+        info_start,
+        info_len,
+    }
 }
 
 // The address field, from its first octet to its last, and what follows.
-fn decode_field(bytes: &[u8], start: usize, end: usize) -> Decoded
+fn outline_field(bytes: &[u8], start: usize, end: usize) -> Outline
     requires { ⌜ (start ≤ end) × (end < length (now bytes)) ⌝ }
-    ensures { λ r. ⌜ r ≡ decodeField (now (bytes .entry)) start end ⌝ }
+    ensures { λ r. ⌜ r ≡ outlineBy start (decodeField (now (bytes .entry)) start end) ⌝ }
 {
     let control = end + 1;
     let span = control - start;
     if span < 14 {
-        return refused(DecodeAnswer::AddressFieldTooShort { start, end });
+        return refused_outline(start, DecodeAnswer::AddressFieldTooShort { start, end });
     }
     if control == bytes.len() {
-        return refused(DecodeAnswer::FrameTooShort { len: bytes.len() });
+        return refused_outline(start, DecodeAnswer::FrameTooShort { len: bytes.len() });
     }
     let count = (span - 14) / 7;
     if 8 < count {
-        return refused(DecodeAnswer::TooManyRepeaters);
+        return refused_outline(start, DecodeAnswer::TooManyRepeaters);
     }
-    decode_content(bytes, start, count, control)
+    outline_content(bytes, start, count, control)
+}
+
+// All that from_bytes gives but the addresses. A call that only asks for a number, or for lengths, needs no more.
+pub fn outline_of(bytes: &[u8]) -> Outline
+    ensures { λ r. ⌜ r ≡ outlineOf (now (bytes .entry)) ⌝ }
+{
+    let start = search::find(bytes, 0xFF);
+    if start == bytes.len() {
+        return refused_outline(start, DecodeAnswer::OnlyNullBytes);
+    }
+    let end = search::find(bytes, 0x01);
+    if end == bytes.len() {
+        return refused_outline(start, DecodeAnswer::NoEndToAddressField);
+    }
+    outline_field(bytes, start, end)
+}
+
+fn refused(answer: DecodeAnswer) -> Decoded
+    ensures { λ r. ⌜ r ≡ refusedWith answer ⌝ }
+{
+    let frame = Ax25Frame::default();
+    Decoded {
+        answer,
+        frame,
+        info_start: 0,
+        info_len: 0,
+    }
+}
+
+// The addresses, from the start on, with the rest.
+fn accepted(bytes: &[u8], outline: Outline) -> Decoded
+    requires { ⌜ Fits (now bytes) outline ⌝ }
+    ensures { λ r. ⌜ r ≡ framed (now (bytes .entry)) outline ⌝ }
+{
+    let start = outline.start;
+    let route_count = outline.route_count;
+    let to = parse_group(bytes, start);
+    let from = parse_group(bytes, start + 7);
+    let route = parse_route(bytes, start + 14, route_count);
+    let source = from.address;
+    let destination = to.address;
+    let command_or_response = outline.command_or_response;
+    let content = outline.content;
+    let frame = Ax25Frame {
+        source,
+        destination,
+        route,
+        route_count,
+        command_or_response,
+        content,
+    };
+    Decoded {
+        answer: DecodeAnswer::Accepted,
+        frame,
+        info_start: outline.info_start,
+        info_len: outline.info_len,
+    }
 }
 
 // Parse raw bytes into an Ax25Frame if possible.
 pub fn from_bytes(bytes: &[u8]) -> Decoded
     ensures { λ r. ⌜ r ≡ decode (now (bytes .entry)) ⌝ }
 {
-    let start = search::find(bytes, 0xFF);
-    if start == bytes.len() {
-        return refused(DecodeAnswer::OnlyNullBytes);
-    }
-    let end = search::find(bytes, 0x01);
-    if end == bytes.len() {
-        return refused(DecodeAnswer::NoEndToAddressField);
-    }
-    decode_field(bytes, start, end)
+    let outline = outline_of(bytes);
+    let answer = outline.answer;
+    let DecodeAnswer::Accepted = answer else {
+        return refused(answer);
+    };
+    accepted(bytes, outline)
 }

@@ -31,7 +31,7 @@ use Rattle.frame.specs.declared.Mark.the-variants.{Command, Response, Absent}
 use Rattle.frame.specs.declared.Ax25Frame.{Ax25Frame}
 use Rattle.decode.specs.declared.Decoded.{Decoded}
 use Rattle.grammar.specs.Direct.{reservedGroups, direct}
-use Rattle.grammar.proofs.Accepted.{Accepts}
+use Rattle.decode.proofs.Accepts.{Accepts}
 use Rattle.grammar.proofs.Back.{spelled-start, group-front, group-in, in-order, after-dest, after-src, after-field, spelled-end, frame-spell}
 
 and-true : {a b : Bool} → a ≡ true → b ≡ true → (a && b) ≡ true

@@ -1,7 +1,6 @@
 pub mod Ends
 pub mod Back
 pub mod Numbers
-pub mod Accepted
 pub mod Plain
 pub mod Respell
 pub mod Direct

@@ -28,7 +28,7 @@ use Rattle.frame.specs.declared.Mark.{Mark}
 use Rattle.frame.specs.declared.Mark.the-variants.{Command, Response, Absent}
 use Rattle.frame.specs.declared.Ax25Frame.{Ax25Frame}
 use Rattle.decode.specs.declared.Decoded.{Decoded}
-use Rattle.grammar.proofs.Accepted.{Accepts, accepts}
+use Rattle.decode.proofs.Accepts.{Accepts, accepts}
 
 made-marked : (m : Mark) → marked (madeCommand m) ≡ true
 made-marked Command = refl

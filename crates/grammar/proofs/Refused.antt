@@ -24,33 +24,8 @@ use Rattle.decode.specs.Read.{startOf, endOf, repeatersOf, frameAt, refusedWith
 use Rattle.frame.specs.declared.Ax25Frame.{Ax25Frame}
 use Rattle.decode.specs.declared.Decoded.{Decoded}
 use Rattle.decode.specs.declared.DecodeAnswer.{DecodeAnswer}
-use Rattle.grammar.proofs.Accepted.{Accepts, accepts}
-
-abbrev Bare : Decoded → Type 0
-Bare d = isAccepted (d .answer) ≡ false → d ≡ refusedWith (d .answer)
-
-bare : (a : DecodeAnswer) → Bare (refusedWith a)
-unfolding refusedWith
-bare a e = refl
-
-bare-content : (s : List ℕ) (start n control : ℕ) (a : ContentAnswer) → Bare (withContent s start n control a)
-unfolding withContent acceptedWith
-bare-content s start n control (content.Accepted k) e = absurd (true≢false e)
-bare-content s start n control content.ContentZeroLength e = bare _ e
-bare-content s start n control content.MissingPidField e = bare _ e
-bare-content s start n control content.UnrecognisedSFieldType e = bare _ e
-bare-content s start n control content.UnrecognisedUFieldType e = bare _ e
-bare-content s start n control content.WrongSizeFrmrInfo e = bare _ e
-
-pub refused-is : (s : List ℕ) → isAccepted (decode s .answer) ≡ false → decode s ≡ refusedWith (decode s .answer)
-unfolding decode decodeField
-refused-is s =
-    either Bare (eqb (startOf s) (length s)) (λ _. bare _)
-    (λ _. either Bare (eqb (endOf s) (length s)) (λ _. bare _)
-    (λ _. either Bare (ltb (endOf s + 1 - startOf s) 14) (λ _. bare _)
-    (λ _. either Bare (eqb (endOf s + 1) (length s)) (λ _. bare _)
-    (λ _. either Bare (ltb 8 (repeatersOf (startOf s) (endOf s))) (λ _. bare _)
-    (λ _. bare-content s _ _ _ (contentOf (drop (endOf s + 1) s)))))))
+use Rattle.decode.proofs.Accepts.{Accepts, accepts}
+use Rattle.decode.proofs.Refusals.{refused-is}
 
 pub refused-parts : (s : List ℕ) → isAccepted (decode s .answer) ≡ false
     → (decode s .frame ≡ defaultFrame) × (decode s .«info_start» ≡ 0) × (decode s .«info_len» ≡ 0)

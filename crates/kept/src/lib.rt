@@ -1,6 +1,6 @@
 // The demands as contracts of the code: each function only calls the product's, and its contract is the demand.
-use frame::Ax25Frame;
 use decode::Decoded;
+use frame::Ax25Frame;
 use frame::Written;
 use spelling::Reencoded;
 ghost use mathlib.Core.Path.{_≡_};

@@ -1,9 +1,9 @@
 // A frame and its fields as text.
 use address::Address;
 use content::FrameContent;
-use frame::Ax25Frame;
 use decode::DecodeAnswer;
 use decode::Decoded;
+use frame::Ax25Frame;
 use frame::Mark;
 use frame::RouteEntry;
 

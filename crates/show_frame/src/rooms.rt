@@ -1,8 +1,8 @@
 // A frame written into rooms of several sizes: guard octets EE show what stays.
 use super::cutting::first;
 use super::cutting::part;
-use frame::Ax25Frame;
 use decode::Decoded;
+use frame::Ax25Frame;
 use frame::Written;
 
 // Shown: number, length, and the lent octets with the three behind them.

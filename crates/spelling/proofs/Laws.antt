@@ -19,7 +19,7 @@ use Rattle.frame.specs.Write.{octetsWritten, written}
 use Rattle.frame.specs.declared.Ax25Frame.{Ax25Frame}
 use Rattle.frame.proofs.Write.{spell-length}
 use Rattle.grammar.specs.Direct.{direct}
-use Rattle.grammar.proofs.Accepted.{accepts}
+use Rattle.decode.proofs.Accepts.{accepts}
 use Rattle.grammar.proofs.Back.{info-spell, frame-spell}
 use Rattle.grammar.proofs.Plain.{read, inside, info-length}
 use Rattle.grammar.proofs.Respell.{mark-spell, use-spell, use-mark, accepted-spell, decoded-written, decoded-octets, written-is}

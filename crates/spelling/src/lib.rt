@@ -1,6 +1,6 @@
 // One spelling: the canonical check, and re-encoding.
-use frame::Ax25Frame;
 use decode::DecodeAnswer;
+use frame::Ax25Frame;
 use frame::Mark;
 use frame::WriteAnswer;
 ghost use mathlib.Core.Path.{_≡_};

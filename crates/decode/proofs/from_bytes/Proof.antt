@@ -1,62 +1,42 @@
--- The two searches, each with its refusal, then the address field that they found.
-use Prim.Native.Nat.{ℕ}
-use mathlib.Core.Path.{_≡_, sym, _∙_}
-use native.Mathlib.Omega.{arith}
-use borrow.Author.Tests.{eq-eqb, ne-eqb}
-use Rattle.decode.specs.Read.{startOf, endOf, decode}
-use Rattle.decode.proofs.Read.{start-le-end, start-masked, end-masked}
+-- A refusal is the default frame; an accepted outline is completed by its addresses.
+use mathlib.Core.Path.{_≡_, refl, ap, sym, _∙_}
+use mathlib.Core.Bool.{true}
+use Rattle.decode.specs.Answer.{isAccepted}
+use Rattle.decode.specs.Read.{decode}
+use Rattle.decode.specs.declared.Outline.{Outline}
+use Rattle.decode.proofs.Read.{told-refused}
+use Rattle.decode.proofs.Refusals.{refused-is}
+use Rattle.decode.proofs.Whole.{outline-framed, outline-fits}
 use borrow.Author.Needs.{needs}
 use Rattle.decode.proofs.from_bytes.Statement.{statement}
 use Rattle.decode.proofs.from_bytes.Tie as tie
+use Rattle.decode.proofs.from_bytes.Lts as lts
 
-start : (c : tie.After-find) → c .find .result ≡ startOf (c .before .before .args .bytes .now)
-start c = c .find .ensures .0 ∙ start-masked _ (λ k. c .before .shared-slice-known .given k .fits)
+accepted : (c : tie.After-enum-told) → isAccepted (decode (c .before .before .before .before .args .bytes .now) .answer) ≡ true
+accepted c = rw (← ap (λ (o : Outline). o .answer) (c .before .before .outline-of .ensures)) (rw (c .enum-told .given .1) refl)
 
-end : (c : tie.After-find2) → c .find2 .result ≡ endOf (c .before .before .before .before .args .bytes .now)
-end c = c .find2 .ensures .0 ∙ end-masked _
+outline-of-requires : tie.Need-outline-of-requires
+outline-of-requires c κs = search needs
 
-find-requires : tie.Need-find-requires
-find-requires c κs = search needs
+enum-told : tie.Need-enum-told
+enum-told c = search needs
 
 refused-requires : tie.Need-refused-requires
 refused-requires c κs = search needs
 
 returns : tie.Need-returns
-unfolding decode
-returns c = simp (c .refused .ensures, ← start (c .before .before), eq-eqb _ _ (c .before .if1 .taken))
+returns c =
+    let f = c .before .before .outline-of in
+    let e = ap (λ (o : Outline). o .answer) (f .ensures) in
+    c .refused .ensures ∙ rw e (sym (refused-is _ (rw (← e) (told-refused (f .result .answer) (c .before .match .keys2)))))
 
-find-requires-2 : tie.Need-find-requires-2
-find-requires-2 c κs = search needs
-
-refused-requires-2 : tie.Need-refused-requires-2
-refused-requires-2 c κs = search needs
+accepted-requires : tie.Need-accepted-requires
+accepted-requires c κs = rw (c .before .before .outline-of .ensures) (outline-fits _ (accepted c))
 
 returns-2 : tie.Need-returns-2
-unfolding decode
-returns-2 c =
-    let b = c .before .before in
-    simp (c .refused2 .ensures, ← start (b .before .before), ← end b, ne-eqb _ _ (b .before .if1 .left), eq-eqb _ _ (c .before .if2 .taken))
-
-decode-field-requires : tie.Need-decode-field-requires
-decode-field-requires c κs =
-    let b = c .before in
-    omega (arith, start-le-end (c .before .before .before .before .before .args .bytes .now), start (b .before .before), end b, b .find2 .ensures .1)
-
-returns-3 : tie.Need-returns-3
-unfolding decode
-returns-3 c =
-    let b = c .before .before in
-    simp (c .decode-field .ensures, ← start (b .before .before), ← end b, ne-eqb _ _ (b .before .if1 .left), ne-eqb _ _ (c .before .if2 .left))
+returns-2 c = c .accepted .ensures ∙ rw (c .before .before .before .outline-of .ensures) (sym (outline-framed _ (accepted (c .before))))
 
 pub from-bytes-spec : {M : Type 1} → statement M
 from-bytes-spec =
     tie.close
-    (tie.spec
-    find-requires
-    refused-requires
-    returns
-    find-requires-2
-    refused-requires-2
-    returns-2
-    decode-field-requires
-    returns-3)
+    (tie.spec outline-of-requires enum-told refused-requires returns accepted-requires returns-2)

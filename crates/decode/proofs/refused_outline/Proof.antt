@@ -1,0 +1,16 @@
+-- Of the default frame.
+use Rattle.decode.specs.Read.{refusedWith}
+use borrow.Author.Needs.{needs}
+use Rattle.decode.proofs.refused_outline.Statement.{statement}
+use Rattle.decode.proofs.refused_outline.Tie as tie
+use Rattle.decode.proofs.refused_outline.Lts as lts
+
+default-requires : tie.Need-default-requires
+default-requires c κs = search needs
+
+returns : tie.Need-returns
+unfolding refusedWith
+returns c = simp (c .default .ensures)
+
+pub refused-outline-spec : {M : Type 1} → statement M
+refused-outline-spec = tie.close (tie.spec default-requires returns)
