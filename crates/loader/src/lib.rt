@@ -1,5 +1,4 @@
 // The calls that C links. A slice is a pointer and a length there; include/ax25.h says what the caller owes.
-use frame::Ax25Frame;
 ghost use mathlib.Core.Path.{_≡_};
 ghost use mathlib.Core.Bool.{cond};
 ghost use lib.ListN.{length};
@@ -14,8 +13,8 @@ ghost use Rattle.spelling.specs.Reencode.{due, reencode, reencoded, reencodeNum
 pub extern "C" fn ax25_decode(input: &[u8]) -> u32
     ensures { λ r. ⌜ r ≡ numberOf (decode (now (input .entry)) .answer) ⌝ }
 {
-    let decoded = decode::from_bytes(input);
-    let answer = decoded.answer;
+    let outline = decode::outline_of(input);
+    let answer = outline.answer;
     answer.number()
 }
 

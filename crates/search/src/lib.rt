@@ -1,9 +1,38 @@
-// The start and the end of the address field.
+// Searching octets for the start and the end of the address field.
 ghost use mathlib.Core.Path.{_≡_};
-ghost use Prim.Native.Nat.{_≤_};
-ghost use lib.ListN.{length};
+ghost use Prim.Native.Nat.{_+_, _≤_};
+ghost use lib.ListN.{length, drop};
 ghost use Rattle.octets.specs.First.{first};
 ghost use Rattle.search.specs.Search.{masked};
+
+// How far the search may be taken: nothing before this place has a bit of the mask. Four octets a turn, since most of a search
+// is the turning.
+fn by_fours(bytes: &[u8], mask: u8) -> usize
+    ensures { λ r. ⌜ r ≤ length (now (bytes .entry)) ⌝ }
+    ensures { λ r. ⌜ first (masked mask) (now (bytes .entry)) ≡ r + first (masked mask) (drop r (now (bytes .entry))) ⌝ }
+{
+    let mut i = 0;
+    while 4 <= bytes.len() - i {
+        let one = bytes[i] & mask;
+        if one != 0 {
+            return i;
+        }
+        let two = bytes[i + 1] & mask;
+        if two != 0 {
+            return i + 1;
+        }
+        let three = bytes[i + 2] & mask;
+        if three != 0 {
+            return i + 2;
+        }
+        let four = bytes[i + 3] & mask;
+        if four != 0 {
+            return i + 3;
+        }
+        i += 4;
+    }
+    i
+}
 
 // The place of the first octet in which a bit of the mask is set, or the length: with FF hex the start, with 01 hex the end.
 // Every octet is looked at, not every seventh.
@@ -11,7 +40,7 @@ pub fn find(bytes: &[u8], mask: u8) -> usize
     ensures { λ r. ⌜ r ≡ first (masked mask) (now (bytes .entry)) ⌝ }
     ensures { λ r. ⌜ r ≤ length (now (bytes .entry)) ⌝ }
 {
-    let mut i = 0;
+    let mut i = by_fours(bytes, mask);
     while i < bytes.len() {
         let bits = bytes[i] & mask;
         if bits != 0 {

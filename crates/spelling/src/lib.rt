@@ -88,28 +88,26 @@ fn is_direct(bytes: &[u8], count: usize, mark: Mark) -> bool
 pub fn is_canonical(bytes: &[u8]) -> bool
     ensures { λ r. ⌜ r ≡ canonical (now (bytes .entry)) ⌝ }
 {
-    let decoded = decode::from_bytes(bytes);
-    let answer = decoded.answer;
+    let outline = decode::outline_of(bytes);
+    let answer = outline.answer;
     let DecodeAnswer::Accepted = answer else {
         return false;
     };
-    let frame = decoded.frame;
-    let mark = frame.command_or_response;
-    is_direct(bytes, frame.route_count, mark)
+    let mark = outline.command_or_response;
+    is_direct(bytes, outline.route_count, mark)
 }
 
 // How many octets re-encoding gives; 0 where the input is refused.
 pub fn reencoded_length(bytes: &[u8]) -> usize
     ensures { λ r. ⌜ r ≡ length (due (now (bytes .entry))) ⌝ }
 {
-    let decoded = decode::from_bytes(bytes);
-    let answer = decoded.answer;
+    let outline = decode::outline_of(bytes);
+    let answer = outline.answer;
     let DecodeAnswer::Accepted = answer else {
         return 0;
     };
-    let frame = decoded.frame;
-    let content = frame.content;
-    14 + 7 * frame.route_count + content.front_len() + decoded.info_len
+    let content = outline.content;
+    14 + 7 * outline.route_count + content.front_len() + outline.info_len
 }
 
 // What writing answers to a frame that was decoded: there is nothing to refuse but too little room.

@@ -1,31 +1,35 @@
--- The search from place i on, i added, is the search of the whole.
-use Prim.Native.Nat.{ℕ, _+_, _-_, _≤_}
-use mathlib.Core.Path.{_≡_}
+-- The rest of the search, from the place that the fours came to.
+use Prim.Native.Nat.{ℕ, _+_, _-_}
+use mathlib.Core.Path.{ap}
+use mathlib.Core.Bool.{not}
 use native.Mathlib.Omega.{arith}
 use borrow.Author.Tests.{eq-eqb, ne-eqb}
-use lib.ListN.{length, drop}
-use Rattle.octets.specs.First.{first}
+use lib.ListN.{length}
 use Rattle.octets.proofs.First.{first-step, first-end}
 use Rattle.search.specs.Search.{masked}
+use Rattle.search.proofs.Reached.{Reached, reached-next}
 use borrow.Author.Needs.{needs}
 use Rattle.search.proofs.find.Statement.{statement}
 use Rattle.search.proofs.find.Tie as tie
 
 abbrev Inv-loop : tie.InvT-loop
-Inv-loop bytes mask i₀ i = (i ≤ length bytes) × (first (masked mask) bytes ≡ i + first (masked mask) (drop i bytes))
+Inv-loop bytes mask i₀ i = Reached (masked mask) bytes i
 
 abbrev μ-loop : tie.MeasureT-loop
 μ-loop bytes mask i₀ i = length bytes - i
 
+by-fours-requires : tie.Need-by-fours-requires Inv-loop μ-loop
+by-fours-requires c κs = search needs
+
 loop-holds : tie.Need-loop-holds Inv-loop μ-loop
-loop-holds c = search needs
+loop-holds c = (c .by-fours .ensures .0, c .by-fours .ensures .1)
 
 shared-slice-read-bits : tie.Need-shared-slice-read-bits Inv-loop μ-loop
 shared-slice-read-bits c = search needs
 
 returns : tie.Need-returns Inv-loop μ-loop
 returns c =
-    let a = c .before .before .before .before .args in
+    let a = c .before .before .before .before .before .before .args in
     let i = c .before .before .before .loop .i in
     omega (arith, simp (ne-eqb _ _ (c .if1 .taken)) at (first-step (masked (a .mask)) (a .bytes .now) i 0 (omega arith)))
 
@@ -36,14 +40,11 @@ loop-less : tie.Need-loop-less Inv-loop μ-loop
 loop-less c = search needs
 
 loop-again : tie.Need-loop-again Inv-loop μ-loop
-loop-again c =
-    let a = c .before .before .before .before .args in
-    let i = c .before .before .before .loop .i in
-    omega (arith, simp (eq-eqb _ _ (c .if1 .left)) at (first-step (masked (a .mask)) (a .bytes .now) i 0 (omega arith)))
+loop-again c = reached-next _ _ _ _ (c .before .before .before .loop .inv) (omega arith) (ap not (eq-eqb _ _ (c .if1 .left))) (omega arith)
 
 returns-2 : tie.Need-returns-2 Inv-loop μ-loop
 returns-2 c =
-    let a = c .before .before .args in
+    let a = c .before .before .before .before .args in
     omega (arith, first-end (masked (a .mask)) (a .bytes .now) (c .before .loop .i) (omega arith))
 
 pub find-spec : {M : Type 1} → statement M
@@ -52,6 +53,7 @@ find-spec =
     (tie.spec
     Inv-loop
     μ-loop
+    by-fours-requires
     loop-holds
     shared-slice-read-bits
     returns

@@ -1,0 +1,117 @@
+-- After each octet that does not pass the search has come one place on.
+use Prim.Native.Nat.{ℕ, _+_, _-_}
+use mathlib.Core.Path.{ap}
+use mathlib.Core.Bool.{not}
+use native.Mathlib.Omega.{arith}
+use borrow.Author.Tests.{eq-eqb}
+use lib.ListN.{length}
+use Rattle.search.specs.Search.{masked}
+use Rattle.search.proofs.Reached.{Reached, reached-next}
+use borrow.Author.Needs.{needs}
+use Rattle.search.proofs.by_fours.Statement.{statement}
+use Rattle.search.proofs.by_fours.Tie as tie
+
+abbrev Inv-loop : tie.InvT-loop
+Inv-loop bytes mask i₀ i = Reached (masked mask) bytes i
+
+abbrev μ-loop : tie.MeasureT-loop
+μ-loop bytes mask i₀ i = length bytes - i
+
+one : (c : tie.Else1 Inv-loop μ-loop) → Reached (masked (c .before .before .before .before .args .mask)) (c .before .before .before .before .args .bytes .now) (c .before .before .before .loop .i + 1)
+one c = reached-next _ _ _ _ (c .before .before .before .loop .inv) (omega arith) (ap not (eq-eqb _ _ (c .if1 .left))) (omega arith)
+
+two : (c : tie.Else2 Inv-loop μ-loop) → Reached (masked (c .before .before .before .before .before .before .args .mask)) (c .before .before .before .before .before .before .args .bytes .now) (c .before .before .before .before .before .loop .i + 2)
+two c = reached-next _ _ _ _ (one (c .before .before)) (omega arith) (ap not (eq-eqb _ _ (c .if2 .left))) (omega arith)
+
+three : (c : tie.Else3 Inv-loop μ-loop) → Reached (masked (c .before .before .before .before .before .before .before .before .args .mask)) (c .before .before .before .before .before .before .before .before .args .bytes .now) (c .before .before .before .before .before .before .before .loop .i + 3)
+three c = reached-next _ _ _ _ (two (c .before .before)) (omega arith) (ap not (eq-eqb _ _ (c .if3 .left))) (omega arith)
+
+four : (c : tie.Else4 Inv-loop μ-loop) → Reached (masked (c .before .before .before .before .before .before .before .before .before .before .args .mask)) (c .before .before .before .before .before .before .before .before .before .before .args .bytes .now) (c .before .before .before .before .before .before .before .before .before .loop .i + 4)
+four c = reached-next _ _ _ _ (three (c .before .before)) (omega arith) (ap not (eq-eqb _ _ (c .if4 .left))) (omega arith)
+
+loop-holds : tie.Need-loop-holds Inv-loop μ-loop
+loop-holds c = search needs
+
+sub-loop : tie.Need-sub-loop Inv-loop μ-loop
+sub-loop c = search needs
+
+shared-slice-read-one : tie.Need-shared-slice-read-one Inv-loop μ-loop
+shared-slice-read-one c = search needs
+
+returns : tie.Need-returns Inv-loop μ-loop
+returns c = c .before .before .before .loop .inv
+
+add-two : tie.Need-add-two Inv-loop μ-loop
+add-two c = search needs
+
+shared-slice-read-two : tie.Need-shared-slice-read-two Inv-loop μ-loop
+shared-slice-read-two c = search needs
+
+add-result : tie.Need-add-result Inv-loop μ-loop
+add-result c = search needs
+
+returns-2 : tie.Need-returns-2 Inv-loop μ-loop
+returns-2 c = one (c .before .before)
+
+add-three : tie.Need-add-three Inv-loop μ-loop
+add-three c = search needs
+
+shared-slice-read-three : tie.Need-shared-slice-read-three Inv-loop μ-loop
+shared-slice-read-three c = search needs
+
+add-result-2 : tie.Need-add-result-2 Inv-loop μ-loop
+add-result-2 c = search needs
+
+returns-3 : tie.Need-returns-3 Inv-loop μ-loop
+returns-3 c = two (c .before .before)
+
+add-four : tie.Need-add-four Inv-loop μ-loop
+add-four c = search needs
+
+shared-slice-read-four : tie.Need-shared-slice-read-four Inv-loop μ-loop
+shared-slice-read-four c = search needs
+
+add-result-3 : tie.Need-add-result-3 Inv-loop μ-loop
+add-result-3 c = search needs
+
+returns-4 : tie.Need-returns-4 Inv-loop μ-loop
+returns-4 c = three (c .before .before)
+
+add-i : tie.Need-add-i Inv-loop μ-loop
+add-i c = search needs
+
+loop-less : tie.Need-loop-less Inv-loop μ-loop
+loop-less c = search needs
+
+loop-again : tie.Need-loop-again Inv-loop μ-loop
+loop-again c = four c
+
+returns-5 : tie.Need-returns-5 Inv-loop μ-loop
+returns-5 c = c .before .loop .inv
+
+pub by-fours-spec : {M : Type 1} → statement M
+by-fours-spec =
+    tie.close
+    (tie.spec
+    Inv-loop
+    μ-loop
+    loop-holds
+    sub-loop
+    shared-slice-read-one
+    returns
+    add-two
+    shared-slice-read-two
+    add-result
+    returns-2
+    add-three
+    shared-slice-read-three
+    add-result-2
+    returns-3
+    add-four
+    shared-slice-read-four
+    add-result-3
+    returns-4
+    add-i
+    loop-less
+    loop-again
+    returns-5)
