@@ -15,7 +15,7 @@ use Rattle.octets.proofs.Octet.{octet-same, octet-where}
 use Rattle.address.specs.declared.Address.{Address}
 use Rattle.address.specs.declared.group.GroupAnswer.the-variants.{Written, NotEncodable}
 use Rattle.address.specs.Address.{low, noCall, encodable, PlainAddress}
-use Rattle.address.specs.Group.{addressOf, markOf, reserved, reservedOctet, withReserved, ssidOctet, groupOf, groupNumberOf, writeGroup, reservedSet}
+use Rattle.address.specs.Group.{addressOf, markOf, markSet, reserved, reservedOctet, withReserved, ssidOctet, groupOf, groupNumberOf, writeGroup, reservedSet}
 
 -- what can be written: characters below 128
 pub plain-character : (a : Address) → PlainAddress a → (k : ℕ) → k < 6 → getD (a .callsign) k 0 < 128
@@ -236,3 +236,8 @@ no-call-starts = omega arith
 pub reserved-last : (g : List ℕ) → reserved g ≡ reservedSet (getD g 6 0)
 unfolding reserved
 reserved-last g = refl
+
+-- the mark likewise
+pub mark-last : (g : List ℕ) → markOf g ≡ markSet (getD g 6 0)
+unfolding markOf
+mark-last g = refl

@@ -23,9 +23,12 @@ addressOf g = record {
   ssid = field 1 4 (getD g 6 0);
 }
 
--- its mark
+-- the mark in the SSID's octet, and of a group
+abbrev pub markSet : ℕ → Bool
+markSet b = bit 7 b
+
 unfoldable pub markOf : List ℕ → Bool
-markOf g = bit 7 (getD g 6 0)
+markOf g = markSet (getD g 6 0)
 
 -- whether both reserved bits of the SSID's octet are ones, and of a group
 abbrev pub reservedSet : ℕ → Bool

@@ -1,7 +1,7 @@
 // The seven octets of an address, and back: six characters, then the octet of the SSID.
 ghost use mathlib.Core.Path.{_≡_};
 ghost use mathlib.Core.Bool.{cond};
-ghost use Rattle.address.specs.Group.{addressOf, markOf, reservedSet, ssidOctet, groupOf, writeGroup, groupNumberOf};
+ghost use Rattle.address.specs.Group.{addressOf, markOf, markSet, reservedSet, ssidOctet, groupOf, writeGroup, groupNumberOf};
 use crate::Address;
 
 pub struct ParsedAddress {
@@ -51,6 +51,14 @@ pub fn parse_address(group: [u8; 7]) -> ParsedAddress
         },
         high_bit: last & 0b1000_0000 != 0,
     }
+}
+
+// The mark, in the last octet of a group.
+pub fn mark_set(last: u8) -> bool
+    ensures { λ r. ⌜ r ≡ markSet last ⌝ }
+{
+    let bits = last & 0b1000_0000;
+    bits != 0
 }
 
 // Whether both reserved bits are ones, in the last octet of a group.

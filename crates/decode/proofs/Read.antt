@@ -16,7 +16,7 @@ use lib.Seq.{drop-cons}
 use Rattle.octets.specs.Octet.{Octets, bit}
 use Rattle.octets.specs.First.{first}
 use Rattle.octets.proofs.Bits.{bit-test}
-use Rattle.octets.proofs.First.{first-sooner, first-same}
+use Rattle.octets.proofs.First.{first-le, first-sooner, first-same}
 use Rattle.parse.proofs.ContentAnswer.{the-type}
 use Rattle.parse.specs.declared.ContentAnswer.{ContentAnswer}
 use Rattle.parse.specs.declared.ContentAnswer.the-variants as content
@@ -58,16 +58,9 @@ low-nonzero x e = ap not (ne-eqb x 0 (λ z. let o : x / 1 % 2 ≡ 1 = eqb-true _
 pub start-le-end : (s : List ℕ) → startOf s ≤ endOf s
 start-le-end s = first-sooner (bit 0) nonzero low-nonzero s
 
--- a content answer that is not the first variant is passed on
-pub refused-content : (s : List ℕ) (start n control : ℕ) (a : ContentAnswer)
-    → OneOf (1 ∷ 2 ∷ 3 ∷ 4 ∷ 5 ∷ []) (tagOf the-type a) → refusedWith (refusalOf a) ≡ withContent s start n control a
-unfolding withContent
-refused-content s start n control (content.Accepted k) h = absurd (miss (1 ∷ 2 ∷ 3 ∷ 4 ∷ 5 ∷ []) 0 tt h)
-refused-content s start n control content.ContentZeroLength h = refl
-refused-content s start n control content.MissingPidField h = refl
-refused-content s start n control content.UnrecognisedSFieldType h = refl
-refused-content s start n control content.UnrecognisedUFieldType h = refl
-refused-content s start n control content.WrongSizeFrmrInfo h = refl
+-- no start, no end
+pub null-end : (s : List ℕ) → startOf s ≡ length s → endOf s ≡ length s
+null-end s e = omega (arith, start-le-end s, first-le (bit 0) s)
 
 -- the code's searches by a mask, on octets: any bit of eight, and bit 0
 pub start-masked : (s : List ℕ) → Octets s → first (masked 0xFF) s ≡ startOf s
@@ -88,3 +81,12 @@ told-refused answer.UnrecognisedSFieldType h = refl
 told-refused answer.UnrecognisedUFieldType h = refl
 told-refused answer.WrongSizeFrmrInfo h = refl
 told-refused answer.TooManyRepeaters h = refl
+
+-- and of the content's answer
+pub told-content : (a : ContentAnswer) → OneOf (1 ∷ 2 ∷ 3 ∷ 4 ∷ 5 ∷ []) (tagOf the-type a) → isAccepted (refusalOf a) ≡ false
+told-content (content.Accepted k) h = absurd (miss (1 ∷ 2 ∷ 3 ∷ 4 ∷ 5 ∷ []) 0 tt h)
+told-content content.ContentZeroLength h = refl
+told-content content.MissingPidField h = refl
+told-content content.UnrecognisedSFieldType h = refl
+told-content content.UnrecognisedUFieldType h = refl
+told-content content.WrongSizeFrmrInfo h = refl

@@ -1,44 +1,27 @@
--- What decoding gives but for the addresses: the number, the lengths and the content are known without them.
-use Prim.Native.Nat.{ℕ, _+_, _*_, _≤_}
+-- What is known of an input before its content and its addresses are taken apart.
+use Prim.Native.Nat.{ℕ}
+use mathlib.Core.Bool.{cond}
 use mathlib.Core.List.{List}
-use lib.ListN.{length}
-use Rattle.frame.specs.declared.Ax25Frame.{Ax25Frame}
-use Rattle.decode.specs.Read.{startOf, parsedAt, routeAt, decode}
-use Rattle.decode.specs.declared.DecodeAnswer.the-variants as answer
+use lib.Dec.{eqb}
+use Rattle.decode.specs.Read.{startOf, endOf, decode}
+use Rattle.decode.specs.declared.DecodeAnswer.{DecodeAnswer}
+use Rattle.decode.specs.declared.DecodeAnswer.the-variants.{Accepted, MissingPidField, UnrecognisedSFieldType, UnrecognisedUFieldType, WrongSizeFrmrInfo, FrameTooShort}
 use Rattle.decode.specs.declared.Decoded.{Decoded}
 use Rattle.decode.specs.declared.Outline.{Outline}
 
--- the outline of what decoding gave, of octets whose address field starts at `start`
-abbrev pub outlineBy : ℕ → Decoded → Outline
-outlineBy start d = record {
-  answer = d .answer;
-  start = start;
-  «route_count» = d .frame .«route_count»;
-  «command_or_response» = d .frame .«command_or_response»;
-  content = d .frame .content;
-  «info_start» = d .«info_start»;
-  «info_len» = d .«info_len»;
-}
+-- the outline of what decoding gives, of octets with this start and end
+abbrev pub outlineBy : ℕ → ℕ → Decoded → Outline
+outlineBy start end d = record { answer = d .answer; start = start; end = end; «route_count» = d .frame .«route_count» }
 
 abbrev pub outlineOf : List ℕ → Outline
-outlineOf s = outlineBy (startOf s) (decode s)
+outlineOf s = outlineBy (startOf s) (endOf s) (decode s)
 
--- the groups that an outline tells of lie within the octets
-abbrev pub Fits : List ℕ → Outline → Type 0
-Fits s o = (o .«route_count» ≤ 8) × (o .start + 14 + 7 * o .«route_count» ≤ length s)
-
--- an accepted outline with its addresses
-unfoldable pub framed : List ℕ → Outline → Decoded
-framed s o = record {
-  answer = answer.Accepted;
-  frame = record {
-    source = parsedAt s (o .start + 7) .address;
-    destination = parsedAt s (o .start) .address;
-    route = routeAt s (o .start + 14) (o .«route_count»);
-    «route_count» = o .«route_count»;
-    «command_or_response» = o .«command_or_response»;
-    content = o .content;
-  };
-  «info_start» = o .«info_start»;
-  «info_len» = o .«info_len»;
-}
+-- the frame's answer by the number of the content's
+abbrev pub refusalBy : ℕ → DecodeAnswer
+refusalBy n =
+    cond (eqb n 0) Accepted
+    (cond (eqb n 5) MissingPidField
+    (cond (eqb n 6) UnrecognisedSFieldType
+    (cond (eqb n 7) UnrecognisedUFieldType
+    (cond (eqb n 8) WrongSizeFrmrInfo
+    (FrameTooShort 0)))))

@@ -59,10 +59,6 @@ commandOf false true = Response
 commandOf true true = Absent
 commandOf false false = Absent
 
--- the mark of the frame whose groups start at `start`
-abbrev pub markAt : List ℕ → ℕ → Mark
-markAt s start = commandOf (parsedAt s start .«high_bit») (parsedAt s (start + 7) .«high_bit»)
-
 -- the frame whose groups start at `start`, with n repeaters and this content
 unfoldable pub frameAt : List ℕ → ℕ → ℕ → FrameContent → Ax25Frame
 frameAt s start n k = record {
@@ -70,7 +66,7 @@ frameAt s start n k = record {
   destination = parsedAt s start .address;
   route = routeAt s (start + 14) n;
   «route_count» = n;
-  «command_or_response» = markAt s start;
+  «command_or_response» = commandOf (parsedAt s start .«high_bit») (parsedAt s (start + 7) .«high_bit»);
   content = k;
 }
 

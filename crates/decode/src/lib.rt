@@ -1,4 +1,4 @@
-// Reading a frame: first its outline, then its addresses.
+// Reading a frame: first its outline, then its content and its addresses.
 use address::group::ParsedAddress;
 use content::FrameContent;
 use content::UnnumberedInformation;
@@ -8,12 +8,14 @@ use frame::RouteEntry;
 use parse::ContentAnswer;
 use protocol::ProtocolIdentifier;
 ghost use mathlib.Core.Path.{_≡_};
+ghost use mathlib.Core.Bool.{true};
 ghost use Prim.Native.Nat.{_+_, _*_, _≤_, _<_};
 ghost use lib.ListN.{length, drop};
 ghost use Rattle.parse.specs.Content.{contentOf};
+ghost use Rattle.content.specs.Spell.{hasInfo};
 ghost use Rattle.decode.specs.Answer.{numberOf};
-ghost use Rattle.decode.specs.Outline.{outlineBy, outlineOf, Fits, framed};
-ghost use Rattle.decode.specs.Read.{parsedAt, routeAt, commandOf, markAt, refusedWith, refusalOf, withContent, decodeField, decode};
+ghost use Rattle.decode.specs.Outline.{refusalBy, outlineBy, outlineOf};
+ghost use Rattle.decode.specs.Read.{parsedAt, routeAt, commandOf, frameAt, refusedWith, acceptedWith, refusalOf, withContent, decodeField, decode};
 
 pub enum DecodeAnswer {
     Accepted,
@@ -36,16 +38,13 @@ pub struct Decoded {
     pub info_len: usize,
 }
 
-// What reading gives but for the addresses, which take most of its time: of a refused input what the default frame has.
+// What is known before anything is taken apart: the answer, and where the address field starts and ends. Most calls ask for no more.
 pub struct Outline {
     pub answer: DecodeAnswer,
-    // Where the address field starts.
     pub start: usize,
+    pub end: usize,
+    // Of a refused input 0.
     pub route_count: usize,
-    pub command_or_response: Mark,
-    pub content: FrameContent,
-    pub info_start: usize,
-    pub info_len: usize,
 }
 
 impl DecodeAnswer {
@@ -114,105 +113,84 @@ fn command_of(destination: bool, source: bool) -> Mark
     }
 }
 
-// The mark of the frame whose groups start at `start`.
-fn mark_at(bytes: &[u8], start: usize) -> Mark
-    requires { ⌜ start + 14 ≤ length (now bytes) ⌝ }
-    ensures { λ r. ⌜ r ≡ markAt (now (bytes .entry)) start ⌝ }
+// The frame's answer by the number of the content's.
+fn refusal(number: u32) -> DecodeAnswer
+    ensures { λ r. ⌜ r ≡ refusalBy number ⌝ }
 {
-    let to = parse_group(bytes, start);
-    let from = parse_group(bytes, start + 7);
-    command_of(to.high_bit, from.high_bit)
-}
-
-// The frame's answer where the content was refused.
-fn refusal(answer: ContentAnswer) -> DecodeAnswer
-    ensures { λ r. ⌜ r ≡ refusalOf answer ⌝ }
-{
-    match answer {
-        ContentAnswer::Accepted(_) => DecodeAnswer::Accepted,
-        ContentAnswer::ContentZeroLength => DecodeAnswer::FrameTooShort { len: 0 },
-        ContentAnswer::MissingPidField => DecodeAnswer::MissingPidField,
-        ContentAnswer::UnrecognisedSFieldType => DecodeAnswer::UnrecognisedSFieldType,
-        ContentAnswer::UnrecognisedUFieldType => DecodeAnswer::UnrecognisedUFieldType,
-        ContentAnswer::WrongSizeFrmrInfo => DecodeAnswer::WrongSizeFrmrInfo,
+    match number {
+        0 => DecodeAnswer::Accepted,
+        5 => DecodeAnswer::MissingPidField,
+        6 => DecodeAnswer::UnrecognisedSFieldType,
+        7 => DecodeAnswer::UnrecognisedUFieldType,
+        8 => DecodeAnswer::WrongSizeFrmrInfo,
+        _ => DecodeAnswer::FrameTooShort { len: 0 },
     }
 }
 
-fn refused_outline(start: usize, answer: DecodeAnswer) -> Outline
-    ensures { λ r. ⌜ r ≡ outlineBy start (refusedWith answer) ⌝ }
+// The answer for the content from the control octet on.
+fn content_answer(bytes: &[u8], control: usize) -> DecodeAnswer
+    requires { ⌜ control ≤ length (now bytes) ⌝ }
+    ensures { λ r. ⌜ r ≡ refusalOf (contentOf (drop control (now (bytes .entry)))) ⌝ }
+{
+    refusal(parse::number_of(&bytes[control..]))
+}
+
+fn refused_outline(answer: DecodeAnswer, start: usize, end: usize) -> Outline
+    ensures { λ r. ⌜ r ≡ outlineBy start end (refusedWith answer) ⌝ }
 {
     let frame = Ax25Frame::default();
-    let command_or_response = frame.command_or_response;
-    let content = frame.content;
     Outline {
         answer,
         start,
+        end,
         route_count: frame.route_count,
-        command_or_response,
-        content,
-        info_start: 0,
-        info_len: 0,
-    }
-}
-
-// The content, from the control octet on, and the info's place.
-fn outline_content(bytes: &[u8], start: usize, count: usize, control: usize) -> Outline
-    requires { ⌜ (start + 14 ≤ length (now bytes)) × (control < length (now bytes)) ⌝ }
-    ensures { λ r. ⌜ r ≡ outlineBy start (withContent (now (bytes .entry)) start count control (contentOf (drop control (now (bytes .entry))))) ⌝ }
-{
-    let answer = parse::parse_content(&bytes[control..]);
-    let ContentAnswer::Accepted(content) = answer else {
-        return refused_outline(start, refusal(answer));
-    };
-    let command_or_response = mark_at(bytes, start);
-    let mut info_start = 0;
-    let mut info_len = 0;
-    if content.has_info() {
-        info_start = control + 2;
-        info_len = bytes.len() - info_start;
-    }
-    Outline {
-        answer: DecodeAnswer::Accepted,
-        start,
-        route_count: count,
-        command_or_response,
-        content,
-        info_start,
-        info_len,
     }
 }
 
 // The address field, from its first octet to its last, and what follows.
 fn outline_field(bytes: &[u8], start: usize, end: usize) -> Outline
     requires { ⌜ (start ≤ end) × (end < length (now bytes)) ⌝ }
-    ensures { λ r. ⌜ r ≡ outlineBy start (decodeField (now (bytes .entry)) start end) ⌝ }
+    ensures { λ r. ⌜ r ≡ outlineBy start end (decodeField (now (bytes .entry)) start end) ⌝ }
 {
     let control = end + 1;
     let span = control - start;
     if span < 14 {
-        return refused_outline(start, DecodeAnswer::AddressFieldTooShort { start, end });
+        return refused_outline(
+            DecodeAnswer::AddressFieldTooShort { start, end },
+            start,
+            end,
+        );
     }
     if control == bytes.len() {
-        return refused_outline(start, DecodeAnswer::FrameTooShort { len: bytes.len() });
+        return refused_outline(DecodeAnswer::FrameTooShort { len: bytes.len() }, start, end);
     }
     let count = (span - 14) / 7;
     if 8 < count {
-        return refused_outline(start, DecodeAnswer::TooManyRepeaters);
+        return refused_outline(DecodeAnswer::TooManyRepeaters, start, end);
     }
-    outline_content(bytes, start, count, control)
+    let answer = content_answer(bytes, control);
+    let DecodeAnswer::Accepted = answer else {
+        return refused_outline(answer, start, end);
+    };
+    Outline {
+        answer,
+        start,
+        end,
+        route_count: count,
+    }
 }
 
-// All that from_bytes gives but the addresses. A call that only asks for a number, or for lengths, needs no more.
+// All that is known before anything is taken apart.
 pub fn outline_of(bytes: &[u8]) -> Outline
     ensures { λ r. ⌜ r ≡ outlineOf (now (bytes .entry)) ⌝ }
 {
     let start = search::find(bytes, 0xFF);
     if start == bytes.len() {
-        return refused_outline(start, DecodeAnswer::OnlyNullBytes);
+        return refused_outline(DecodeAnswer::OnlyNullBytes, start, start);
     }
     let end = search::find(bytes, 0x01);
     if end == bytes.len() {
-        return refused_outline(start, DecodeAnswer::NoEndToAddressField);
+        return refused_outline(DecodeAnswer::NoEndToAddressField, start, end);
     }
     outline_field(bytes, start, end)
 }
@@ -229,34 +207,59 @@ fn refused(answer: DecodeAnswer) -> Decoded
     }
 }
 
-// The addresses, from the start on, with the rest.
-fn accepted(bytes: &[u8], outline: Outline) -> Decoded
-    requires { ⌜ Fits (now bytes) outline ⌝ }
-    ensures { λ r. ⌜ r ≡ framed (now (bytes .entry)) outline ⌝ }
+fn parse_frame(bytes: &[u8], start: usize, count: usize, content: FrameContent) -> Ax25Frame
+    requires { ⌜ (count ≤ 8) × (start + 14 + 7 * count ≤ length (now bytes)) ⌝ }
+    ensures { λ r. ⌜ r ≡ frameAt (now (bytes .entry)) start count content ⌝ }
 {
-    let start = outline.start;
-    let route_count = outline.route_count;
     let to = parse_group(bytes, start);
     let from = parse_group(bytes, start + 7);
-    let route = parse_route(bytes, start + 14, route_count);
+    let route = parse_route(bytes, start + 14, count);
+    let command_or_response = command_of(to.high_bit, from.high_bit);
     let source = from.address;
     let destination = to.address;
-    let command_or_response = outline.command_or_response;
-    let content = outline.content;
-    let frame = Ax25Frame {
+    Ax25Frame {
         source,
         destination,
         route,
-        route_count,
+        route_count: count,
         command_or_response,
         content,
-    };
+    }
+}
+
+fn accepted(frame: Ax25Frame, control: usize, len: usize) -> Decoded
+    requires { ⌜ (hasInfo (frame .content) ≡ true → control + 2 ≤ len) ⌝ }
+    ensures { λ r. ⌜ r ≡ acceptedWith frame control len ⌝ }
+{
+    let content = frame.content;
+    if content.has_info() {
+        let info_start = control + 2;
+        return Decoded {
+            answer: DecodeAnswer::Accepted,
+            frame,
+            info_start,
+            info_len: len - info_start,
+        };
+    }
     Decoded {
         answer: DecodeAnswer::Accepted,
         frame,
-        info_start: outline.info_start,
-        info_len: outline.info_len,
+        info_start: 0,
+        info_len: 0,
     }
+}
+
+// The content, from the control octet on, and the frame around it.
+fn decode_content(bytes: &[u8], start: usize, count: usize, control: usize) -> Decoded
+    requires { ⌜ (count ≤ 8) × (start + 14 + 7 * count ≤ length (now bytes)) × (control ≤ length (now bytes)) ⌝ }
+    ensures { λ r. ⌜ r ≡ withContent (now (bytes .entry)) start count control (contentOf (drop control (now (bytes .entry)))) ⌝ }
+{
+    let answer = parse::parse_content(&bytes[control..]);
+    let ContentAnswer::Accepted(content) = answer else {
+        return refused(refusal(answer.number()));
+    };
+    let frame = parse_frame(bytes, start, count, content);
+    accepted(frame, control, bytes.len())
 }
 
 // Parse raw bytes into an Ax25Frame if possible.
@@ -268,5 +271,5 @@ pub fn from_bytes(bytes: &[u8]) -> Decoded
     let DecodeAnswer::Accepted = answer else {
         return refused(answer);
     };
-    accepted(bytes, outline)
+    decode_content(bytes, outline.start, outline.route_count, outline.end + 1)
 }

@@ -15,8 +15,8 @@ use Rattle.octets.specs.Octet.{Octets, bit}
 use Rattle.octets.proofs.Choice.{by, both}
 use Rattle.octets.proofs.Octet.{octets-drop, octets-take}
 use Rattle.octets.proofs.First.{first-passes, first-before, first-is}
-use Rattle.address.specs.Group.{groupOf, reserved, reservedSet}
-use Rattle.address.proofs.Laws.{group-reserved, written-exact, reserved-last}
+use Rattle.address.specs.Group.{groupOf, markOf, markSet, reserved, reservedSet}
+use Rattle.address.proofs.Laws.{group-reserved, mark-written, written-exact, reserved-last, mark-last}
 use Rattle.content.specs.Spell.{hasInfo, front, spellContent}
 use Rattle.parse.specs.Content.{contentOf}
 use Rattle.lean.specs.Lean.{lean, infoOf}
@@ -50,6 +50,11 @@ reserved-each s (suc n) j e h =
     let b = both (reservedGroups s n) _ e in
     ⊎-elim (λ (q : j ≡ n). rw q (b .1)) (λ (l : j < n). reserved-each s n j (b .0) l) (eq-or-lt-of-le (le-of-suc-le-suc h))
 
+always-marked : (m : Mark) → marked (commandOf (destinationMark m) (sourceMark m)) ≡ true
+always-marked Command = refl
+always-marked Response = refl
+always-marked Absent = refl
+
 module _ (f : Ax25Frame) (i : List ℕ) (p : Plain f i) where
   abbrev s : List ℕ
   s = spell f i
@@ -65,7 +70,15 @@ module _ (f : Ax25Frame) (i : List ℕ) (p : Plain f i) where
       let at : 7 * suc (suc j) ≡ 14 + 7 * j = omega arith in
       rw (at, ← drop-drop (7 * j) 14 s, after-src f i p, group-in (f .route) n n j _ (omega arith)) (group-reserved _ _ _)
 
-  pub direct-spelled : direct s (decode s .frame .«route_count») (decode s .frame .«command_or_response») ≡ true
+  -- and the marks of destination and source that writing gives
+  spelled-marks : marked (commandOf (parsedAt s 0 .«high_bit») (parsedAt s 7 .«high_bit»)) ≡ true
+  unfolding parsedAt
+  spelled-marks =
+      let to : markOf (groupAt s 0) ≡ destinationMark (f .«command_or_response») = rw (in-order f i p, group-front) (mark-written _ _ _) in
+      let from : markOf (groupAt s 7) ≡ sourceMark (f .«command_or_response») = rw (after-dest f i p, group-front) (mark-written _ _ _) in
+      rw (to, from) (always-marked (f .«command_or_response»))
+
+  pub direct-spelled : direct s (decode s .frame .«route_count») ≡ true
   unfolding direct inUse
   direct-spelled =
       let l = spell-length f i in
@@ -74,7 +87,7 @@ module _ (f : Ax25Frame) (i : List ℕ) (p : Plain f i) where
       rw (spelled-end f i p) at (first-passes (bit 0) s 0 (rw (spelled-end f i p) (omega (arith, front-some (f .content) (p .content))))) in
       let ones : reservedGroups s (n + 2) ≡ true = reserved-all s (n + 2) spelled-reserved in
       let tail : lean (drop (14 + 7 * n) s) ≡ true = rw (after-field f i p) (lean-spelled (f .content) i (p .content) (p .bare)) in
-      rw (frame-spell f i p, start, end, p .mark, ones, tail)
+      rw (frame-spell f i p, start, end, spelled-marks, ones, tail)
 
 marks-back : (a b : Bool) → marked (commandOf a b) ≡ true → (destinationMark (commandOf a b) ≡ a) × (sourceMark (commandOf a b) ≡ b)
 marks-back true true e = absurd (false≢true e)
@@ -166,14 +179,14 @@ module _ (s : List ℕ) (o : Octets s) (a : Accepts s (decode s)) where
   unfolding acceptedWith
   made-frame = ap (λ (d : Decoded). d .frame) (a .made)
 
-  pub direct-again : direct s (decode s .frame .«route_count») (decode s .frame .«command_or_response») ≡ true → spell (decode s .frame) (infoIn s (decode s)) ≡ s
+  pub direct-again : direct s (decode s .frame .«route_count») ≡ true → spell (decode s .frame) (infoIn s (decode s)) ≡ s
   unfolding direct frameAt
   direct-again e =
       let n : ℕ = a .count in
       let t = rw made-frame at e in
       let t1 = both (nonzero (getD s 0 0)) _ t in
       let t2 = both (bit 0 (getD s (13 + 7 * n) 0)) _ (t1 .1) in
-      let t3 = both (marked (commandOf (parsedAt s (startOf s) .«high_bit») (parsedAt s (startOf s + 7) .«high_bit»))) _ (t2 .1) in
+      let t3 = both (marked (commandOf (parsedAt s 0 .«high_bit») (parsedAt s 7 .«high_bit»))) _ (t2 .1) in
       let t4 = both (reservedGroups s (n + 2)) _ (t3 .1) in
       let start : startOf s ≡ 0 = first-is nonzero s 0 0 (omega (arith, a .start-in)) (t1 .0) (λ j h. absurd (omega arith)) in
       let counted = a .counted in
@@ -189,7 +202,7 @@ module _ (s : List ℕ) (o : Octets s) (a : Accepts s (decode s)) where
       let tail : front (a .kind) ++ infoIn s (decode s) ≡ drop (14 + 7 * n) s =
       ap (λ (y : List ℕ). front (a .kind) ++ y) info-tail ∙ x ∙ ap (λ (j : ℕ). drop j s) at in
       rw made-frame
-      (spell-again s o n end (a .end-in) (a .few) (t4 .0) (a .kind) (infoIn s (decode s)) start (rw start at (t3 .0)) tail)
+      (spell-again s o n end (a .end-in) (a .few) (t4 .0) (a .kind) (infoIn s (decode s)) start (t3 .0) tail)
 
 -- the reserved bits of a group, by its last octet in the input
 group-last : (s : List ℕ) (j : ℕ) → reserved (groupAt s (7 * j)) ≡ reservedSet (getD s (7 * j + 6) 0)
@@ -212,9 +225,16 @@ pub reserved-none : (s : List ℕ) → reservedGroups s 0 ≡ true
 unfolding reservedGroups
 reserved-none s = refl
 
+-- the mark of a group, by its last octet in the input
+parsed-mark : (s : List ℕ) (at : ℕ) → parsedAt s at .«high_bit» ≡ markSet (getD s (at + 6) 0)
+unfolding parsedAt
+parsed-mark s at = mark-last (groupAt s at) ∙ ap markSet (getD-take 7 (drop at s) 6 0 (omega arith) ∙ getD-drop at s 6 0)
+
 -- the five tests, in their order
-pub direct-is : (s : List ℕ) (n : ℕ) (m : Mark)
-    → direct s n m
-    ≡ (nonzero (getD s 0 0) && (bit 0 (getD s (13 + 7 * n) 0) && (marked m && (reservedGroups s (n + 2) && lean (drop (14 + 7 * n) s)))))
+pub direct-is : (s : List ℕ) (n : ℕ)
+    → direct s n
+    ≡ (nonzero (getD s 0 0)
+    && (bit 0 (getD s (13 + 7 * n) 0)
+    && (marked (commandOf (markSet (getD s 6 0)) (markSet (getD s 13 0))) && (reservedGroups s (n + 2) && lean (drop (14 + 7 * n) s)))))
 unfolding direct
-direct-is s n m = refl
+direct-is s n = rw (parsed-mark s 0, parsed-mark s 7) refl

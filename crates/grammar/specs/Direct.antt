@@ -6,21 +6,20 @@ use lib.ListN.{getD, drop}
 use Rattle.octets.specs.Octet.{bit}
 use Rattle.address.specs.Group.{reserved}
 use Rattle.lean.specs.Lean.{lean}
-use Rattle.decode.specs.Read.{nonzero, groupAt}
+use Rattle.decode.specs.Read.{nonzero, groupAt, parsedAt, commandOf}
 use Rattle.frame.specs.Spell.{marked}
-use Rattle.frame.specs.declared.Mark.{Mark}
 
 -- the reserved bits of the first n groups are ones
 unfoldable pub reservedGroups : List ℕ → ℕ → Bool
 reservedGroups s zero = true
 reservedGroups s (suc n) = reservedGroups s n && reserved (groupAt s (7 * n))
 
--- of an input that decodes with n repeaters and this mark: no leading null; the address field ends with its last whole group;
--- a mark; reserved bits; content just as writing gives it
-unfoldable pub direct : List ℕ → ℕ → Mark → Bool
-direct s n mark =
+-- of an input that decodes with n repeaters: no leading null; the address field ends with its last whole group; the marks of
+-- destination and source differ; reserved bits; content just as writing gives it
+unfoldable pub direct : List ℕ → ℕ → Bool
+direct s n =
     nonzero (getD s 0 0)
     && (bit 0 (getD s (13 + 7 * n) 0)
-    && (marked mark
+    && (marked (commandOf (parsedAt s 0 .«high_bit») (parsedAt s 7 .«high_bit»))
     && (reservedGroups s (n + 2)
     && lean (drop (14 + 7 * n) s))))

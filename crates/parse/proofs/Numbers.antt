@@ -1,7 +1,7 @@
 -- Each number is given exactly when its row of the table holds.
 use Prim.Native.Nat.{ℕ, _<_}
-use mathlib.Core.Path.{_≡_}
-use mathlib.Core.Bool.{true, false, cond}
+use mathlib.Core.Path.{_≡_, refl}
+use mathlib.Core.Bool.{Bool, true, false, cond}
 use mathlib.Core.List.{List}
 use native.Mathlib.Omega.{arith}
 use borrow.Author.Tests.{eq-eqb, ne-eqb, eqb-true, eqb-false}
@@ -12,7 +12,9 @@ use Rattle.octets.proofs.Choice.{either}
 use Rattle.content.specs.Control.{rr, rnr, rej, sabm, disc, dm, ua, frmr, ui, sKind, uKind}
 use Rattle.parse.specs.Content.{iOf, sOf, uiOf, frmrOf, uOf, contentOf, numberOf}
 use Rattle.parse.specs.Numbers.{isI, isS, isU, lacksPid, strangeS, strangeU, wrongFrmr, rows}
+use Rattle.content.specs.declared.FrameContent.{FrameContent}
 use Rattle.parse.specs.declared.ContentAnswer.{ContentAnswer}
+use Rattle.parse.specs.declared.ContentAnswer.the-variants.{Accepted, MissingPidField}
 
 module _ (s : List ℕ) where
   abbrev c : ℕ
@@ -76,3 +78,16 @@ pub rows-some : (s : List ℕ) → 0 < length s
     → rows s ≡ cond (lacksPid s) 5 (cond (strangeS s) 6 (cond (strangeU s) 7 (cond (wrongFrmr s) 8 0)))
 unfolding rows
 rows-some s h = simp (ne-eqb (length s) 0 (λ e. omega arith))
+
+-- I and UI differ in nothing but their fields: 5 where the PID is missing
+numbered-pid : (b : Bool) (k : FrameContent) → numberOf (cond b MissingPidField (Accepted k)) ≡ cond b 5 0
+numbered-pid true k = refl
+numbered-pid false k = refl
+
+pub pid-i : (s : List ℕ) → numberOf (iOf s) ≡ cond (ltb (length s) 2) 5 0
+unfolding iOf
+pid-i s = numbered-pid (ltb (length s) 2) _
+
+pub pid-ui : (s : List ℕ) → numberOf (uiOf s) ≡ cond (ltb (length s) 2) 5 0
+unfolding uiOf
+pid-ui s = numbered-pid (ltb (length s) 2) _

@@ -13,6 +13,9 @@ use content::UnnumberedAcknowledge;
 use content::UnnumberedInformation;
 use protocol::ProtocolIdentifier;
 ghost use mathlib.Core.Path.{_≡_};
+ghost use mathlib.Core.Bool.{cond};
+ghost use lib.Dec.{ltb};
+ghost use lib.ListN.{length};
 ghost use Rattle.parse.specs.Content.{iOf, sOf, uOf, uiOf, frmrOf, responseOf, contentOf, numberOf};
 
 // What reading content gives.
@@ -177,4 +180,63 @@ pub fn parse_content(bytes: &[u8]) -> ContentAnswer
         return parse_s_frame(c);
     }
     parse_u_frame(c, bytes)
+}
+
+// I and UI need a PID.
+fn pid_number(bytes: &[u8]) -> u32
+    ensures { λ r. ⌜ r ≡ cond (ltb (length (now (bytes .entry))) 2) 5 0 ⌝ }
+{
+    if bytes.len() < CONTROL_AND_PID { 5 } else { 0 }
+}
+
+fn s_number(c: u8) -> u32
+    ensures { λ r. ⌜ r ≡ numberOf (sOf c) ⌝ }
+{
+    let kind = c & 0b0000_1111;
+    match kind {
+        0b0000_0001 => 0,
+        0b0000_0101 => 0,
+        0b0000_1001 => 0,
+        _ => 6,
+    }
+}
+
+fn frmr_number(bytes: &[u8]) -> u32
+    ensures { λ r. ⌜ r ≡ numberOf (frmrOf (now (bytes .entry))) ⌝ }
+{
+    if bytes.len() != 4 { 8 } else { 0 }
+}
+
+fn u_number(c: u8, bytes: &[u8]) -> u32
+    ensures { λ r. ⌜ r ≡ numberOf (uOf c (now (bytes .entry))) ⌝ }
+{
+    let kind = c & 0b1110_1111;
+    match kind {
+        0b0010_1111 => 0,
+        0b0100_0011 => 0,
+        0b0000_1111 => 0,
+        0b0110_0011 => 0,
+        0b1000_0111 => frmr_number(bytes),
+        0b0000_0011 => pid_number(bytes),
+        _ => 7,
+    }
+}
+
+// The number of the content's answer, without taking the content apart.
+pub fn number_of(bytes: &[u8]) -> u32
+    ensures { λ r. ⌜ r ≡ numberOf (contentOf (now (bytes .entry))) ⌝ }
+{
+    if bytes.len() == 0 {
+        return 4;
+    }
+    let c = bytes[0];
+    let low = c & 0b0000_0001;
+    if low == 0b0000_0000 {
+        return pid_number(bytes);
+    }
+    let format = c & 0b0000_0011;
+    if format == 0b0000_0001 {
+        return s_number(c);
+    }
+    u_number(c, bytes)
 }

@@ -52,7 +52,7 @@ module _ (s : List ℕ) (o : Octets s) where
 
   -- the direct look at an accepted input is the canonical check
   pub canonical-direct : isAccepted (decode s .answer) ≡ true
-      → canonical s ≡ direct s (decode s .frame .«route_count») (decode s .frame .«command_or_response»)
+      → canonical s ≡ direct s (decode s .frame .«route_count»)
   canonical-direct a =
       equal (canonical s) _
       (λ e. let w = canonical-plain s o e in rw (w .1) at (direct-spelled _ _ (w .0)))

@@ -1,13 +1,13 @@
 // One spelling: the canonical check, and re-encoding.
 use decode::DecodeAnswer;
 use frame::Ax25Frame;
-use frame::Mark;
 use frame::WriteAnswer;
 ghost use mathlib.Core.Path.{_≡_};
 ghost use Prim.Native.Nat.{_+_, _*_, _≤_, _<_};
 ghost use lib.ListN.{length};
 ghost use Rattle.octets.specs.Splice.{splice};
 ghost use Rattle.frame.specs.Spell.{marked};
+ghost use Rattle.decode.specs.Read.{commandOf};
 ghost use Rattle.grammar.specs.Direct.{reservedGroups, direct};
 ghost use Rattle.spelling.specs.Canonical.{canonical};
 ghost use Rattle.spelling.specs.Reencode.{due, answerBy, reencode, reencoded, reencodeNumber};
@@ -36,14 +36,11 @@ impl ReencodeAnswer {
     }
 }
 
-fn is_marked(mark: Mark) -> bool
-    ensures { λ r. ⌜ r ≡ marked mark ⌝ }
+// Whether the marks of destination and source are those of a command or a response.
+fn is_marked(to: bool, from: bool) -> bool
+    ensures { λ r. ⌜ r ≡ marked (commandOf to from) ⌝ }
 {
-    match mark {
-        Mark::Command => true,
-        Mark::Response => true,
-        Mark::Absent => false,
-    }
+    if to { !from } else { from }
 }
 
 // Whether the reserved bits of the first n groups are ones.
@@ -61,10 +58,10 @@ fn reserved_groups(bytes: &[u8], n: usize) -> bool
     true
 }
 
-// A direct look at an input that decodes with this count and mark.
-fn is_direct(bytes: &[u8], count: usize, mark: Mark) -> bool
+// A direct look at an input that decodes with this count.
+fn is_direct(bytes: &[u8], count: usize) -> bool
     requires { ⌜ (count ≤ 8) × (14 + 7 * count < length (now bytes)) ⌝ }
-    ensures { λ r. ⌜ r ≡ direct (now (bytes .entry)) count mark ⌝ }
+    ensures { λ r. ⌜ r ≡ direct (now (bytes .entry)) count ⌝ }
 {
     if bytes[0] == 0 {
         return false;
@@ -74,7 +71,9 @@ fn is_direct(bytes: &[u8], count: usize, mark: Mark) -> bool
     if low == 0 {
         return false;
     }
-    if !is_marked(mark) {
+    let to = address::group::mark_set(bytes[6]);
+    let from = address::group::mark_set(bytes[13]);
+    if !is_marked(to, from) {
         return false;
     }
     if !reserved_groups(bytes, count + 2) {
@@ -93,21 +92,21 @@ pub fn is_canonical(bytes: &[u8]) -> bool
     let DecodeAnswer::Accepted = answer else {
         return false;
     };
-    let mark = outline.command_or_response;
-    is_direct(bytes, outline.route_count, mark)
+    is_direct(bytes, outline.route_count)
 }
 
 // How many octets re-encoding gives; 0 where the input is refused.
 pub fn reencoded_length(bytes: &[u8]) -> usize
     ensures { λ r. ⌜ r ≡ length (due (now (bytes .entry))) ⌝ }
 {
-    let outline = decode::outline_of(bytes);
-    let answer = outline.answer;
+    let decoded = decode::from_bytes(bytes);
+    let answer = decoded.answer;
     let DecodeAnswer::Accepted = answer else {
         return 0;
     };
-    let content = outline.content;
-    14 + 7 * outline.route_count + content.front_len() + outline.info_len
+    let frame = decoded.frame;
+    let content = frame.content;
+    14 + 7 * frame.route_count + content.front_len() + decoded.info_len
 }
 
 // What writing answers to a frame that was decoded: there is nothing to refuse but too little room.

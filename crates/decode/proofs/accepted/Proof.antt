@@ -1,36 +1,27 @@
--- The groups at 0, 7 and 14 from the start.
-use Rattle.decode.specs.Outline.{framed}
+-- Info stands after control and PID in a kind that has it.
+use mathlib.Core.Path.{sym, _∙_}
+use native.Mathlib.Omega.{arith}
+use Rattle.decode.specs.Read.{acceptedWith}
 use borrow.Author.Needs.{needs}
 use Rattle.decode.proofs.accepted.Statement.{statement}
 use Rattle.decode.proofs.accepted.Tie as tie
-use Rattle.decode.proofs.accepted.Lts as lts
 
-parse-group-requires : tie.Need-parse-group-requires
-parse-group-requires c κs = search needs
+has-info-requires : tie.Need-has-info-requires
+has-info-requires c κs = search needs
 
-add-parse-group : tie.Need-add-parse-group
-add-parse-group c = search needs
+add-info-start : tie.Need-add-info-start
+add-info-start c = omega (arith, c .before .before .pre (sym (c .before .has-info .ensures) ∙ c .if1 .taken))
 
-parse-group-requires-2 : tie.Need-parse-group-requires-2
-parse-group-requires-2 c κs = search needs
-
-add-parse-route : tie.Need-add-parse-route
-add-parse-route c = search needs
-
-parse-route-requires : tie.Need-parse-route-requires
-parse-route-requires c κs = search needs
+sub-t8 : tie.Need-sub-t8
+sub-t8 c = omega (arith, c .before .before .pre (sym (c .before .has-info .ensures) ∙ c .if1 .taken))
 
 returns : tie.Need-returns
-unfolding framed
-returns c = simp (c .before .before .parse-route .ensures, c .before .before .before .parse-group2 .ensures, c .before .before .before .before .parse-group .ensures)
+unfolding acceptedWith
+returns c = simp (sym (c .before .has-info .ensures) ∙ c .if1 .taken)
+
+returns-2 : tie.Need-returns-2
+unfolding acceptedWith
+returns-2 c = simp (sym (c .before .has-info .ensures) ∙ c .if1 .left)
 
 pub accepted-spec : {M : Type 1} → statement M
-accepted-spec =
-    tie.close
-    (tie.spec
-    parse-group-requires
-    add-parse-group
-    parse-group-requires-2
-    add-parse-route
-    parse-route-requires
-    returns)
+accepted-spec = tie.close (tie.spec has-info-requires add-info-start sub-t8 returns returns-2)

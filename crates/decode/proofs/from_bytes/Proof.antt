@@ -1,19 +1,21 @@
--- A refusal is the default frame; an accepted outline is completed by its addresses.
+-- A refusal is the default frame; past an accepted outline the content and the addresses make the whole.
 use mathlib.Core.Path.{_≡_, refl, ap, sym, _∙_}
 use mathlib.Core.Bool.{true}
+use native.Mathlib.Omega.{arith}
 use Rattle.decode.specs.Answer.{isAccepted}
 use Rattle.decode.specs.Read.{decode}
 use Rattle.decode.specs.declared.Outline.{Outline}
 use Rattle.decode.proofs.Read.{told-refused}
 use Rattle.decode.proofs.Refusals.{refused-is}
-use Rattle.decode.proofs.Whole.{outline-framed, outline-fits}
+use Rattle.decode.proofs.Whole.{Whole, whole}
 use borrow.Author.Needs.{needs}
 use Rattle.decode.proofs.from_bytes.Statement.{statement}
 use Rattle.decode.proofs.from_bytes.Tie as tie
-use Rattle.decode.proofs.from_bytes.Lts as lts
 
-accepted : (c : tie.After-enum-told) → isAccepted (decode (c .before .before .before .before .args .bytes .now) .answer) ≡ true
-accepted c = rw (← ap (λ (o : Outline). o .answer) (c .before .before .outline-of .ensures)) (rw (c .enum-told .given .1) refl)
+all : (c : tie.After-enum-told) →
+    let s = c .before .before .before .before .args .bytes .now in
+    Whole s (decode s .frame .«route_count»)
+all c = whole _ (rw (← ap (λ (o : Outline). o .answer) (c .before .before .outline-of .ensures)) (rw (c .enum-told .given .1) refl))
 
 outline-of-requires : tie.Need-outline-of-requires
 outline-of-requires c κs = search needs
@@ -30,13 +32,25 @@ returns c =
     let e = ap (λ (o : Outline). o .answer) (f .ensures) in
     c .refused .ensures ∙ rw e (sym (refused-is _ (rw (← e) (told-refused (f .result .answer) (c .before .match .keys2)))))
 
-accepted-requires : tie.Need-accepted-requires
-accepted-requires c κs = rw (c .before .before .outline-of .ensures) (outline-fits _ (accepted c))
+add-decode-content : tie.Need-add-decode-content
+add-decode-content c = rw (c .before .before .before .outline-of .ensures) (omega (arith, all (c .before) .control))
+
+decode-content-requires : tie.Need-decode-content-requires
+decode-content-requires c κs =
+    let w = all (c .before) in
+    rw (c .before .before .before .outline-of .ensures) (w .few, w .groups, w .control)
 
 returns-2 : tie.Need-returns-2
-returns-2 c = c .accepted .ensures ∙ rw (c .before .before .before .outline-of .ensures) (sym (outline-framed _ (accepted (c .before))))
+returns-2 c = c .decode-content .ensures ∙ rw (c .before .before .before .before .outline-of .ensures) (all (c .before .before) .made)
 
 pub from-bytes-spec : {M : Type 1} → statement M
 from-bytes-spec =
     tie.close
-    (tie.spec outline-of-requires enum-told refused-requires returns accepted-requires returns-2)
+    (tie.spec
+    outline-of-requires
+    enum-told
+    refused-requires
+    returns
+    add-decode-content
+    decode-content-requires
+    returns-2)

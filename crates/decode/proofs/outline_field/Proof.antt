@@ -1,10 +1,26 @@
--- Each refusal by its own test, in the definition's order.
+-- Each refusal by its own test, in the definition's order; the content's answer last.
+use Prim.Native.Nat.{_+_}
+use mathlib.Core.Path.{_≡_, refl, ap, _∙_}
 use borrow.Author.Tests.{eq-eqb, ne-eqb, lt-ltb, le-ltb}
-use Rattle.decode.specs.Read.{decodeField}
+use lib.ListN.{drop}
+use Rattle.parse.specs.Content.{contentOf}
+use Rattle.decode.specs.Read.{repeatersOf, withContent, decodeField}
+use Rattle.decode.specs.Outline.{outlineBy}
+use Rattle.decode.proofs.Read.{told-refused}
+use Rattle.decode.proofs.Whole.{refused-content, accepted-content}
 use borrow.Author.Needs.{needs}
 use Rattle.decode.proofs.outline_field.Statement.{statement}
 use Rattle.decode.proofs.outline_field.Tie as tie
-use Rattle.decode.proofs.outline_field.Lts as lts
+
+-- past the tests the content decides
+past : (c : tie.After-content-answer) →
+    let a = c .before .before .before .before .before .args in
+    decodeField (a .bytes .now) (a .start) (a .end)
+    ≡ withContent (a .bytes .now) (a .start) (repeatersOf (a .start) (a .end)) (a .end + 1) (contentOf (drop (a .end + 1) (a .bytes .now)))
+unfolding decodeField
+past c =
+    let b = c .before in
+    simp (le-ltb _ _ (b .before .before .if1 .left), ne-eqb _ _ (b .before .if2 .left), le-ltb _ _ (b .if3 .left))
 
 add-control : tie.Need-add-control
 add-control c = search needs
@@ -35,14 +51,27 @@ returns-3 c =
     let b = c .before in
     simp (c .refused-outline3 .ensures, le-ltb _ _ (b .before .before .if1 .left), ne-eqb _ _ (b .before .if2 .left), lt-ltb _ _ (b .if3 .taken))
 
-outline-content-requires : tie.Need-outline-content-requires
-outline-content-requires c κs = search needs
+content-answer-requires : tie.Need-content-answer-requires
+content-answer-requires c κs = search needs
+
+enum-told : tie.Need-enum-told
+enum-told c = search needs
+
+refused-outline-requires-4 : tie.Need-refused-outline-requires-4
+refused-outline-requires-4 c κs = search needs
 
 returns-4 : tie.Need-returns-4
-unfolding decodeField
 returns-4 c =
-    let b = c .before in
-    simp (c .outline-content .ensures, le-ltb _ _ (b .before .before .if1 .left), ne-eqb _ _ (b .before .if2 .left), le-ltb _ _ (b .if3 .left))
+    let r = c .before .before in
+    let e = r .content-answer .ensures in
+    c .refused-outline4 .ensures
+    ∙ rw (e, past r) (ap (outlineBy _ _) (refused-content _ _ _ _ _ (rw (← e) (told-refused (r .content-answer .result) (c .before .match .keys2)))))
+
+returns-5 : tie.Need-returns-5
+returns-5 c =
+    let r = c .before .before in
+    let e = r .content-answer .ensures in
+    rw (c .enum-told .given .1, past r) (accepted-content _ _ _ _ _ _ (rw (← e, c .enum-told .given .1) refl))
 
 pub outline-field-spec : {M : Type 1} → statement M
 outline-field-spec =
@@ -56,5 +85,8 @@ outline-field-spec =
     returns-2
     refused-outline-requires-3
     returns-3
-    outline-content-requires
-    returns-4)
+    content-answer-requires
+    enum-told
+    refused-outline-requires-4
+    returns-4
+    returns-5)

@@ -3,7 +3,7 @@ use mathlib.Core.Path.{_≡_, sym, _∙_}
 use native.Mathlib.Omega.{arith}
 use borrow.Author.Tests.{eq-eqb, ne-eqb}
 use Rattle.decode.specs.Read.{startOf, endOf, decode}
-use Rattle.decode.proofs.Read.{start-le-end, start-masked, end-masked}
+use Rattle.decode.proofs.Read.{start-le-end, null-end, start-masked, end-masked}
 use borrow.Author.Needs.{needs}
 use Rattle.decode.proofs.outline_of.Statement.{statement}
 use Rattle.decode.proofs.outline_of.Tie as tie
@@ -23,7 +23,11 @@ refused-outline-requires c κs = search needs
 
 returns : tie.Need-returns
 unfolding decode
-returns c = simp (c .refused-outline .ensures, ← start (c .before .before), eq-eqb _ _ (c .before .if1 .taken))
+returns c =
+    let s = c .before .before .before .before .args .bytes .now in
+    let b = start (c .before .before) in
+    let e : endOf s ≡ c .before .before .find .result = null-end s (sym b ∙ c .before .if1 .taken) ∙ sym (c .before .if1 .taken) in
+    simp (c .refused-outline .ensures, ← b, e, eq-eqb _ _ (c .before .if1 .taken))
 
 find-requires-2 : tie.Need-find-requires-2
 find-requires-2 c κs = search needs

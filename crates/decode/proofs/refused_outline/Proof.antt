@@ -3,7 +3,6 @@ use Rattle.decode.specs.Read.{refusedWith}
 use borrow.Author.Needs.{needs}
 use Rattle.decode.proofs.refused_outline.Statement.{statement}
 use Rattle.decode.proofs.refused_outline.Tie as tie
-use Rattle.decode.proofs.refused_outline.Lts as lts
 
 default-requires : tie.Need-default-requires
 default-requires c κs = search needs

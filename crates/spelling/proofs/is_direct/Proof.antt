@@ -9,7 +9,8 @@ use Rattle.octets.specs.Octet.{bit}
 use Rattle.octets.proofs.Bits.{bit-test}
 use Rattle.octets.proofs.Splice.{part-from}
 use Rattle.frame.specs.Spell.{marked}
-use Rattle.decode.specs.Read.{nonzero}
+use Rattle.address.specs.Group.{markSet}
+use Rattle.decode.specs.Read.{nonzero, commandOf}
 use Rattle.grammar.specs.Direct.{reservedGroups}
 use Rattle.grammar.proofs.Direct.{direct-is}
 use borrow.Author.Needs.{needs}
@@ -23,6 +24,10 @@ low : (c : tie.Else2) → bit 0 (getD (c .before .before .before .before .before
 low c =
     let a = c .before .before .before .before .before .args in
     sym (bit-test (getD (a .bytes .now) (13 + 7 * a .count) 0) 0) ∙ ap not (ne-eqb _ _ (c .if2 .left))
+
+marks : (c : tie.After-is-marked) → c .is-marked .result
+    ≡ marked (commandOf (markSet (getD (c .before .before .before .before .before .before .before .before .before .before .args .bytes .now) 6 0)) (markSet (getD (c .before .before .before .before .before .before .before .before .before .before .args .bytes .now) 13 0)))
+marks c = c .is-marked .ensures ∙ rw (c .before .mark-set2 .ensures, c .before .before .before .mark-set .ensures) refl
 
 shared-slice-read-if1 : tie.Need-shared-slice-read-if1
 shared-slice-read-if1 c = search needs
@@ -45,11 +50,23 @@ returns-2 c =
     let b : ℕ = getD (a .bytes .now) (13 + 7 * a .count) 0 in
     simp (direct-is, first (c .before .before), sym (bit-test b 0) ∙ ap not (eq-eqb _ _ (c .if2 .taken)))
 
+shared-slice-read-mark-set : tie.Need-shared-slice-read-mark-set
+shared-slice-read-mark-set c = search needs
+
+mark-set-requires : tie.Need-mark-set-requires
+mark-set-requires c κs = search needs
+
+shared-slice-read-mark-set-2 : tie.Need-shared-slice-read-mark-set-2
+shared-slice-read-mark-set-2 c = search needs
+
+mark-set-requires-2 : tie.Need-mark-set-requires-2
+mark-set-requires-2 c κs = search needs
+
 is-marked-requires : tie.Need-is-marked-requires
 is-marked-requires c κs = search needs
 
 returns-3 : tie.Need-returns-3
-returns-3 c = simp (direct-is, first (c .before .before .before .before), low (c .before .before), sym (c .before .is-marked .ensures) ∙ not-true _ (c .if3 .taken))
+returns-3 c = simp (direct-is, first (c .before .before .before .before .before .before .before .before), low (c .before .before .before .before .before .before), sym (marks (c .before)) ∙ not-true _ (c .if3 .taken))
 
 add-reserved-groups : tie.Need-add-reserved-groups
 add-reserved-groups c = search needs
@@ -62,9 +79,9 @@ returns-4 c =
     let m = c .before .before in
     simp (
       direct-is,
-      first (m .before .before .before .before),
-      low (m .before .before),
-      sym (m .before .is-marked .ensures) ∙ not-false _ (m .if3 .left),
+      first (m .before .before .before .before .before .before .before .before),
+      low (m .before .before .before .before .before .before),
+      sym (marks (m .before)) ∙ not-false _ (m .if3 .left),
       sym (c .before .reserved-groups .ensures) ∙ not-true _ (c .if4 .taken),
     )
 
@@ -92,9 +109,9 @@ returns-5 c =
     let m = r .before .before in
     simp (
       direct-is,
-      first (m .before .before .before .before),
-      low (m .before .before),
-      sym (m .before .is-marked .ensures) ∙ not-false _ (m .if3 .left),
+      first (m .before .before .before .before .before .before .before .before),
+      low (m .before .before .before .before .before .before),
+      sym (marks (m .before)) ∙ not-false _ (m .if3 .left),
       sym (r .before .reserved-groups .ensures) ∙ not-false _ (r .if4 .left),
       c .is-lean .ensures,
       part-from,
@@ -110,6 +127,10 @@ is-direct-spec =
     add-end
     shared-slice-read-low
     returns-2
+    shared-slice-read-mark-set
+    mark-set-requires
+    shared-slice-read-mark-set-2
+    mark-set-requires-2
     is-marked-requires
     returns-3
     add-reserved-groups

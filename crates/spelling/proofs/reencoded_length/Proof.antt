@@ -8,9 +8,8 @@ use Rattle.octets.specs.Octet.{Octets}
 use Rattle.content.proofs.Encode.{front-short}
 use Rattle.decode.specs.Answer.{isAccepted}
 use Rattle.decode.specs.Read.{decode}
-use Rattle.decode.specs.declared.Outline.{Outline}
 use Rattle.decode.proofs.Read.{told-refused}
-use Rattle.grammar.proofs.Plain.{inside}
+use Rattle.grammar.proofs.Plain.{Inside, inside}
 use Rattle.spelling.specs.Reencode.{due}
 use Rattle.spelling.proofs.Laws.{due-refused, due-length, due-fits}
 use borrow.Author.Needs.{needs}
@@ -18,49 +17,48 @@ use Rattle.spelling.proofs.reencoded_length.Statement.{statement}
 use Rattle.spelling.proofs.reencoded_length.Tie as tie
 
 accepted : (c : tie.After-enum-told) → isAccepted (decode (c .before .before .before .before .args .bytes .now) .answer) ≡ true
-accepted c = rw (← ap (λ (o : Outline). o .answer) (c .before .before .outline-of .ensures)) (rw (c .enum-told .given .1) refl)
+accepted c = rw (← c .before .before .from-bytes .ensures) (rw (c .enum-told .given .1) refl)
 
 octets : (c : tie.After-shared-slice-known) → Octets (c .before .args .bytes .now)
 octets c k = c .shared-slice-known .given k .fits
 
 -- the sum is the length
 whole : (c : tie.After-struct-known2) →
-    let f = c .before .before .before .before .before in
-    14 + 7 * f .outline-of .result .«route_count» + c .before .front-len .result + f .outline-of .result .«info_len»
+    let f = c .before .before .before .before .before .before in
+    14 + 7 * f .from-bytes .result .frame .«route_count» + c .before .front-len .result + f .from-bytes .result .«info_len»
     ≡ length (due (f .before .before .args .bytes .now))
 whole c =
-    let f = c .before .before .before .before .before in
-    rw (c .before .front-len .ensures, f .outline-of .ensures) (sym (due-length _ (accepted (c .before .before .before))))
+    let f = c .before .before .before .before .before .before in
+    rw (c .before .front-len .ensures, f .from-bytes .ensures) (sym (due-length _ (accepted (c .before .before .before .before))))
 
-few : (c : tie.After-enum-told) → c .before .before .outline-of .result .«route_count» ≤ 8
-few c = rw (c .before .before .outline-of .ensures) (inside _ (accepted c) .few)
+within : (c : tie.After-enum-told) → Inside (c .before .before .before .before .args .bytes .now) (c .before .before .from-bytes .result)
+within c = rw (c .before .before .from-bytes .ensures) (inside _ (accepted c))
 
-outline-of-requires : tie.Need-outline-of-requires
-outline-of-requires c κs = search needs
+from-bytes-requires : tie.Need-from-bytes-requires
+from-bytes-requires c κs = search needs
 
 enum-told : tie.Need-enum-told
 enum-told c = search needs
 
 returns : tie.Need-returns
 returns c =
-    let f = c .before .outline-of in
-    let e = ap (λ (o : Outline). o .answer) (f .ensures) in
-    sym (ap length (due-refused _ (rw (← e) (told-refused (f .result .answer) (c .match .keys2)))))
+    let f = c .before .from-bytes in
+    sym (ap length (due-refused _ (rw (← f .ensures) (told-refused (f .result .answer) (c .match .keys2)))))
 
 mul-result : tie.Need-mul-result
-mul-result c = omega (arith, few (c .before))
+mul-result c = omega (arith, within (c .before .before) .few)
 
 add-result : tie.Need-add-result
-add-result c = omega (arith, few (c .before))
+add-result c = omega (arith, within (c .before .before) .few)
 
 front-len-requires : tie.Need-front-len-requires
 front-len-requires c κs = search needs
 
 add-result-2 : tie.Need-add-result-2
-add-result-2 c = omega (arith, few (c .before .before), c .front-len .ensures, front-short (c .before .before .before .before .outline-of .result .content))
+add-result-2 c = omega (arith, within (c .before .before .before) .few, c .front-len .ensures, front-short (c .before .before .before .before .before .from-bytes .result .frame .content))
 
 add-result-3 : tie.Need-add-result-3
-add-result-3 c = omega (arith, whole c, due-fits _ (octets (c .before .before .before .before .before .before)) (accepted (c .before .before .before)))
+add-result-3 c = omega (arith, whole c, due-fits _ (octets (c .before .before .before .before .before .before .before)) (accepted (c .before .before .before .before)))
 
 returns-2 : tie.Need-returns-2
 returns-2 c = whole c
@@ -69,7 +67,7 @@ pub reencoded-length-spec : {M : Type 1} → statement M
 reencoded-length-spec =
     tie.close
     (tie.spec
-    outline-of-requires
+    from-bytes-requires
     enum-told
     returns
     mul-result

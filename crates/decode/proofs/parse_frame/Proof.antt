@@ -1,0 +1,41 @@
+-- The groups at 0, 7 and 14 from the start.
+use Rattle.decode.specs.Read.{frameAt}
+use borrow.Author.Needs.{needs}
+use Rattle.decode.proofs.parse_frame.Statement.{statement}
+use Rattle.decode.proofs.parse_frame.Tie as tie
+
+parse-group-requires : tie.Need-parse-group-requires
+parse-group-requires c κs = search needs
+
+add-parse-group : tie.Need-add-parse-group
+add-parse-group c = search needs
+
+parse-group-requires-2 : tie.Need-parse-group-requires-2
+parse-group-requires-2 c κs = search needs
+
+add-parse-route : tie.Need-add-parse-route
+add-parse-route c = search needs
+
+parse-route-requires : tie.Need-parse-route-requires
+parse-route-requires c κs = search needs
+
+command-of-requires : tie.Need-command-of-requires
+command-of-requires c κs = search needs
+
+returns : tie.Need-returns
+unfolding frameAt
+returns c =
+    let b = c .before .before in
+    simp (b .command-of .ensures, b .before .parse-route .ensures, b .before .before .parse-group2 .ensures, b .before .before .before .parse-group .ensures)
+
+pub parse-frame-spec : {M : Type 1} → statement M
+parse-frame-spec =
+    tie.close
+    (tie.spec
+    parse-group-requires
+    add-parse-group
+    parse-group-requires-2
+    add-parse-route
+    parse-route-requires
+    command-of-requires
+    returns)

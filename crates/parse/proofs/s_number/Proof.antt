@@ -1,0 +1,35 @@
+-- By the low four bits.
+use mathlib.Core.Path.{sym, _∙_}
+use Prim.Native.Nat.{ℕ}
+use borrow.Author.Tests.{ne-eqb}
+use Rattle.content.specs.Control.{sKind}
+use Rattle.content.proofs.Masks.{s-mask}
+use Rattle.parse.specs.Content.{sOf}
+use Rattle.parse.proofs.s_number.Statement.{statement}
+use Rattle.parse.proofs.s_number.Tie as tie
+
+returns : tie.Need-returns
+unfolding sOf
+returns c = simp (sym (s-mask (c .before .args .c)) ∙ c .match .keys1)
+
+returns-2 : tie.Need-returns-2
+unfolding sOf
+returns-2 c = simp (sym (s-mask (c .before .args .c)) ∙ c .match .keys2)
+
+returns-3 : tie.Need-returns-3
+unfolding sOf
+returns-3 c = simp (sym (s-mask (c .before .args .c)) ∙ c .match .keys3)
+
+returns-4 : tie.Need-returns-4
+unfolding sOf
+returns-4 c =
+    let n : ℕ = c .before .args .c in
+    let rest = c .match .rest in
+    simp (
+      ne-eqb (sKind n) 0x01 (λ e. rest .0 .0 .1 (s-mask n ∙ e)),
+      ne-eqb (sKind n) 0x05 (λ e. rest .0 .1 (s-mask n ∙ e)),
+      ne-eqb (sKind n) 0x09 (λ e. rest .1 (s-mask n ∙ e)),
+    )
+
+pub s-number-spec : {M : Type 1} → statement M
+s-number-spec = tie.close (tie.spec returns returns-2 returns-3 returns-4)
