@@ -8,9 +8,9 @@ use crate::report::{self, Report};
 use ax25::frame::Ax25Frame;
 use std::time::{Duration, Instant};
 
-const ROUNDS: usize = 15;
-/// How long one round of one side takes, about.
-const ROUND: Duration = Duration::from_millis(12);
+const ROUNDS: usize = 150;
+/// How long one round of one side takes, at least: so short that other programs on the host leave some rounds alone.
+const ROUND: Duration = Duration::from_millis(1);
 
 /// Makes the compiler believe that a value is used.
 fn keep<T>(value: &T) {
@@ -43,10 +43,10 @@ fn race<const N: usize>(inputs: usize, sides: [&mut dyn FnMut(u32) -> f64; N]) -
     best
 }
 
-/// How often something runs in one round.
+/// How often something runs in one round. An emulator's first run translates the code, so the better of two tells.
 fn calibrated(side: &mut dyn FnMut(u32) -> f64) -> u32 {
     let mut turns = 1;
-    while side(turns) * f64::from(turns) < ROUND.as_nanos() as f64 / 4.0 {
+    while side(turns).min(side(turns)) * f64::from(turns) < ROUND.as_nanos() as f64 / 4.0 {
         turns *= 2;
     }
     turns * 4
@@ -139,7 +139,8 @@ fn reencode(inputs: &[Vec<u8>]) -> [f64; 2] {
 }
 
 /// Writing what was decoded: the port with the reading of the flat record, that reading alone, and the Rust. A record with nine
-/// repeaters is refused with 21 before anything else is looked at, so that its time is that of the reading.
+/// repeaters is refused with 21 before anything else is looked at, so that its time is that of the reading. The row has the first
+/// less the second; what the compiler puts off of the reading until after that refusal stays in it.
 fn encode(inputs: &[Vec<u8>]) -> Option<[f64; 3]> {
     let frames: Vec<Ax25Frame> = inputs.iter().filter_map(|input| Ax25Frame::from_bytes(input).ok()).collect();
     if frames.is_empty() {
