@@ -1,5 +1,5 @@
 //! Times of the port and the Rust in one process, on the same inputs, in turns. Only their ratios say something, above all
-//! where the program is emulated; nothing is asserted.
+//! where the program is emulated; no time is asserted.
 
 use crate::flat;
 use crate::inputs;
