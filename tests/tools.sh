@@ -141,14 +141,14 @@ need_run() {
 # Runs a program that is linked to a C library by the kit's own one, as rt runs the programs that it makes. After need_run.
 run_linked() { "$RUN_X86" "$KIT_TOOLS/lib/ld-linux-x86-64.so.2" --library-path "$KIT_TOOLS/lib" "$@"; }
 
-# NM, OBJDUMP, OBJCOPY, READELF: LLVM's, which the kit's compiler is too when it is called by their names.
+# NM, OBJDUMP, OBJCOPY, READELF, SIZE: LLVM's, which the kit's compiler is too when it is called by their names.
 need_llvm() {
     need_kit && tools_folder || return 1
-    for tool in nm objdump objcopy readelf; do
+    for tool in nm objdump objcopy readelf size; do
         ln -sf "$KIT_TOOLS/bin/clang" "$tools_dir/bin/llvm-$tool" || return 1
     done
-    NM=$tools_dir/bin/llvm-nm OBJDUMP=$tools_dir/bin/llvm-objdump OBJCOPY=$tools_dir/bin/llvm-objcopy READELF=$tools_dir/bin/llvm-readelf
-    "$NM" --version >/dev/null 2>&1 || { tools_say "the kit's compiler is not llvm-nm, llvm-objdump, llvm-objcopy and llvm-readelf too"; return 1; }
+    NM=$tools_dir/bin/llvm-nm OBJDUMP=$tools_dir/bin/llvm-objdump OBJCOPY=$tools_dir/bin/llvm-objcopy READELF=$tools_dir/bin/llvm-readelf SIZE=$tools_dir/bin/llvm-size
+    "$NM" --version >/dev/null 2>&1 || { tools_say "the kit's compiler is not llvm-nm, llvm-objdump, llvm-objcopy, llvm-readelf and llvm-size too"; return 1; }
 }
 
 # Compilers

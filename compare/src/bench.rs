@@ -1,5 +1,5 @@
 //! Times of the port and the Rust in one process, on the same inputs, in turns. Only their ratios say something, above all
-//! where the program is emulated; nothing is asserted.
+//! where the program is emulated; no time is asserted.
 
 use crate::flat;
 use crate::inputs;
@@ -8,38 +8,45 @@ use crate::report::{self, Report};
 use ax25::frame::Ax25Frame;
 use std::time::{Duration, Instant};
 
-const ROUNDS: usize = 15;
-/// How long one round of one side takes, about.
-const ROUND: Duration = Duration::from_millis(12);
+const ROUNDS: usize = 150;
+/// How long one round of one side takes, at least: so short that other programs on the host leave some rounds alone.
+const ROUND: Duration = Duration::from_millis(1);
 
 /// Makes the compiler believe that a value is used.
 fn keep<T>(value: &T) {
     unsafe { std::arch::asm!("/* {0} */", in(reg) value, options(nostack, preserves_flags)) }
 }
 
-/// Nanoseconds of one run, the best round of each side.
-fn race(mut port: impl FnMut(), mut rust: impl FnMut()) -> (f64, f64) {
-    let turns = calibrated(&mut port).min(calibrated(&mut rust));
-    let mut best = (f64::MAX, f64::MAX);
+/// Something to be timed: the nanoseconds of one run, when it runs so many times.
+fn timed(mut run: impl FnMut()) -> impl FnMut(u32) -> f64 {
+    move |turns| {
+        let start = Instant::now();
+        for _ in 0..turns {
+            run();
+        }
+        start.elapsed().as_nanos() as f64 / f64::from(turns)
+    }
+}
+
+/// Nanoseconds of one run by each of its inputs, the best round of each side.
+fn race<const N: usize>(inputs: usize, sides: [&mut dyn FnMut(u32) -> f64; N]) -> [f64; N] {
+    let mut turns = [0; N];
+    let mut best = [f64::MAX; N];
+    for i in 0..N {
+        turns[i] = calibrated(sides[i]);
+    }
     for _ in 0..ROUNDS {
-        best.0 = best.0.min(timed(turns, &mut port));
-        best.1 = best.1.min(timed(turns, &mut rust));
+        for i in 0..N {
+            best[i] = best[i].min(sides[i](turns[i]) / inputs as f64);
+        }
     }
     best
 }
 
-fn timed(turns: u32, run: &mut impl FnMut()) -> f64 {
-    let start = Instant::now();
-    for _ in 0..turns {
-        run();
-    }
-    start.elapsed().as_nanos() as f64 / f64::from(turns)
-}
-
-/// How often something runs in one round.
-fn calibrated(run: &mut impl FnMut()) -> u32 {
+/// How often something runs in one round. An emulator's first run translates the code, so the better of two tells.
+fn calibrated(side: &mut dyn FnMut(u32) -> f64) -> u32 {
     let mut turns = 1;
-    while timed(turns, run) * f64::from(turns) < ROUND.as_nanos() as f64 / 4.0 {
+    while side(turns).min(side(turns)) * f64::from(turns) < ROUND.as_nanos() as f64 / 4.0 {
         turns *= 2;
     }
     turns * 4
@@ -67,71 +74,93 @@ fn cases() -> Vec<Case> {
     all
 }
 
+/// Times of the port and of the Rust by input.
+type Call = fn(&[Vec<u8>]) -> [f64; 2];
+const CALLS: [(&str, Call); 4] = [("decode", decode), ("canonical", canonical), ("length", length), ("re-encode", reencode)];
+
 pub fn run() -> Report {
     let mut report = Report::default();
     let mut rows = Vec::new();
     println!("{:<30} {:<10} {:>10} {:>10} {:>12}", "input", "call", "port ns", "Rust ns", "Rust / port");
     for case in cases() {
-        decode(&case, &mut rows);
-        canonical(&case, &mut rows);
-        reencode(&case, &mut rows);
-        encode(&case, &mut rows);
+        for (name, call) in CALLS {
+            row(&mut rows, case.name, name, call(&case.inputs), &[]);
+        }
+        if let Some([gross, reading, rust]) = encode(&case.inputs) {
+            row(&mut rows, case.name, "encode", [gross - reading, rust], &[("gross_ns", format!("{:.1}", gross))]);
+        }
     }
     report.extra("bench", report::list(rows.into_iter()));
     growth(&mut report);
     report
 }
 
-fn row(rows: &mut Vec<String>, case: &Case, call: &str, (port, rust): (f64, f64)) {
-    let each = case.inputs.len() as f64;
-    let (port, rust) = (port / each, rust / each);
-    println!("{:<30} {:<10} {:>10.1} {:>10.1} {:>12.2}", case.name, call, port, rust, rust / port);
-    rows.push(report::object(&[
-        ("input", report::string(case.name)),
+fn row(rows: &mut Vec<String>, input: &str, call: &str, [port, rust]: [f64; 2], more: &[(&str, String)]) {
+    println!("{:<30} {:<10} {:>10.1} {:>10.1} {:>12.2}", input, call, port, rust, rust / port);
+    let fields = [
+        ("input", report::string(input)),
         ("call", report::string(call)),
         ("port_ns", format!("{:.1}", port)),
         ("rust_ns", format!("{:.1}", rust)),
         ("ratio", format!("{:.3}", rust / port)),
-    ]));
+    ];
+    rows.push(report::object(&[&fields, more].concat()));
 }
 
-fn decode(case: &Case, rows: &mut Vec<String>) {
-    let port = || case.inputs.iter().for_each(|input| keep(&bare::decode(input)));
-    let rust = || case.inputs.iter().for_each(|input| keep(&Ax25Frame::from_bytes(input)));
-    row(rows, case, "decode", race(port, rust));
+fn decode(inputs: &[Vec<u8>]) -> [f64; 2] {
+    let port = || inputs.iter().for_each(|input| keep(&bare::decode(input)));
+    let rust = || inputs.iter().for_each(|input| keep(&Ax25Frame::from_bytes(input)));
+    race(inputs.len(), [&mut timed(port), &mut timed(rust)])
 }
 
 /// The Rust has no canonical check: decoding, writing and comparing is what its caller would do.
-fn canonical(case: &Case, rows: &mut Vec<String>) {
-    let port = || case.inputs.iter().for_each(|input| keep(&bare::canonical(input)));
+fn canonical(inputs: &[Vec<u8>]) -> [f64; 2] {
+    let port = || inputs.iter().for_each(|input| keep(&bare::canonical(input)));
     let rust = || {
-        for input in &case.inputs {
+        for input in inputs {
             keep(&Ax25Frame::from_bytes(input).map_or(false, |frame| frame.to_bytes() == *input));
         }
     };
-    row(rows, case, "canonical", race(port, rust));
+    race(inputs.len(), [&mut timed(port), &mut timed(rust)])
 }
 
-fn reencode(case: &Case, rows: &mut Vec<String>) {
-    let mut output = vec![0; 1 << 12];
-    let port = || case.inputs.iter().for_each(|input| keep(&bare::reencode(input, &mut output)));
-    let rust = || case.inputs.iter().for_each(|input| keep(&Ax25Frame::from_bytes(input).map(|frame| frame.to_bytes())));
-    row(rows, case, "re-encode", race(port, rust));
+/// How long re-encoding gets. The Rust has to write it to know.
+fn length(inputs: &[Vec<u8>]) -> [f64; 2] {
+    let port = || inputs.iter().for_each(|input| keep(&bare::reencoded_length(input)));
+    let rust = || inputs.iter().for_each(|input| keep(&Ax25Frame::from_bytes(input).map_or(0, |frame| frame.to_bytes().len())));
+    race(inputs.len(), [&mut timed(port), &mut timed(rust)])
 }
 
-/// Writing what was decoded. The port's time includes reading the flat record.
-fn encode(case: &Case, rows: &mut Vec<String>) {
-    let frames: Vec<Ax25Frame> = case.inputs.iter().filter_map(|input| Ax25Frame::from_bytes(input).ok()).collect();
+fn reencode(inputs: &[Vec<u8>]) -> [f64; 2] {
+    let mut output = vec![0; 1 << 16];
+    let port = move || inputs.iter().for_each(|input| keep(&bare::reencode(input, &mut output)));
+    let rust = || inputs.iter().for_each(|input| keep(&Ax25Frame::from_bytes(input).map(|frame| frame.to_bytes())));
+    race(inputs.len(), [&mut timed(port), &mut timed(rust)])
+}
+
+/// Writing what was decoded: the port with the reading of the flat record, that reading alone, and the Rust. A record with nine
+/// repeaters is refused with 21 before anything else is looked at, so that its time is that of the reading. The row has the first
+/// less the second; what the compiler puts off of the reading until after that refusal stays in it.
+fn encode(inputs: &[Vec<u8>]) -> Option<[f64; 3]> {
+    let frames: Vec<Ax25Frame> = inputs.iter().filter_map(|input| Ax25Frame::from_bytes(input).ok()).collect();
     if frames.is_empty() {
-        return;
+        return None;
     }
     let records: Vec<_> = frames.iter().map(|frame| (flat::of_frame(frame), flat::info_of(frame).unwrap_or(&[]))).collect();
+    let mut refused = records.clone();
+    refused.iter_mut().for_each(|(record, _)| record[flat::COUNT] = 9);
+    let rust = || frames.iter().for_each(|frame| keep(&frame.to_bytes()));
+    let times = race(frames.len(), [&mut writing(&records, 0), &mut writing(&refused, 21), &mut timed(rust)]);
+    Some(times)
+}
+
+/// The port's writing of records with their info, each of which gives this number.
+fn writing<'a>(records: &'a [(flat::Flat, &[u8])], number: u32) -> impl FnMut(u32) -> f64 + 'a {
     let mut output = vec![0; 1 << 12];
     let mut length = [0];
-    let port = || records.iter().for_each(|(record, info)| keep(&bare::encode(record, info, &mut output, &mut length)));
-    let rust = || frames.iter().for_each(|frame| keep(&frame.to_bytes()));
-    let counted = Case { name: case.name, inputs: vec![Vec::new(); frames.len()] };
-    row(rows, &counted, "encode", race(port, rust));
+    let mut write = move |(record, info): &(flat::Flat, &[u8])| bare::encode(record, info, &mut output, &mut length);
+    records.iter().for_each(|record| assert_eq!(write(record), number));
+    timed(move || records.iter().for_each(|record| keep(&write(record))))
 }
 
 fn nulls(size: usize) -> Vec<u8> {
@@ -144,24 +173,29 @@ fn long_ui(size: usize) -> Vec<u8> {
     input
 }
 
-/// Decoding as the input grows: time by octet, and how that changes against the size before it.
+/// Calls as the input grows: time by octet, and how that changes against the size before it.
 fn growth(report: &mut Report) {
-    let sizes: Vec<usize> = (6..=16).map(|power| 1 << power).collect();
-    let makers: [(&str, fn(usize) -> Vec<u8>); 2] = [("nulls", nulls), ("UI with long info", long_ui)];
+    const LONG: &str = "UI with long info";
+    let sides: [(&str, Call, &str, fn(usize) -> Vec<u8>); 4] = [
+        ("decode", decode, "nulls", nulls),
+        ("decode", decode, LONG, long_ui),
+        ("canonical", canonical, LONG, long_ui),
+        ("re-encode", reencode, LONG, long_ui),
+    ];
     let mut rows = Vec::new();
-    for (name, make) in makers {
+    for (name, call, input, make) in sides {
         println!();
-        println!("{:<20} {:>8} {:>12} {:>12} {:>14} {:>14}", format!("decode, {}", name), "octets", "port ns", "Rust ns", "port ns/octet", "to the last");
+        println!("{:<30} {:>8} {:>12} {:>12} {:>14} {:>14}", format!("{}, {}", name, input), "octets", "port ns", "Rust ns", "port ns/octet", "to the last");
         let mut last = None;
-        for &size in &sizes {
-            let input = make(size);
-            let (port, rust) = race(|| keep(&bare::decode(&input)), || keep(&Ax25Frame::from_bytes(&input)));
+        for size in (6..=16).map(|power| 1 << power) {
+            let [port, rust] = call(&[make(size)]);
             let by_octet = port / size as f64;
             let change = last.map_or("-".to_string(), |last: f64| format!("{:.2}", by_octet / last));
-            println!("{:<20} {:>8} {:>12.1} {:>12.1} {:>14.3} {:>14}", name, size, port, rust, by_octet, change);
+            println!("{:<30} {:>8} {:>12.1} {:>12.1} {:>14.3} {:>14}", "", size, port, rust, by_octet, change);
             last = Some(by_octet);
             rows.push(report::object(&[
-                ("input", report::string(name)),
+                ("input", report::string(input)),
+                ("call", report::string(name)),
                 ("octets", size.to_string()),
                 ("port_ns", format!("{:.1}", port)),
                 ("rust_ns", format!("{:.1}", rust)),

@@ -336,6 +336,10 @@ pub mod bare {
         unsafe { super::ax25_canonical(input.as_ptr(), input.len()) }
     }
 
+    pub fn reencoded_length(input: &[u8]) -> usize {
+        unsafe { super::ax25_reencoded_length(input.as_ptr(), input.len()) }
+    }
+
     pub fn reencode(input: &[u8], output: &mut [u8]) -> u32 {
         unsafe { super::ax25_reencode(input.as_ptr(), input.len(), output.as_mut_ptr(), output.len()) }
     }
