@@ -14,9 +14,10 @@ use Rattle.decode.specs.Read.{decode, infoIn}
 use Rattle.frame.specs.Spell.{withMark}
 use Rattle.grammar.proofs.Back.{unique}
 use Rattle.spelling.specs.Canonical.{again, canonical}
-use Rattle.spelling.specs.Reencode.{reencode, reencoded}
-use Rattle.spelling.specs.declared.ReencodeAnswer.the-variants.{Written}
-use Rattle.spelling.proofs.Laws.{spell-canonical, canonical-plain, again-facts, again-room, answer-is}
+use Rattle.respelling.specs.Reencode.{reencode, reencoded}
+use Rattle.respelling.specs.declared.ReencodeAnswer.the-variants.{Written}
+use Rattle.spelling.proofs.Laws.{spell-canonical, canonical-plain, again-facts}
+use Rattle.respelling.proofs.Laws.{again-room, answer-is}
 use Rattle.demands.specs.OneSpelling.{Spelled, Respelled, OneSpelling}
 
 pub one-spelling : (s : List ℕ) → Octets s → OneSpelling s

@@ -2,7 +2,7 @@
 use decode::Decoded;
 use frame::Ax25Frame;
 use frame::Written;
-use spelling::Reencoded;
+use respelling::Reencoded;
 ghost use mathlib.Core.Path.{_≡_};
 ghost use mathlib.Core.Bool.{true};
 ghost use mathlib.Core.List.{_++_};
@@ -13,7 +13,7 @@ ghost use Rattle.decode.specs.Answer.{numberOf, isAccepted};
 ghost use Rattle.frame.specs.Frame.{writeNumber};
 ghost use Rattle.decode.specs.Read.{decode};
 ghost use Rattle.spelling.specs.Canonical.{again};
-ghost use Rattle.spelling.specs.declared.ReencodeAnswer.the-variants.{Written as Done};
+ghost use Rattle.respelling.specs.declared.ReencodeAnswer.the-variants.{Written as Done};
 ghost use Rattle.demands.specs.Table.{FirstRow};
 ghost use Rattle.demands.specs.Numbers.{decodeTable, writeTable};
 ghost use Rattle.demands.specs.OneSpelling.{Spelled, Respelled};
@@ -46,5 +46,5 @@ pub fn respelled(bytes: &[u8], out: &mut [u8]) -> Reencoded
         → (r .answer ≡ Done) × (now (out .exit) ≡ again (now (bytes .entry)) ++ drop (length (again (now (bytes .entry)))) (now (out .entry)))
         × Respelled (now (bytes .entry)) (again (now (bytes .entry)))) ⌝ }
 {
-    spelling::reencode(bytes, out)
+    respelling::reencode(bytes, out)
 }

@@ -1,6 +1,6 @@
 -- The re-encoder's answer and buffer are the definition's.
 use mathlib.Core.Path.{_≡_, refl, ap, sym, _∙_}
-use Rattle.spelling.specs.declared.Reencoded.{Reencoded}
+use Rattle.respelling.specs.declared.Reencoded.{Reencoded}
 use Rattle.demands.proofs.OneSpelling.{respelled-into}
 use borrow.Author.Needs.{needs}
 use Rattle.kept.proofs.respelled.Statement.{statement}
