@@ -1,9 +1,8 @@
 -- Demand 3, proved.
 use Prim.Native.Nat.{ℕ, _+_, _≤_}
-use mathlib.Core.Path.{_≡_, refl, ap, sym, _∙_}
+use mathlib.Core.Path.{_≡_, refl, sym, _∙_}
 use mathlib.Core.Bool.{true}
 use mathlib.Core.List.{List, _++_}
-use mathlib.Core.Logic.{_↔_}
 use native.Mathlib.Omega.{arith}
 use lib.ListN.{length, drop}
 use Rattle.octets.specs.Octet.{Octets}
@@ -13,12 +12,12 @@ use Rattle.decode.specs.Answer.{isAccepted}
 use Rattle.decode.specs.Read.{decode, infoIn}
 use Rattle.frame.specs.Spell.{withMark}
 use Rattle.grammar.proofs.Back.{unique}
-use Rattle.spelling.specs.Canonical.{again, canonical}
+use Rattle.spelling.specs.Canonical.{again}
 use Rattle.respelling.specs.Reencode.{reencode, reencoded}
 use Rattle.respelling.specs.declared.ReencodeAnswer.the-variants.{Written}
 use Rattle.spelling.proofs.Laws.{spell-canonical, canonical-plain, again-facts}
 use Rattle.respelling.proofs.Laws.{again-room, answer-is}
-use Rattle.demands.specs.OneSpelling.{Spelled, Respelled, OneSpelling}
+use Rattle.demands.specs.OneSpelling.{Respelled, OneSpelling}
 
 pub one-spelling : (s : List ℕ) → Octets s → OneSpelling s
 one-spelling s o = record {

@@ -16,13 +16,13 @@ use Rattle.octets.proofs.Choice.{by, both}
 use Rattle.octets.proofs.All.{all-nil, all-cons, all-at, all-append, all-follows}
 use Rattle.octets.proofs.First.{first-step, first-end, first-past}
 use Rattle.octets.proofs.Octet.{octet-where}
-use Rattle.octets.proofs.Splice.{splice-in}
 use Rattle.address.specs.declared.Address.{Address}
 use Rattle.text.specs.declared.AddressAnswer.{AddressAnswer}
 use Rattle.text.specs.declared.AddressAnswer.the-variants.{Accepted}
 use Rattle.address.specs.Address.{low, encodable, PlainAddress}
-use Rattle.text.specs.Text.{addressNumberOf, hyphen, digit, upperCase, lowerCase, alphanumeric, upper, upperAt, count, decimalFrom, decimal, digits8, afterPlus, callsignText, manyHyphens, empty, long, wide, hasSsid, ssidText, ssidValue, badSsid, callsignNumber, partsNumber, textNumber, padded, readCallsign, readParts, readText, upperOrDigit, TextAddress, high, strange}
-use Rattle.printing.specs.Print.{space, short, used, trimmed, decimalText, ssidSuffix, textOf, printNumberOf, printNumber, printed, printedInto}
+use Rattle.octets.specs.Count.{count}
+use Rattle.text.specs.Text.{addressNumberOf, hyphen, digit, upperCase, lowerCase, alphanumeric, upper, upperAt, decimalFrom, decimal, digits8, afterPlus, callsignText, manyHyphens, empty, long, wide, hasSsid, ssidText, ssidValue, badSsid, callsignNumber, partsNumber, textNumber, padded, readCallsign, readParts, readText, upperOrDigit, TextAddress, high, strange}
+use Rattle.printing.specs.Print.{space, used, trimmed, decimalText, ssidSuffix, textOf}
 use Rattle.address.proofs.Laws.{six-list, no-call-plain}
 use Rattle.text.proofs.Reading.{and-false}
 use Rattle.printing.proofs.Laws.{used-le, trimmed-length}

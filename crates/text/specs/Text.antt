@@ -1,13 +1,13 @@
 -- The text of an address: callsign, hyphen, SSID. The conditions of document 01's number table, the readers, and what is printed.
-use Prim.Native.Nat.{ℕ, suc, _+_, _*_, _-_, _/_, _%_, _≤_, _<_}
+use Prim.Native.Nat.{ℕ, suc, _+_, _*_, _-_, _≤_, _<_}
 use mathlib.Core.Path.{_≡_}
 use mathlib.Core.Bool.{Bool, true, cond, not, _&&_, _||_}
-use mathlib.Core.List.{List, [], _∷_, _++_}
+use mathlib.Core.List.{List, [], _∷_}
 use lib.Dec.{eqb, ltb, leb}
 use lib.ListN.{length, getD, take, drop}
 use Rattle.octets.specs.All.{all}
+use Rattle.octets.specs.Count.{count}
 use Rattle.octets.specs.First.{first}
-use Rattle.octets.specs.Splice.{splice}
 use Rattle.address.specs.declared.Address.{Address}
 use Rattle.text.specs.declared.AddressAnswer.{AddressAnswer}
 use Rattle.text.specs.declared.AddressAnswer.the-variants.{Accepted, CallsignTooLong, InvalidFormat, InvalidSsid, SsidOutOfRange, NotAscii}
@@ -49,11 +49,6 @@ alphanumeric c = digit c || upperCase c || lowerCase c
 -- lower case becomes upper
 unfoldable pub upper : ℕ → ℕ
 upper c = cond (lowerCase c) (c - 32) c
-
--- how many elements pass a test
-unfoldable pub count : {A : Type 0} → (A → Bool) → List A → ℕ
-count p [] = 0
-count p (x ∷ s) = cond (p x) (suc (count p s)) (count p s)
 
 -- the value of decimal digits, the highest first
 unfoldable pub decimalFrom : ℕ → List ℕ → ℕ
