@@ -3,7 +3,7 @@
 // 24, and the lines with these come from document 01's table.
 use address::Address;
 use text::AddressRead;
-use text::Printed;
+use printing::Printed;
 
 fn main() {
     show::text(
@@ -157,9 +157,9 @@ fn print(callsign: [u8; 6], ssid: u8, room: usize) {
 
 fn print_into(address: Address, out: &mut [u8], room: usize) -> Printed {
     if room > out.len() {
-        return text::print(address, out);
+        return printing::print(address, out);
     }
-    text::print(address, &mut out[..room])
+    printing::print(address, &mut out[..room])
 }
 
 fn result(printed: Printed, out: [u8; 12]) {

@@ -197,7 +197,14 @@ impl FrameContent {
     {
         let n = self.front_len();
         let octets = self.front();
-        lent::put(out, 0, &octets[..n]);
+        // The usual lengths by their own stores: quicker than a copy whose length is not known.
+        if n == 2 {
+            lent::put(out, 0, &octets[..2]);
+        } else if n == 1 {
+            lent::put(out, 0, &octets[..1]);
+        } else {
+            lent::put(out, 0, &octets[..n]);
+        }
         n
     }
 

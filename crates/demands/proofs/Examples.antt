@@ -11,7 +11,7 @@ use Rattle.frame.specs.Frame.{noEntry, noRoute, simpleUi, defaultFrame}
 use Rattle.decode.specs.Read.{parsedAt, entryAt, placeAt, routeAt, frameAt, refusedWith, acceptedWith, withContent, decodeField, decode}
 use Rattle.frame.specs.Spell.{groupsOf, addressField, spell}
 use Rattle.spelling.specs.Canonical.{again, canonical}
-use Rattle.spelling.specs.Reencode.{due}
+use Rattle.respelling.specs.Reencode.{due}
 use Rattle.demands.specs.Examples.{outcome, inputs, outcomes}
 
 pub examples : map outcome inputs ≡ outcomes

@@ -8,9 +8,11 @@ use mathlib.Core.Logic.{_↔_}
 use lib.ListN.{length}
 use Rattle.octets.specs.Splice.{splice}
 use Rattle.octets.proofs.Splice.{splice-none}
-use Rattle.text.specs.Text.{addressNumberOf, printNumberOf, readParts, readText, printed}
+use Rattle.text.specs.Text.{addressNumberOf, readParts, readText}
+use Rattle.printing.specs.Print.{printNumberOf, printed}
 use Rattle.address.specs.declared.Address.{Address}
-use Rattle.text.proofs.Laws.{text-numbers, parts-numbers, print-numbers, text-rows, parts-rows, print-rows}
+use Rattle.text.proofs.Laws.{text-numbers, parts-numbers, text-rows, parts-rows}
+use Rattle.printing.proofs.Laws.{print-numbers, print-rows}
 use Rattle.content.specs.declared.FrameContent.the-variants.{UnknownContent}
 use Rattle.decode.specs.Answer.{numberOf, reportOf, isAccepted}
 use Rattle.frame.specs.Frame.{writeNumber, defaultFrame}

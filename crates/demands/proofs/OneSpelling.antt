@@ -13,9 +13,10 @@ use Rattle.decode.specs.Read.{decode, infoIn}
 use Rattle.frame.specs.Spell.{withMark}
 use Rattle.grammar.proofs.Back.{unique}
 use Rattle.spelling.specs.Canonical.{again, canonical}
-use Rattle.spelling.specs.Reencode.{reencode, reencoded}
-use Rattle.spelling.specs.declared.ReencodeAnswer.the-variants.{Written, Refused, NoRoom}
-use Rattle.spelling.proofs.Laws.{spell-canonical, canonical-plain, again-facts, again-room, refused-answer, again-short, again-fits}
+use Rattle.respelling.specs.Reencode.{reencode, reencoded}
+use Rattle.respelling.specs.declared.ReencodeAnswer.the-variants.{Written, Refused, NoRoom}
+use Rattle.spelling.proofs.Laws.{spell-canonical, canonical-plain, again-facts}
+use Rattle.respelling.proofs.Laws.{again-room, refused-answer, again-short, again-fits}
 use Rattle.demands.specs.Lent.{starting}
 use Rattle.demands.specs.OneSpelling.{Spelled, Respelled, OneSpelling}
 use Rattle.demands.proofs.Lent.{splice-start}

@@ -15,7 +15,7 @@ use Rattle.decode.specs.Read.{decode}
 use Rattle.frame.specs.declared.Mark.the-variants.{Command}
 use Rattle.frame.specs.declared.Ax25Frame.{Ax25Frame}
 use Rattle.spelling.specs.Canonical.{canonical}
-use Rattle.spelling.specs.Reencode.{due}
+use Rattle.respelling.specs.Reencode.{due}
 
 -- all that an input gives: number and details, frame, info's place, whether it is canonical, the octets it is re-encoded as
 pub record Outcome : Type 0 where

@@ -5,7 +5,8 @@ use mathlib.Core.List.{List, [], _∷_}
 use lib.Dec.{ltb}
 use lib.ListN.{length, drop}
 use Rattle.address.specs.Address.{encodable}
-use Rattle.text.specs.Text.{high, manyHyphens, badSsid, empty, long, strange, wide, short, callsignText, ssidValue}
+use Rattle.text.specs.Text.{high, manyHyphens, badSsid, empty, long, strange, wide, callsignText, ssidValue}
+use Rattle.printing.specs.Print.{short}
 use Rattle.address.specs.declared.Address.{Address}
 use Rattle.content.specs.Encode.{strayInfo}
 use Rattle.parse.specs.Numbers.{lacksPid, strangeS, strangeU, wrongFrmr}

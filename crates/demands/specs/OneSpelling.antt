@@ -10,8 +10,8 @@ use Rattle.decode.specs.Read.{decode, infoIn}
 use Rattle.frame.specs.Spell.{spell, Plain, withMark, inUse}
 use Rattle.frame.specs.declared.Ax25Frame.{Ax25Frame}
 use Rattle.spelling.specs.Canonical.{again, canonical}
-use Rattle.spelling.specs.Reencode.{reencodeAnswer, reencoded}
-use Rattle.spelling.specs.declared.ReencodeAnswer.the-variants.{Written}
+use Rattle.respelling.specs.Reencode.{reencodeAnswer, reencoded}
+use Rattle.respelling.specs.declared.ReencodeAnswer.the-variants.{Written}
 
 -- a plain frame that spells these octets by the grammar
 pub record Spelled (s : List ℕ) : Type 0 where

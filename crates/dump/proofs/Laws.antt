@@ -12,7 +12,7 @@ use lib.Seq.{take-suc, take-at}
 use Rattle.octets.specs.Splice.{splice}
 use Rattle.octets.proofs.Choice.{by}
 use Rattle.octets.proofs.Splice.{splice-in, splice-length, splice-none, splice-more}
-use Rattle.text.specs.Text.{trimmed, ssidSuffix}
+use Rattle.printing.specs.Print.{trimmed, ssidSuffix}
 use Rattle.address.specs.declared.Address.{Address}
 use Rattle.frame.specs.Spell.{repeaterAt}
 use Rattle.frame.specs.declared.RouteEntry.{RouteEntry}

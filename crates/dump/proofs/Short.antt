@@ -9,9 +9,10 @@ use lib.ListN.{length, length-append, length-drop}
 use Rattle.octets.specs.Octet.{Octets}
 use Rattle.octets.proofs.Choice.{by, either}
 use Rattle.address.specs.Address.{PlainAddress}
-use Rattle.text.specs.Text.{alphanumeric, trimmed, used, ssidSuffix}
+use Rattle.text.specs.Text.{alphanumeric}
+use Rattle.printing.specs.Print.{trimmed, used, ssidSuffix}
 use Rattle.address.specs.declared.Address.{Address}
-use Rattle.text.proofs.Printing.{used-le, trimmed-length, suffix-short}
+use Rattle.printing.proofs.Laws.{used-le, trimmed-length, suffix-short}
 use Rattle.content.specs.Spell.{hasInfo}
 use Rattle.content.specs.declared.FrameContent.{FrameContent}
 use Rattle.content.specs.declared.FrameContent.the-variants as kind

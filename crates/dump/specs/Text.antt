@@ -6,7 +6,8 @@ use mathlib.Core.List.{List, [], _∷_, _++_}
 use lib.Dec.{eqb, ltb}
 use lib.ListN.{length, getD, take, drop}
 use Rattle.octets.specs.Splice.{splice}
-use Rattle.text.specs.Text.{alphanumeric, trimmed, ssidSuffix}
+use Rattle.text.specs.Text.{alphanumeric}
+use Rattle.printing.specs.Print.{trimmed, ssidSuffix}
 use Rattle.address.specs.declared.Address.{Address}
 use Rattle.frame.specs.Spell.{repeaterAt}
 use Rattle.frame.specs.declared.RouteEntry.{RouteEntry}

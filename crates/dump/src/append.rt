@@ -78,10 +78,10 @@ pub(crate) fn put_address(out: &mut [u8], at: usize, address: Address) -> usize
     ensures { λ r. ⌜ Put (now (out .entry)) (now (out .exit)) at r (addressText address) ⌝ }
 {
     let callsign = address.callsign;
-    let n = text::callsign_length(&callsign);
+    let n = printing::callsign_length(&callsign);
     let next = put_characters(out, at, &callsign[..n]);
-    text::put_suffix(out, next, address.ssid);
-    next + text::suffix_length(address.ssid)
+    printing::put_suffix(out, next, address.ssid);
+    next + printing::suffix_length(address.ssid)
 }
 
 // A word where it is wanted.

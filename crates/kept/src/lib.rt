@@ -3,7 +3,7 @@
 use decode::Decoded;
 use frame::Ax25Frame;
 use frame::Written;
-use spelling::Reencoded;
+use respelling::Reencoded;
 ghost use mathlib.Core.Path.{_≡_};
 ghost use mathlib.Core.Bool.{true, false};
 ghost use mathlib.Core.Logic.{_↔_};
@@ -16,7 +16,7 @@ ghost use Rattle.decode.specs.Read.{decode};
 ghost use Rattle.frame.specs.Frame.{writeNumber, defaultFrame};
 ghost use Rattle.frame.specs.Spell.{spell};
 ghost use Rattle.spelling.specs.Canonical.{again};
-ghost use Rattle.spelling.specs.declared.ReencodeAnswer.the-variants.{Written as Done, Refused, NoRoom};
+ghost use Rattle.respelling.specs.declared.ReencodeAnswer.the-variants.{Written as Done, Refused, NoRoom};
 ghost use Rattle.demands.specs.Table.{FirstRow};
 ghost use Rattle.demands.specs.Numbers.{decodeTable, writeTable};
 ghost use Rattle.demands.specs.Lent.{starting};
@@ -65,5 +65,5 @@ pub fn respelled(bytes: &[u8], out: &mut [u8]) -> Reencoded
         × (now (out .exit) ≡ starting (again (now (bytes .entry))) (now (out .entry)))) ⌝ }
     ensures { λ r. ⌜ (isAccepted (decode (now (bytes .entry)) .answer) ≡ true → Respelled (now (bytes .entry)) (again (now (bytes .entry)))) ⌝ }
 {
-    spelling::reencode(bytes, out)
+    respelling::reencode(bytes, out)
 }

@@ -6,7 +6,7 @@ ghost use Rattle.octets.specs.Splice.{splice};
 ghost use Rattle.decode.specs.Answer.{numberOf};
 ghost use Rattle.decode.specs.Read.{decode};
 ghost use Rattle.spelling.specs.Canonical.{canonical};
-ghost use Rattle.spelling.specs.Reencode.{due, reencode, reencoded, reencodeNumber};
+ghost use Rattle.respelling.specs.Reencode.{due, reencode, reencoded, reencodeNumber};
 
 // The decode number.
 #[no_mangle]
@@ -31,7 +31,7 @@ pub extern "C" fn ax25_canonical(input: &[u8]) -> u32
 pub extern "C" fn ax25_reencoded_length(input: &[u8]) -> usize
     ensures { λ r. ⌜ r ≡ length (due (now (input .entry))) ⌝ }
 {
-    spelling::reencoded_length(input)
+    respelling::reencoded_length(input)
 }
 
 // The input re-encoded at the start of the output: the decode number, or 24, or 0. A refusal leaves the output alone.
@@ -40,7 +40,7 @@ pub extern "C" fn ax25_reencode(input: &[u8], output: &mut [u8]) -> u32
     ensures { λ r. ⌜ r ≡ reencodeNumber (reencode (now (input .entry)) (length (now (output .entry))) .answer) ⌝ }
     ensures { λ r. ⌜ now (output .exit) ≡ splice (now (output .entry)) 0 (reencoded (now (input .entry)) (length (now (output .entry)))) ⌝ }
 {
-    let done = spelling::reencode(input, output);
+    let done = respelling::reencode(input, output);
     let answer = done.answer;
     answer.number()
 }

@@ -204,14 +204,14 @@ fn s_number(c: u8) -> u32
 fn frmr_number(bytes: &[u8]) -> u32
     ensures { λ r. ⌜ r ≡ numberOf (frmrOf (now (bytes .entry))) ⌝ }
 {
-    if bytes.len() != 4 { 8 } else { 0 }
+    if bytes.len() == 4 { 0 } else { 8 }
 }
 
 fn u_number(c: u8, bytes: &[u8]) -> u32
     ensures { λ r. ⌜ r ≡ numberOf (uOf c (now (bytes .entry))) ⌝ }
 {
-    let kind = c & 0b1110_1111;
-    match kind {
+    let bits = c & 0b1110_1111;
+    match bits {
         0b0010_1111 => 0,
         0b0100_0011 => 0,
         0b0000_1111 => 0,

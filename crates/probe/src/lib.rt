@@ -5,7 +5,8 @@ ghost use mathlib.Core.Path.{_≡_};
 ghost use mathlib.Core.Bool.{cond, _||_};
 ghost use mathlib.Core.List.{[], _∷_};
 ghost use lib.ListN.{length};
-ghost use Rattle.text.specs.Text.{addressNumberOf, readParts, readText, printNumberOf, printed, printedInto};
+ghost use Rattle.text.specs.Text.{addressNumberOf, readParts, readText};
+ghost use Rattle.printing.specs.Print.{printNumberOf, printed, printedInto};
 ghost use Rattle.decode.specs.Answer.{numberOf};
 ghost use Rattle.frame.specs.Frame.{writeNumber, simpleUi, defaultFrame};
 ghost use Rattle.decode.specs.Read.{decode};
@@ -108,7 +109,7 @@ pub extern "C" fn probe_print(flat: &[u8], out: &mut [u8], len: &mut [usize]) ->
         return NO_ROOM;
     }
     let address = given::address_at(flat, 0);
-    let printed = text::print(address, out);
+    let printed = printing::print(address, out);
     let answer = printed.answer;
     len[0] = printed.length;
     answer.number()

@@ -1,4 +1,4 @@
--- The numbers of reading and printing, each given exactly when its condition of the table holds, in the table's order; and that the
+-- The numbers of reading, each given exactly when its condition of the table holds, in the table's order; and that the
 -- text of an address reads back as it.
 use Prim.Native.Nat.{ℕ, zero, suc, _+_, _*_, _-_, _/_, _%_, _<_, _≤_}
 use mathlib.Core.Path.{_≡_, refl, ap, sym, _∙_}
@@ -21,10 +21,11 @@ use Rattle.address.specs.declared.Address.{Address}
 use Rattle.text.specs.declared.AddressAnswer.{AddressAnswer}
 use Rattle.text.specs.declared.AddressAnswer.the-variants.{Accepted}
 use Rattle.address.specs.Address.{low, encodable, PlainAddress}
-use Rattle.text.specs.Text.{addressNumberOf, hyphen, space, digit, upperCase, lowerCase, alphanumeric, upper, upperAt, count, decimalFrom, decimal, digits8, afterPlus, callsignText, manyHyphens, empty, long, wide, short, hasSsid, ssidText, ssidValue, badSsid, callsignNumber, partsNumber, textNumber, padded, readCallsign, readParts, readText, used, trimmed, decimalText, ssidSuffix, textOf, printNumberOf, printNumber, printed, printedInto, upperOrDigit, TextAddress, high, strange}
+use Rattle.text.specs.Text.{addressNumberOf, hyphen, digit, upperCase, lowerCase, alphanumeric, upper, upperAt, count, decimalFrom, decimal, digits8, afterPlus, callsignText, manyHyphens, empty, long, wide, hasSsid, ssidText, ssidValue, badSsid, callsignNumber, partsNumber, textNumber, padded, readCallsign, readParts, readText, upperOrDigit, TextAddress, high, strange}
+use Rattle.printing.specs.Print.{space, short, used, trimmed, decimalText, ssidSuffix, textOf, printNumberOf, printNumber, printed, printedInto}
 use Rattle.address.proofs.Laws.{six-list, no-call-plain}
 use Rattle.text.proofs.Reading.{and-false}
-use Rattle.text.proofs.Printing.{used-le, trimmed-length}
+use Rattle.printing.proofs.Laws.{used-le, trimmed-length}
 
 -- the numbers that reading gives
 callsign-numbers : (c : List ℕ) (s : ℕ) → addressNumberOf (readCallsign c s .answer) ≡ callsignNumber c s
@@ -45,20 +46,6 @@ text-numbers t =
     by (manyHyphens t) (λ m. simp (h, m)) (λ m.
     by (badSsid t) (λ b. simp (h, m, b)) (λ b. simp (h, m, b) (callsign-numbers (callsignText t) (ssidValue t)))))
     (λ h. simp h)
-
--- and that printing gives
-pub print-numbers : (a : Address) (room : ℕ) → printNumberOf (printed a room .answer) ≡ printNumber a room
-unfolding printed printNumber
-print-numbers a room =
-    by (encodable a) (λ e. by (short a room) (λ r. simp (e, r)) (λ r. simp (e, r))) (λ e. simp e)
-
--- what is printed stands at the start of the output, and what lies beyond it stays
-pub printed-text : (a : Address) (out : List ℕ) → encodable a ≡ true → length (textOf a) ≤ length out
-    → printedInto a out ≡ textOf a ++ drop (length (textOf a)) out
-unfolding printedInto
-printed-text a out e h =
-    let z : 0 + length (textOf a) ≡ length (textOf a) = omega arith in
-    rw e (splice-in out 0 (textOf a) (omega arith) ∙ rw z refl)
 
 -- upper-case letters and digits, as the other tests see them: octets, so that each is one computed test
 fine-octet : (c : ℕ) → upperOrDigit c ≡ true → c < 256
@@ -402,7 +389,3 @@ pub text-rows : (t : List ℕ)
     (cond (empty (callsignText t)) 32 (cond (long (callsignText t)) 31 (cond (strange (callsignText t)) 32 (cond (wide (ssidValue t)) 34 0))))))
 unfolding textNumber callsignNumber
 text-rows t = refl
-
-pub print-rows : (a : Address) (room : ℕ) → printNumber a room ≡ cond (not (encodable a)) 22 (cond (short a room) 24 0)
-unfolding printNumber
-print-rows a room = refl

@@ -12,12 +12,10 @@ use Rattle.address.specs.declared.Address.{Address}
 use Rattle.text.specs.declared.AddressAnswer.{AddressAnswer}
 use Rattle.text.specs.declared.AddressAnswer.the-variants.{Accepted, CallsignTooLong, InvalidFormat, InvalidSsid, SsidOutOfRange, NotAscii}
 use Rattle.text.specs.declared.AddressRead.{AddressRead}
-use Rattle.text.specs.declared.PrintAnswer.{PrintAnswer}
-use Rattle.text.specs.declared.PrintAnswer.the-variants as print
-use Rattle.text.specs.declared.Printed.{Printed}
 use Rattle.text.specs.declared.Ssid.{Ssid}
 use Rattle.text.specs.declared.Ssid.the-variants.{Number, NotANumber}
-use Rattle.address.specs.Address.{low, noCall, encodable}
+use Rattle.address.specs.Address.{low, noCall}
+use Rattle.printing.specs.Print.{used, trimmed}
 
 -- document 01's numbers for reading an address
 abbrev pub addressNumberOf : AddressAnswer → ℕ
@@ -34,9 +32,6 @@ hyphen c = eqb c 45
 
 abbrev pub plus : ℕ → Bool
 plus c = eqb c 43
-
-abbrev pub space : ℕ → Bool
-space c = eqb c 32
 
 abbrev pub digit : ℕ → Bool
 digit c = leb 48 c && leb c 57
@@ -174,54 +169,6 @@ ssidFrom t at = cond (ltb at (length t)) (digitsSay (afterPlus (drop (at + 1) t)
 abbrev pub readWith : List ℕ → Ssid → AddressRead
 readWith c (Number s) = readCallsign c s
 readWith c NotANumber = refused InvalidSsid
-
--- how many characters stand before the spaces at the end
-unfoldable pub used : List ℕ → ℕ
-used [] = 0
-used (c ∷ s) = cond (eqb (used s) 0 && space c) 0 (suc (used s))
-
--- the callsign without its padding
-abbrev pub trimmed : List ℕ → List ℕ
-trimmed c = take (used c) c
-
--- a number below 100 in decimal
-unfoldable pub decimalText : ℕ → List ℕ
-decimalText n = cond (ltb n 10) ((48 + n) ∷ []) ((48 + n / 10) ∷ (48 + n % 10) ∷ [])
-
--- a hyphen and the SSID; "-0" is omitted
-unfoldable pub ssidSuffix : ℕ → List ℕ
-ssidSuffix s = cond (eqb s 0) [] (45 ∷ decimalText s)
-
--- the text of an address, for those that printing takes
-abbrev pub textOf : Address → List ℕ
-textOf a = trimmed (a .callsign) ++ ssidSuffix (a .ssid)
-
--- document 01's numbers for printing
-abbrev pub printNumberOf : PrintAnswer → ℕ
-printNumberOf print.Printed = 0
-printNumberOf print.NotEncodable = 22
-printNumberOf print.NoRoom = 24
-
--- 24: the output is shorter than the text
-abbrev pub short : Address → ℕ → Bool
-short a room = ltb room (length (textOf a))
-
--- the numbers in the table's order
-unfoldable pub printNumber : Address → ℕ → ℕ
-printNumber a room = cond (not (encodable a)) 22 (cond (short a room) 24 0)
-
--- what printing answers, with room for that many octets
-unfoldable pub printed : Address → ℕ → Printed
-printed a room =
-    cond (encodable a)
-    (cond (short a room)
-    (record { answer = print.NoRoom; length = 0 })
-    (record { answer = print.Printed; length = length (textOf a) }))
-    (record { answer = print.NotEncodable; length = 0 })
-
--- what it leaves in the output: the text at its start, or all as it was
-unfoldable pub printedInto : Address → List ℕ → List ℕ
-printedInto a out = cond (encodable a) (splice out 0 (textOf a)) out
 
 -- an address as people write it: 1 to 6 upper-case letters and digits, then spaces; an SSID up to 15
 abbrev pub upperOrDigit : ℕ → Bool

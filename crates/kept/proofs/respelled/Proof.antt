@@ -2,7 +2,7 @@
 use Prim.Native.Nat.{ℕ}
 use mathlib.Core.Path.{_≡_, ap, _∙_}
 use mathlib.Core.List.{List}
-use Rattle.spelling.specs.declared.Reencoded.{Reencoded}
+use Rattle.respelling.specs.declared.Reencoded.{Reencoded}
 use Rattle.demands.proofs.OneSpelling.{one-spelling, respelled-refused, respelled-short, respelled-into}
 use borrow.Author.Needs.{needs}
 use Rattle.kept.proofs.respelled.Statement.{statement}

@@ -1,12 +1,19 @@
 -- `put_front` writes the first `front_len` of the four octets, which are the octets before the info.
-use mathlib.Core.Path.{ap, sym, _∙_}
-use borrow.Author.Needs.{needs}
-use lib.ListN.{length}
+use Prim.Native.Nat.{ℕ}
+use mathlib.Core.Path.{_≡_, ap, sym, _∙_}
+use mathlib.Core.List.{List}
+use lib.ListN.{length, take}
 use Rattle.octets.specs.Splice.{splice}
 use Rattle.content.specs.Spell.{front}
+use Rattle.content.specs.Encode.{four}
+use Rattle.content.specs.declared.FrameContent.{FrameContent}
 use Rattle.content.proofs.Encode.{front-short, four-take}
+use borrow.Author.Needs.{needs}
 use Rattle.content.proofs.FrameContent.put_front.Statement.{statement}
 use Rattle.content.proofs.FrameContent.put_front.Tie as tie
+
+put-is : (k : FrameContent) (n : ℕ) (octets l : List ℕ) → n ≡ length (front k) → octets ≡ four (front k) → splice l 0 (take n octets) ≡ splice l 0 (front k)
+put-is k n octets l p q = rw (p, q) (ap (splice l 0) (four-take (front k) (front-short k)))
 
 front-len-requires : tie.Need-front-len-requires
 front-len-requires c κs = search needs
@@ -15,28 +22,55 @@ front-requires : tie.Need-front-requires
 front-requires c κs = search needs
 
 array-share-prefix-octets : tie.Need-array-share-prefix-octets
-array-share-prefix-octets c =
-    rw (c .before .before .front-len .ensures, c .before .front .ensures) (front-short (c .before .before .before .before .args .self))
+array-share-prefix-octets c = search needs
 
 slice-aggregate-put : tie.Need-slice-aggregate-put
-slice-aggregate-put c =
-    let k = c .before .before .before .before .before .args .self in
-    rw (c .before .before .before .front-len .ensures, c .before .before .front .ensures) (sym (ap length (four-take (front k) (front-short k))))
+slice-aggregate-put c = search needs
 
 put-requires : tie.Need-put-requires
 put-requires c κs = search needs
+
+array-share-prefix-octets-2 : tie.Need-array-share-prefix-octets-2
+array-share-prefix-octets-2 c = search needs
+
+slice-aggregate-put-2 : tie.Need-slice-aggregate-put-2
+slice-aggregate-put-2 c = search needs
+
+put-requires-2 : tie.Need-put-requires-2
+put-requires-2 c κs = search needs
+
+array-share-prefix-octets-3 : tie.Need-array-share-prefix-octets-3
+array-share-prefix-octets-3 c = rw (c .before .before .before .before .front-len .ensures, c .before .before .before .front .ensures) (front-short (c .before .before .before .before .before .before .args .self))
+
+slice-aggregate-put-3 : tie.Need-slice-aggregate-put-3
+slice-aggregate-put-3 c = rw (c .before .before .before .before .before .front-len .ensures, c .before .before .before .before .front .ensures) (sym (ap length (four-take (front (c .before .before .before .before .before .before .before .args .self)) (front-short (c .before .before .before .before .before .before .before .args .self)))))
+
+put-requires-3 : tie.Need-put-requires-3
+put-requires-3 c κs = search needs
 
 same-length : tie.Need-same-length
 same-length c = search needs
 
 returns : tie.Need-returns
 returns c =
-    let k = c .before .before .before .before .before .before .before .before .args .self in (
-      c .before .before .before .before .before .before .front-len .ensures,
-      c .before .before .put .ensures
-          ∙ rw (c .before .before .before .before .before .before .front-len .ensures, c .before .before .before .before .before .front .ensures)
-          (ap (splice _ 0) (four-take (front k) (front-short k))),
-    )
+    let n = c .before .before .before .before .before .before .before .front-len .ensures in
+    (n, c .before .before .put .ensures ∙ put-is (c .before .before .before .before .before .before .before .before .before .args .self) _ _ _ (sym (c .before .before .before .before .before .if1 .taken) ∙ n) (c .before .before .before .before .before .before .front .ensures))
+
+same-length-2 : tie.Need-same-length-2
+same-length-2 c = search needs
+
+returns-2 : tie.Need-returns-2
+returns-2 c =
+    let n = c .before .before .before .before .before .before .before .before .front-len .ensures in
+    (n, c .before .before .put2 .ensures ∙ put-is (c .before .before .before .before .before .before .before .before .before .before .args .self) _ _ _ (sym (c .before .before .before .before .before .if2 .taken) ∙ n) (c .before .before .before .before .before .before .before .front .ensures))
+
+same-length-3 : tie.Need-same-length-3
+same-length-3 c = search needs
+
+returns-3 : tie.Need-returns-3
+returns-3 c =
+    let n = c .before .before .before .before .before .before .before .before .front-len .ensures in
+    (n, c .before .before .put3 .ensures ∙ put-is (c .before .before .before .before .before .before .before .before .before .before .args .self) _ _ _ n (c .before .before .before .before .before .before .before .front .ensures))
 
 pub put-front-spec : {M : Type 1} → statement M
 put-front-spec =
@@ -47,5 +81,15 @@ put-front-spec =
     array-share-prefix-octets
     slice-aggregate-put
     put-requires
+    array-share-prefix-octets-2
+    slice-aggregate-put-2
+    put-requires-2
+    array-share-prefix-octets-3
+    slice-aggregate-put-3
+    put-requires-3
     same-length
-    returns)
+    returns
+    same-length-2
+    returns-2
+    same-length-3
+    returns-3)

@@ -1,6 +1,6 @@
 use mathlib.Core.Path.{_≡_, refl, ap, sym, _∙_}
-use Rattle.text.specs.Text.{trimmed, ssidSuffix}
-use Rattle.text.proofs.Printing.{used-le, trimmed-length}
+use Rattle.printing.specs.Print.{trimmed, ssidSuffix}
+use Rattle.printing.proofs.Laws.{used-le, trimmed-length}
 use Rattle.dump.specs.Text.{characters}
 use Rattle.dump.proofs.Laws.{fits-first, fits-next, put-then, address-text}
 use borrow.Author.Needs.{needs}

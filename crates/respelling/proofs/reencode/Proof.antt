@@ -10,10 +10,10 @@ use Rattle.decode.specs.Answer.{isAccepted}
 use Rattle.decode.specs.Read.{decode, infoIn}
 use Rattle.decode.proofs.Read.{told-refused}
 use Rattle.grammar.proofs.Plain.{Inside, inside}
-use Rattle.spelling.proofs.Laws.{refused-answer, accepted-answer}
+use Rattle.respelling.proofs.Laws.{refused-answer, accepted-answer}
 use borrow.Author.Needs.{needs}
-use Rattle.spelling.proofs.reencode.Statement.{statement}
-use Rattle.spelling.proofs.reencode.Tie as tie
+use Rattle.respelling.proofs.reencode.Statement.{statement}
+use Rattle.respelling.proofs.reencode.Tie as tie
 
 accepted : (c : tie.After-enum-told) → isAccepted (decode (c .before .before .before .before .before .args .bytes .now) .answer) ≡ true
 accepted c = rw (← c .before .before .from-bytes .ensures) (rw (c .enum-told .given .1) refl)

@@ -2,9 +2,9 @@
 use mathlib.Core.Path.{sym, _∙_}
 use borrow.Author.Tests.{lt-ltb, le-ltb, not-true, not-false}
 use borrow.Author.Needs.{needs}
-use Rattle.text.specs.Text.{printed, printedInto}
-use Rattle.text.proofs.print.Statement.{statement}
-use Rattle.text.proofs.print.Tie as tie
+use Rattle.printing.specs.Print.{printed, printedInto}
+use Rattle.printing.proofs.print.Statement.{statement}
+use Rattle.printing.proofs.print.Tie as tie
 
 is-encodable-requires : tie.Need-is-encodable-requires
 is-encodable-requires c κs = search needs

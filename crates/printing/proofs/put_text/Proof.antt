@@ -6,10 +6,10 @@ use borrow.Author.Needs.{needs}
 use lib.ListN.{length}
 use lib.Seq.{length-take-le}
 use Rattle.octets.proofs.Splice.{splice-out}
-use Rattle.text.specs.Text.{used, ssidSuffix, textOf}
-use Rattle.text.proofs.Printing.{used-le, suffix-short, text-length, text-put}
-use Rattle.text.proofs.put_text.Statement.{statement}
-use Rattle.text.proofs.put_text.Tie as tie
+use Rattle.printing.specs.Print.{used, ssidSuffix, textOf}
+use Rattle.printing.proofs.Laws.{used-le, suffix-short, text-length, text-put}
+use Rattle.printing.proofs.put_text.Statement.{statement}
+use Rattle.printing.proofs.put_text.Tie as tie
 
 slice-aggregate-callsign-length : tie.Need-slice-aggregate-callsign-length
 slice-aggregate-callsign-length c = search needs

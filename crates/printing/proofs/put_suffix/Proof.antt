@@ -3,9 +3,9 @@ use mathlib.Core.Path.{sym}
 use borrow.Author.Tests.{eq-eqb, ne-eqb, lt-ltb, le-ltb}
 use borrow.Author.Needs.{needs}
 use Rattle.octets.proofs.Splice.{splice-none}
-use Rattle.text.specs.Text.{ssidSuffix, decimalText}
-use Rattle.text.proofs.put_suffix.Statement.{statement}
-use Rattle.text.proofs.put_suffix.Tie as tie
+use Rattle.printing.specs.Print.{ssidSuffix, decimalText}
+use Rattle.printing.proofs.put_suffix.Statement.{statement}
+use Rattle.printing.proofs.put_suffix.Tie as tie
 
 returns : tie.Need-returns
 unfolding ssidSuffix decimalText

@@ -7,10 +7,10 @@ use borrow.Author.Tests.{eq-eqb, ne-eqb}
 use borrow.Author.Needs.{needs}
 use lib.ListN.{length, take}
 use lib.Seq.{take-all}
-use Rattle.text.specs.Text.{used}
-use Rattle.text.proofs.Printing.{used-turn}
-use Rattle.text.proofs.callsign_length.Statement.{statement}
-use Rattle.text.proofs.callsign_length.Tie as tie
+use Rattle.printing.specs.Print.{used}
+use Rattle.printing.proofs.Laws.{used-turn}
+use Rattle.printing.proofs.callsign_length.Statement.{statement}
+use Rattle.printing.proofs.callsign_length.Tie as tie
 
 abbrev Inv-loop : tie.InvT-loop
 Inv-loop callsign n₀ i₀ n i = (i ≤ length callsign) × (n ≡ used (take i callsign))

@@ -1,18 +1,20 @@
 -- How the printer comes to its definitions: the callsign's length by one pass, and the text in two parts.
 use Prim.Native.Nat.{ℕ, suc, _+_, _≤_, _<_}
 use mathlib.Core.Path.{_≡_, refl, _∙_}
-use mathlib.Core.Bool.{cond, _&&_}
+use mathlib.Core.Bool.{true, cond, not, _&&_}
 use mathlib.Core.List.{List, [], _∷_, _++_}
 use native.Mathlib.Numerals.{add-one}
 use native.Mathlib.Omega.{arith}
 use borrow.Author.Tests.{ne-eqb}
 use lib.Dec.{eqb, ltb}
-use lib.ListN.{length, getD, take, length-append}
+use lib.ListN.{length, getD, take, drop, length-append}
 use lib.Seq.{take-suc, length-take-le}
 use Rattle.octets.proofs.Choice.{by, either}
 use Rattle.octets.specs.Splice.{splice}
-use Rattle.octets.proofs.Splice.{splice-more}
-use Rattle.text.specs.Text.{space, used, trimmed, decimalText, ssidSuffix}
+use Rattle.octets.proofs.Splice.{splice-in, splice-more}
+use Rattle.address.specs.declared.Address.{Address}
+use Rattle.address.specs.Address.{encodable}
+use Rattle.printing.specs.Print.{space, used, trimmed, decimalText, ssidSuffix, textOf, short, printNumberOf, printNumber, printed, printedInto}
 
 pub used-le : (s : List ℕ) → used s ≤ length s
 unfolding used
@@ -57,3 +59,22 @@ module _ (c : List ℕ) (s n : ℕ) (e : n ≡ used c) where
       splice-more out 0 (take n c) (ssidSuffix s) (omega arith) in
       let z : 0 + length (take n c) ≡ n = omega arith in
       rw z at m ∙ rw e refl
+
+-- the numbers that printing gives
+pub print-numbers : (a : Address) (room : ℕ) → printNumberOf (printed a room .answer) ≡ printNumber a room
+unfolding printed printNumber
+print-numbers a room =
+    by (encodable a) (λ e. by (short a room) (λ r. simp (e, r)) (λ r. simp (e, r))) (λ e. simp e)
+
+-- what is printed stands at the start of the output, and what lies beyond it stays
+pub printed-text : (a : Address) (out : List ℕ) → encodable a ≡ true → length (textOf a) ≤ length out
+    → printedInto a out ≡ textOf a ++ drop (length (textOf a)) out
+unfolding printedInto
+printed-text a out e h =
+    let z : 0 + length (textOf a) ≡ length (textOf a) = omega arith in
+    rw e (splice-in out 0 (textOf a) (omega arith) ∙ rw z refl)
+
+-- the table, row by row
+pub print-rows : (a : Address) (room : ℕ) → printNumber a room ≡ cond (not (encodable a)) 22 (cond (short a room) 24 0)
+unfolding printNumber
+print-rows a room = refl

@@ -8,10 +8,10 @@ use Rattle.decode.specs.Answer.{numberOf, isAccepted}
 use Rattle.decode.specs.Read.{decode}
 use Rattle.frame.specs.declared.WriteAnswer.{WriteAnswer}
 use Rattle.frame.specs.declared.WriteAnswer.the-variants as write
 use Rattle.spelling.specs.Canonical.{again}
-use Rattle.spelling.specs.declared.ReencodeAnswer.{ReencodeAnswer}
-use Rattle.spelling.specs.declared.ReencodeAnswer.the-variants.{Written, Refused, NoRoom}
-use Rattle.spelling.specs.declared.Reencoded.{Reencoded}
+use Rattle.respelling.specs.declared.ReencodeAnswer.{ReencodeAnswer}
+use Rattle.respelling.specs.declared.ReencodeAnswer.the-variants.{Written, Refused, NoRoom}
+use Rattle.respelling.specs.declared.Reencoded.{Reencoded}
 
 -- the octets that are due: those of an accepted input, and none of a refused one
 unfoldable pub due : List ℕ → List ℕ

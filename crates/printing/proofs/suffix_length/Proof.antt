@@ -2,9 +2,9 @@
 use Prim.Native.Nat.{ℕ}
 use native.Mathlib.Omega.{arith}
 use borrow.Author.Tests.{eq-eqb, ne-eqb, lt-ltb, le-ltb}
-use Rattle.text.specs.Text.{ssidSuffix, decimalText}
-use Rattle.text.proofs.suffix_length.Statement.{statement}
-use Rattle.text.proofs.suffix_length.Tie as tie
+use Rattle.printing.specs.Print.{ssidSuffix, decimalText}
+use Rattle.printing.proofs.suffix_length.Statement.{statement}
+use Rattle.printing.proofs.suffix_length.Tie as tie
 
 returns : tie.Need-returns
 unfolding ssidSuffix decimalText

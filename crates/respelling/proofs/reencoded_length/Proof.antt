@@ -10,11 +10,11 @@ use Rattle.decode.specs.Answer.{isAccepted}
 use Rattle.decode.specs.Read.{decode}
 use Rattle.decode.proofs.Read.{told-refused}
 use Rattle.grammar.proofs.Plain.{Inside, inside}
-use Rattle.spelling.specs.Reencode.{due}
-use Rattle.spelling.proofs.Laws.{due-refused, due-length, due-fits}
+use Rattle.respelling.specs.Reencode.{due}
+use Rattle.respelling.proofs.Laws.{due-refused, due-length, due-fits}
 use borrow.Author.Needs.{needs}
-use Rattle.spelling.proofs.reencoded_length.Statement.{statement}
-use Rattle.spelling.proofs.reencoded_length.Tie as tie
+use Rattle.respelling.proofs.reencoded_length.Statement.{statement}
+use Rattle.respelling.proofs.reencoded_length.Tie as tie
 
 accepted : (c : tie.After-enum-told) → isAccepted (decode (c .before .before .before .before .args .bytes .now) .answer) ≡ true
 accepted c = rw (← c .before .before .from-bytes .ensures) (rw (c .enum-told .given .1) refl)
