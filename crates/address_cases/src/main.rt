@@ -2,8 +2,8 @@
 // document 01's list of texts and from the unchanged Rust (a refusal by its number); the Rust has no counterpart for 35, 22 and
 // 24, and the lines with these come from document 01's table.
 use address::Address;
-use text::AddressRead;
 use printing::Printed;
+use text::AddressRead;
 
 fn main() {
     show::text(
