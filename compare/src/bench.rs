@@ -139,8 +139,9 @@ fn reencode(inputs: &[Vec<u8>]) -> [f64; 2] {
 }
 
 /// Writing what was decoded: the port with the reading of the flat record, that reading alone, and the Rust. A record with nine
-/// repeaters is refused with 21 before anything else is looked at, so that its time is that of the reading. The row has the first
-/// less the second; what the compiler puts off of the reading until after that refusal stays in it.
+/// repeaters is refused with 21 before anything else is looked at, so that its time is that of the reading: two of `probe`'s
+/// calls read records, and the compiler leaves that a function of its own, which is done before the refusal. The row has the
+/// first less the second.
 fn encode(inputs: &[Vec<u8>]) -> Option<[f64; 3]> {
     let frames: Vec<Ax25Frame> = inputs.iter().filter_map(|input| Ax25Frame::from_bytes(input).ok()).collect();
     if frames.is_empty() {

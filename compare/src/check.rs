@@ -81,9 +81,13 @@ impl Checker {
         let owed = oracle::accepted(input, frame);
         let octets = frame.to_bytes();
         let info = &input[owed.info_start..owed.info_start + owed.info_len];
-        // That the flat record loses nothing of the Rust's frame is about this program and not the port: a sample will do.
-        if self.seen.decodes % 8 == 0 && flat::to_frame(&owed.record, info) != *frame {
-            self.differ("the flat record", || format!("{:?}", frame), |_| show::record(&owed.record));
+        // That the flat record loses nothing of the Rust's frame, and is read as meant, is about the comparison and not the
+        // product: a sample will do.
+        if self.seen.decodes % 8 == 0 {
+            if flat::to_frame(&owed.record, info) != *frame {
+                self.differ("the flat record", || format!("{:?}", frame), |_| show::record(&owed.record));
+            }
+            self.again(&owed.record, &owed.record);
         }
         self.seen.frame(&owed.record, octets == input);
         self.decode(input, &owed);
@@ -155,6 +159,20 @@ impl Checker {
         }
     }
 
+    /// The record as `probe` reads it, flat again.
+    fn again(&mut self, record: &[u8], owed: &Flat) {
+        let number = self.port.again(record, FLAT + LONGER);
+        self.left("the record as read", number, owed);
+    }
+
+    /// Whether the last call answered 0 and left this record.
+    fn left(&mut self, what: &str, number: u32, owed: &Flat) {
+        if number != 0 || !self.port.output_is(owed) {
+            let says = |me: &Checker| format!("number {} written {}", number, me.output(FLAT));
+            self.differ(what, || format!("number 0 {}", show::record(owed)), says);
+        }
+    }
+
     /// Writing a record, into room that suffices exactly, is one short, or more than is needed.
     fn write(&mut self, record: &[u8], info: &[u8], octets: &[u8]) {
         self.seen.writes += 1;
@@ -206,7 +224,9 @@ impl Checker {
     fn holdable(&mut self, record: &[u8], whole: &Flat, info: &[u8]) -> Vec<Difference> {
         let frame = flat::to_frame(whole, info);
         let octets = frame.to_bytes();
-        self.seen.written(&flat::of_frame(&frame));
+        let settled = flat::settled(whole, &frame);
+        self.seen.written(&settled);
+        self.again(record, &settled);
         self.write(record, info, &octets);
         let mut found = self.finish();
         found.extend(self.octets(&octets));
@@ -328,10 +348,8 @@ impl Checker {
 
     fn made(&mut self, what: &str, number: u32, frame: &Ax25Frame, info: &[u8]) {
         let owed = flat::of_frame(frame);
-        if number != 0 || !self.port.output_is(&owed) {
-            let says = |me: &Checker| format!("number {} written {}", number, me.output(FLAT));
-            self.differ(what, || format!("number 0 {}", show::record(&owed)), says);
-        }
+        self.left(what, number, &owed);
+        self.again(&owed, &owed);
         self.write(&owed, info, &frame.to_bytes());
     }
 
@@ -344,6 +362,8 @@ impl Checker {
         self.untouched("probe_decode, short places", number);
         let number = self.port.encode_into(input, input, FLAT, 0);
         self.untouched("probe_encode, no length", number);
+        let number = self.port.again(input, record);
+        self.untouched("probe_again, short record", number);
         let number = self.port.print_into(input, FLAT, 0);
         self.untouched("probe_print, no length", number);
         let number = self.port.from_str_into(input, short % ADDRESS);

@@ -218,6 +218,18 @@ pub fn to_frame(flat: &Flat, info: &[u8]) -> Ax25Frame {
     Ax25Frame { source, destination, route, command_or_response, content: to_content(flat, info) }
 }
 
+/// The one form of a record that is read as this frame of the Rust: the frame's record, but for the places not in use, which only
+/// the port's frame has. A flag is 0 or 1 there too.
+pub fn settled(flat: &Flat, frame: &Ax25Frame) -> Flat {
+    let mut settled = of_frame(frame);
+    for i in frame.route.len()..REPEATERS {
+        let (at, mark) = (ROUTE + ENTRY * i, ROUTE + ENTRY * i + ADDRESS);
+        settled[at..mark].copy_from_slice(&flat[at..mark]);
+        settled[mark] = u8::from(flat[mark] != 0);
+    }
+    settled
+}
+
 fn to_content(flat: &Flat, info: &[u8]) -> FrameContent {
     let info = info.to_vec();
     let (poll, receive_sequence, send_sequence) = (flat[POLL] != 0, flat[RECEIVE], flat[SEND]);

@@ -31,6 +31,7 @@ extern "C" {
         length: *mut usize,
         length_len: usize,
     ) -> u32;
+    fn probe_again(given: *const u8, given_len: usize, record: *mut u8, record_len: usize) -> u32;
     fn probe_from_parts(callsign: *const u8, callsign_len: usize, ssid: u8, address: *mut u8, address_len: usize) -> u32;
     fn probe_from_str(text: *const u8, text_len: usize, address: *mut u8, address_len: usize) -> u32;
     fn probe_print(
@@ -189,6 +190,15 @@ impl Port {
     pub fn encode(&mut self, record: &[u8], info: &[u8], room: usize) -> (u32, usize) {
         let number = self.encode_into(record, info, room, 1);
         (number, self.one_size())
+    }
+
+    /// Leaves the record in the output.
+    pub fn again(&mut self, record: &[u8], room: usize) -> u32 {
+        self.input.hold(record);
+        self.output.room(room);
+        let number = unsafe { probe_again(self.input.ptr(), self.input.len(), self.output.mut_ptr(), room) };
+        self.see_input(record);
+        number
     }
 
     fn one_size(&mut self) -> usize {

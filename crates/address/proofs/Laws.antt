@@ -1,21 +1,21 @@
 -- What writing a group and reading it gives, and the other way round. Upper crates rest on these and look into no group.
-use Prim.Native.Nat.{ℕ, zero, suc, _*_, _/_, _%_, _<_, _≤_}
+use Prim.Native.Nat.{ℕ, zero, suc, _+_, _*_, _/_, _%_, _<_, _≤_}
 use mathlib.Core.Path.{_≡_, refl, _∙_}
 use mathlib.Core.Bool.{Bool, true, false, cond}
 use mathlib.Core.List.{List, [], _∷_}
 use native.Mathlib.Omega.{arith}
 use borrow.Author.Tests.{ltb-true, leb-true, lt-ltb, le-leb, eq-eqb, ne-eqb, eqb-true, eqb-false}
 use lib.Dec.{leb, eqb}
-use lib.ListN.{length, getD}
+use lib.ListN.{length, getD, set}
 use lib.Seq.{set-getD}
-use Rattle.octets.specs.Octet.{Octets, field, bit}
+use Rattle.octets.specs.Octet.{Octets, flag, field, bit}
 use Rattle.octets.proofs.All.{all-nil, all-cons, all-at}
 use Rattle.octets.proofs.Choice.{by, both}
 use Rattle.octets.proofs.Octet.{octet-same, octet-where}
 use Rattle.address.specs.declared.Address.{Address}
 use Rattle.address.specs.declared.group.GroupAnswer.the-variants.{Written, NotEncodable}
 use Rattle.address.specs.Address.{low, noCall, encodable, PlainAddress}
-use Rattle.address.specs.Group.{addressOf, markOf, markSet, reserved, reservedOctet, withReserved, ssidOctet, groupOf, groupNumberOf, writeGroup, reservedSet}
+use Rattle.address.specs.Group.{addressOf, markOf, markSet, reserved, ssidOctet, groupOf, groupNumberOf, writeGroup, reservedSet}
 
 -- what can be written: characters below 128
 pub plain-character : (a : Address) → PlainAddress a → (k : ℕ) → k < 6 → getD (a .callsign) k 0 < 128
@@ -163,12 +163,20 @@ read-plain g o = record {
 doubled : (c : ℕ) → c < 256 → bit 0 c ≡ false → c / 2 * 2 % 256 ≡ c
 doubled c h e = omega (arith, eqb-false (field 0 1 c) 1 e)
 
+-- the same octet with both reserved bits set: bit 7 and bits 0 to 4 stay
+abbrev reservedOctet : ℕ → ℕ
+reservedOctet b = flag 7 (bit 7 b) + 0x60 + field 0 5 b
+
+-- a group with its reserved bits set
+unfoldable withReserved : List ℕ → List ℕ
+withReserved g = set g 6 (reservedOctet (getD g 6 0))
+
 ssid-again : (b : ℕ) → b < 256 → ssidOctet (field 1 4 b) (bit 7 b) (bit 0 b) ≡ reservedOctet b
 unfolding ssidOctet
 ssid-again b h = octet-same (λ n. ssidOctet (field 1 4 n) (bit 7 n) (bit 0 n)) reservedOctet tt b h
 
 -- writing a read group gives its octets with the reserved bits set
-pub written-read : (g : List ℕ) → length g ≡ 7 → Octets g → ((k : ℕ) → k < 6 → bit 0 (getD g k 0) ≡ false)
+written-read : (g : List ℕ) → length g ≡ 7 → Octets g → ((k : ℕ) → k < 6 → bit 0 (getD g k 0) ≡ false)
     → groupOf (addressOf g) (markOf g) (bit 0 (getD g 6 0)) ≡ withReserved g
 unfolding addressOf markOf groupOf withReserved
 written-read (a ∷ b ∷ c ∷ d ∷ e ∷ f ∷ g ∷ []) s o v =

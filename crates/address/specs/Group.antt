@@ -4,7 +4,7 @@ use Prim.Native.Nat.{ℕ, _+_, _*_, _/_, _%_}
 use mathlib.Core.Bool.{Bool, cond}
 use mathlib.Core.List.{List, [], _∷_}
 use lib.Dec.{eqb}
-use lib.ListN.{getD, set}
+use lib.ListN.{getD}
 use Rattle.octets.specs.Octet.{field, bit, flag}
 use Rattle.address.specs.declared.Address.{Address}
 use Rattle.address.specs.declared.group.GroupAnswer.{GroupAnswer}
@@ -36,14 +36,6 @@ reservedSet b = eqb (field 5 2 b) 3
 
 unfoldable pub reserved : List ℕ → Bool
 reserved g = reservedSet (getD g 6 0)
-
--- the same octet with both reserved bits set: bit 7 and bits 0 to 4 stay
-abbrev pub reservedOctet : ℕ → ℕ
-reservedOctet b = flag 7 (bit 7 b) + 0x60 + field 0 5 b
-
--- a group with its reserved bits set
-unfoldable pub withReserved : List ℕ → List ℕ
-withReserved g = set g 6 (reservedOctet (getD g 6 0))
 
 -- the octet of character k: the character shifted left by one
 abbrev pub octetAt : List ℕ → ℕ → ℕ

@@ -1,8 +1,8 @@
 -- Laws of reading that the functions' proofs share: the seven octets of a group, a route with one repeater more, the start no
 -- later than the end, a refused content.
 use Prim.Native.Nat.{ℕ, zero, suc, _+_, _*_, _%_, _/_, _≤_, _<_}
-use mathlib.Core.Path.{_≡_, refl, ap, sym, _∙_}
-use mathlib.Core.Bool.{Bool, true, false, cond, not}
+use mathlib.Core.Path.{_≡_, refl, ap, sym}
+use mathlib.Core.Bool.{true, false, not}
 use mathlib.Core.List.{List, [], _∷_}
 use native.Mathlib.Nat.{add-suc, mod-eq-of-lt}
 use native.Mathlib.Numerals.{add-one}
@@ -25,7 +25,7 @@ use Rattle.decode.specs.declared.DecodeAnswer.{DecodeAnswer}
 use Rattle.decode.specs.declared.DecodeAnswer.the-variants as answer
 use Rattle.decode.proofs.DecodeAnswer.{the-type as decode-type}
 use Rattle.search.specs.Search.{masked}
-use Rattle.decode.specs.Read.{nonzero, startOf, endOf, groupAt, entryAt, placeAt, routeAt, refusedWith, refusalOf, withContent}
+use Rattle.decode.specs.Read.{nonzero, startOf, endOf, groupAt, entryAt, placeAt, routeAt, refusalOf}
 
 -- the seven octets of a group, one by one
 pub group-seven : (s : List ℕ) (at : ℕ) → at + 7 ≤ length s

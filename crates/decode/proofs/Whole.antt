@@ -14,7 +14,7 @@ use Rattle.decode.specs.Outline.{refusalBy, outlineBy}
 use Rattle.decode.specs.declared.DecodeAnswer.the-variants as answer
 use Rattle.decode.specs.declared.Decoded.{Decoded}
 use Rattle.decode.specs.declared.Outline.{Outline}
-use Rattle.decode.proofs.Accepts.{Accepts, accepts}
+use Rattle.decode.proofs.Accepts.{accepts}
 
 pub refusal-by : (a : ContentAnswer) → refusalBy (numberOf a) ≡ refusalOf a
 refusal-by (content.Accepted k) = refl

@@ -2,7 +2,7 @@
 -- `UnknownContent`.
 use Prim.Native.Nat.{ℕ}
 use mathlib.Core.Path.{_≡_, refl, ap, _∙_}
-use mathlib.Core.Bool.{true, false}
+use mathlib.Core.Bool.{false}
 use mathlib.Core.List.{List, []}
 use mathlib.Core.Logic.{_↔_}
 use lib.ListN.{length}
@@ -11,8 +11,8 @@ use Rattle.octets.proofs.Splice.{splice-none}
 use Rattle.text.specs.Text.{addressNumberOf, readParts, readText}
 use Rattle.printing.specs.Print.{printNumberOf, printed}
 use Rattle.address.specs.declared.Address.{Address}
-use Rattle.text.proofs.Laws.{text-numbers, parts-numbers, text-rows, parts-rows}
-use Rattle.printing.proofs.Laws.{print-numbers, print-rows}
+use Rattle.text.proofs.Laws.{text-numbers, parts-numbers}
+use Rattle.printing.proofs.Laws.{print-numbers}
 use Rattle.content.specs.declared.FrameContent.the-variants.{UnknownContent}
 use Rattle.decode.specs.Answer.{numberOf, reportOf, isAccepted}
 use Rattle.frame.specs.Frame.{writeNumber, defaultFrame}
@@ -45,15 +45,15 @@ writing f info room n = by-table _ (writeTable f info room) (write-rows f info r
 
 pub printing : (a : Address) (room n : ℕ) → (printNumberOf (printed a room .answer) ≡ n) ↔ FirstRow (printTable a room) n
 unfolding given
-printing a room n = by-table _ (printTable a room) (print-numbers a room ∙ print-rows a room) n
+printing a room n = by-table _ (printTable a room) (print-numbers a room) n
 
 pub parts : (c : List ℕ) (ssid n : ℕ) → (addressNumberOf (readParts c ssid .answer) ≡ n) ↔ FirstRow (partsTable c ssid) n
 unfolding given
-parts c ssid n = by-table _ (partsTable c ssid) (parts-numbers c ssid ∙ parts-rows c ssid) n
+parts c ssid n = by-table _ (partsTable c ssid) (parts-numbers c ssid) n
 
 pub text : (t : List ℕ) (n : ℕ) → (addressNumberOf (readText t .answer) ≡ n) ↔ FirstRow (textTable t) n
 unfolding given
-text t n = by-table _ (textTable t) (text-numbers t ∙ text-rows t) n
+text t n = by-table _ (textTable t) (text-numbers t) n
 
 -- the details that decoding's numbers give
 pub details : (s : List ℕ) → reportOf (decode s .answer) ≡ reported s

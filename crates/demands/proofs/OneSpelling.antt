@@ -3,7 +3,6 @@ use Prim.Native.Nat.{ℕ, _≤_, _<_}
 use mathlib.Core.Path.{_≡_, sym, _∙_}
 use mathlib.Core.Bool.{true, false}
 use mathlib.Core.List.{List}
-use mathlib.Core.Logic.{_↔_}
 use lib.ListN.{length}
 use Rattle.octets.specs.Octet.{Octets}
 use Rattle.octets.specs.Splice.{splice}
@@ -12,13 +11,13 @@ use Rattle.decode.specs.Answer.{isAccepted}
 use Rattle.decode.specs.Read.{decode, infoIn}
 use Rattle.frame.specs.Spell.{withMark}
 use Rattle.grammar.proofs.Back.{unique}
-use Rattle.spelling.specs.Canonical.{again, canonical}
+use Rattle.spelling.specs.Canonical.{again}
 use Rattle.respelling.specs.Reencode.{reencode, reencoded}
 use Rattle.respelling.specs.declared.ReencodeAnswer.the-variants.{Written, Refused, NoRoom}
 use Rattle.spelling.proofs.Laws.{spell-canonical, canonical-plain, again-facts}
 use Rattle.respelling.proofs.Laws.{again-room, refused-answer, again-short, again-fits}
 use Rattle.demands.specs.Lent.{starting}
-use Rattle.demands.specs.OneSpelling.{Spelled, Respelled, OneSpelling}
+use Rattle.demands.specs.OneSpelling.{OneSpelling}
 use Rattle.demands.proofs.Lent.{splice-start}
 
 pub one-spelling : (s : List ℕ) → Octets s → OneSpelling s

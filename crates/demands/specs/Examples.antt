@@ -5,7 +5,6 @@ use mathlib.Core.List.{List, [], _∷_, _++_}
 use lib.ListN.{take}
 use Rattle.protocol.specs.declared.ProtocolIdentifier.{ProtocolIdentifier}
 use Rattle.protocol.specs.declared.ProtocolIdentifier.the-variants.{None, Layer3Impl}
-use Rattle.address.specs.declared.Address.{Address}
 use Rattle.content.specs.declared.CommandResponse.the-variants as fault
 use Rattle.content.specs.declared.FrameContent.{FrameContent}
 use Rattle.content.specs.declared.FrameContent.the-variants.{UnnumberedInformation, ReceiveReady, FrameReject}

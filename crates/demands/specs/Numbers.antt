@@ -1,6 +1,6 @@
 -- Demand 1: document 01's table of numbers, a row a line, each condition in the table's words, in the order that it gives.
 use Prim.Native.Nat.{ℕ, _+_}
-use mathlib.Core.Bool.{Bool, not}
+use mathlib.Core.Bool.{not}
 use mathlib.Core.List.{List, [], _∷_}
 use lib.Dec.{ltb}
 use lib.ListN.{length, drop}

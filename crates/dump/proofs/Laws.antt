@@ -9,7 +9,6 @@ use borrow.Author.Tests.{leb-true, leb-false}
 use lib.Dec.{leb, eqb}
 use lib.ListN.{length, getD, take, drop, length-append, take-append-drop}
 use lib.Seq.{take-suc, take-at}
-use Rattle.octets.specs.Splice.{splice}
 use Rattle.octets.proofs.Choice.{by}
 use Rattle.octets.proofs.Splice.{splice-in, splice-length, splice-none, splice-more}
 use Rattle.printing.specs.Print.{trimmed, ssidSuffix}

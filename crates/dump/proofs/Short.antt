@@ -1,16 +1,16 @@
 -- How long the texts are at most: 512 octets hold the whole.
 use Prim.Native.Nat.{ℕ, zero, suc, _+_, _*_, _≤_, _<_}
-use mathlib.Core.Path.{_≡_, refl, ap, sym, _∙_}
+use mathlib.Core.Path.{_≡_}
 use mathlib.Core.Bool.{Bool, true, false, cond}
 use mathlib.Core.List.{List, [], _∷_, _++_}
 use native.Mathlib.Omega.{arith}
 use lib.Dec.{eqb, ltb}
 use lib.ListN.{length, length-append, length-drop}
 use Rattle.octets.specs.Octet.{Octets}
-use Rattle.octets.proofs.Choice.{by, either}
+use Rattle.octets.proofs.Choice.{either}
 use Rattle.address.specs.Address.{PlainAddress}
 use Rattle.text.specs.Text.{alphanumeric}
-use Rattle.printing.specs.Print.{trimmed, used, ssidSuffix}
+use Rattle.printing.specs.Print.{trimmed, ssidSuffix}
 use Rattle.address.specs.declared.Address.{Address}
 use Rattle.printing.proofs.Laws.{used-le, trimmed-length, suffix-short}
 use Rattle.content.specs.Spell.{hasInfo}
@@ -29,7 +29,7 @@ use Rattle.frame.specs.declared.RouteEntry.{RouteEntry}
 use Rattle.grammar.proofs.Plain.{Stations, stations, inside}
 use Rattle.spelling.specs.Canonical.{canonical}
 use Rattle.dump.specs.Ascii.{ascii}
-use Rattle.dump.specs.Text.{hex, fourDigits, leading, decimal, character, characters, addressText, entryText, routeText}
+use Rattle.dump.specs.Text.{fourDigits, leading, decimal, character, characters, addressText, entryText, routeText}
 use Rattle.dump.specs.Dump.{markText, kindText, controlText, pidText, yesNo, stationLines, contentLines, frameText, detailText, refusalText, decodedText, dumpText}
 
 pub decimal-short : (n : ℕ) → length (decimal n) ≤ 4

@@ -5,9 +5,8 @@ use address::Address;
 use frame::RouteEntry;
 ghost use mathlib.Core.Path.{_≡_};
 ghost use mathlib.Core.Bool.{cond};
-ghost use mathlib.Core.List.{[], _++_};
+ghost use mathlib.Core.List.{[]};
 ghost use Prim.Native.Nat.{_+_, _≤_, _<_, _%_};
-ghost use lib.Dec.{eqb};
 ghost use lib.ListN.{length};
 ghost use Rattle.dump.specs.Text.{leading, decimal, textIn, characters, addressText, entryText, routeText, Put};
 

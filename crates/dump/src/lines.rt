@@ -10,7 +10,6 @@ use address::Address;
 use content::FrameContent;
 use frame::Ax25Frame;
 use frame::RouteEntry;
-ghost use mathlib.Core.Path.{_≡_};
 ghost use mathlib.Core.List.{_++_};
 ghost use Prim.Native.Nat.{_+_, _≤_};
 ghost use lib.ListN.{length};

@@ -3,7 +3,6 @@ use content::FrameContent;
 use frame::Mark;
 ghost use mathlib.Core.Path.{_≡_};
 ghost use Prim.Native.Nat.{_<_};
-ghost use lib.ListN.{getD};
 ghost use Rattle.content.specs.Spell.{front};
 ghost use Rattle.dump.specs.Text.{hexDigit, hex, character, wordOf};
 ghost use Rattle.dump.specs.Dump.{markText, kindText, controlText, pidText, yesNo};

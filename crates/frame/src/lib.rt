@@ -5,7 +5,7 @@ use content::UnnumberedInformation;
 use protocol::ProtocolIdentifier;
 ghost use mathlib.Core.Path.{_≡_};
 ghost use mathlib.Core.Bool.{false};
-ghost use Rattle.frame.specs.Frame.{noEntry, noRoute, defaultFrame, writeNumber, simpleUi};
+ghost use Rattle.frame.specs.Frame.{noEntry, defaultFrame, writeNumber, simpleUi};
 
 mod writing; // writing.rt: from a frame and its info to octets
 

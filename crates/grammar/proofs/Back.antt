@@ -2,17 +2,17 @@
 use Prim.Native.Nat.{ℕ, zero, suc, _+_, _-_, _*_, _/_, _≤_, _<_}
 use mathlib.Core.Path.{_≡_, refl, ap, sym, _∙_}
 use mathlib.Core.Bool.{Bool, true, false, false≢true, not}
-use mathlib.Core.List.{List, [], _∷_, _++_, append-assoc}
+use mathlib.Core.List.{List, _++_, append-assoc}
 use mathlib.Core.Logic.{⊎-elim}
-use native.Mathlib.Nat.{add-zero, eq-or-lt-of-le, le-of-suc-le-suc, not-suc-le-zero}
+use native.Mathlib.Nat.{eq-or-lt-of-le, le-of-suc-le-suc, not-suc-le-zero}
 use native.Mathlib.Omega.{arith}
 use borrow.Author.Tests.{ne-eqb, le-ltb, ltb-true}
 use lib.Dec.{eqb, ltb}
-use lib.ListN.{length, length-append, take, drop}
+use lib.ListN.{length, length-append, drop}
 use lib.Seq.{take-at, drop-at, drop-drop, take-all}
 use Rattle.octets.proofs.Choice.{by}
 use Rattle.address.specs.Address.{PlainAddress}
-use Rattle.address.specs.Group.{groupOf, addressOf, markOf}
+use Rattle.address.specs.Group.{groupOf, markOf}
 use Rattle.address.specs.declared.Address.{Address}
 use Rattle.address.proofs.Laws.{group-length, read-written, mark-written}
 use Rattle.content.specs.Spell.{hasInfo, front}

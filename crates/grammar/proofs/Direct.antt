@@ -1,15 +1,15 @@
 -- The direct look passes exactly where an accepted input is what its frame spells.
-use Prim.Native.Nat.{ℕ, zero, suc, _+_, _-_, _*_, _/_, _%_, _≤_, _<_}
-use mathlib.Core.Path.{_≡_, refl, ap, sym, subst, _∙_}
-use mathlib.Core.Bool.{Bool, true, false, true≢false, false≢true, cond, not, _&&_}
-use mathlib.Core.List.{List, [], _∷_, _++_, append-assoc}
-use mathlib.Core.Logic.{_⊎_, inl, inr, ⊎-elim}
-use native.Mathlib.Nat.{add-zero, eq-or-lt-of-le, le-of-suc-le-suc}
+use Prim.Native.Nat.{ℕ, zero, suc, _+_, _-_, _*_, _≤_, _<_}
+use mathlib.Core.Path.{_≡_, refl, ap, sym, _∙_}
+use mathlib.Core.Bool.{Bool, true, false, true≢false, false≢true, _&&_}
+use mathlib.Core.List.{List, _++_, append-assoc}
+use mathlib.Core.Logic.{_⊎_, ⊎-elim}
+use native.Mathlib.Nat.{eq-or-lt-of-le, le-of-suc-le-suc}
 use native.Mathlib.Numerals.{add-one}
 use native.Mathlib.Omega.{arith}
-use borrow.Author.Tests.{ne-eqb, eq-eqb, lt-ltb, eqb-true, eqb-false, leb-true, leb-false}
-use lib.Dec.{eqb, ltb, leb, eqb·suc-suc, eqb·zero-suc, eqb·suc-zero}
-use lib.ListN.{length, length-append, length-drop, length-take, getD, take, drop, take-append-drop, List·getD-append}
+use borrow.Author.Tests.{lt-ltb, eqb-true, eqb-false, leb-true, leb-false}
+use lib.Dec.{eqb, leb, eqb·suc-suc, eqb·zero-suc, eqb·suc-zero}
+use lib.ListN.{length, length-drop, getD, take, drop, take-append-drop}
 use lib.Seq.{drop-drop, take-add, take-all, getD-drop, getD-take, length-take-le}
 use Rattle.octets.specs.Octet.{Octets, bit}
 use Rattle.octets.proofs.Choice.{by, both}
@@ -17,8 +17,7 @@ use Rattle.octets.proofs.Octet.{octets-drop, octets-take}
 use Rattle.octets.proofs.First.{first-passes, first-before, first-is}
 use Rattle.address.specs.Group.{groupOf, markOf, markSet, reserved, reservedSet}
 use Rattle.address.proofs.Laws.{group-reserved, mark-written, written-exact, reserved-last, mark-last}
-use Rattle.content.specs.Spell.{hasInfo, front, spellContent}
-use Rattle.parse.specs.Content.{contentOf}
+use Rattle.content.specs.Spell.{hasInfo, front}
 use Rattle.lean.specs.Lean.{lean, infoOf}
 use Rattle.content.specs.declared.FrameContent.{FrameContent}
 use Rattle.lean.proofs.Laws.{content-exact, front-some}

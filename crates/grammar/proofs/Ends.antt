@@ -1,14 +1,14 @@
 -- The searches for start and end in what a frame spells: nothing odd stands before the last group's seventh octet.
-use Prim.Native.Nat.{ℕ, zero, suc, _+_, _*_, _≤_, _<_}
-use mathlib.Core.Path.{_≡_, refl, ap, sym, _∙_}
+use Prim.Native.Nat.{ℕ, zero, suc, _+_, _*_, _<_}
+use mathlib.Core.Path.{_≡_, refl, ap, _∙_}
 use mathlib.Core.Bool.{Bool, true, false, not}
-use mathlib.Core.List.{List, [], _∷_, _++_, append-assoc}
+use mathlib.Core.List.{List, _++_, append-assoc}
 use mathlib.Core.Logic.{⊎-elim}
 use native.Mathlib.Nat.{eq-or-lt-of-le, le-of-suc-le-suc}
 use native.Mathlib.Omega.{arith}
 use borrow.Author.Tests.{ne-eqb, eq-eqb}
 use lib.Dec.{eqb, eqb·suc-zero}
-use lib.ListN.{length, length-append, getD, List·getD-append}
+use lib.ListN.{length-append, getD, List·getD-append}
 use Rattle.octets.specs.Octet.{bit}
 use Rattle.octets.proofs.First.{first-past, first-is}
 use Rattle.address.specs.Address.{PlainAddress}

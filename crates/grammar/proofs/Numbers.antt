@@ -2,7 +2,7 @@
 use Prim.Native.Nat.{ℕ, _+_, _<_}
 use mathlib.Core.Path.{_≡_, refl, ap, sym, _∙_}
 use mathlib.Core.List.{List}
-use mathlib.Core.Bool.{Bool, cond, not}
+use mathlib.Core.Bool.{cond, not}
 use native.Mathlib.Omega.{arith}
 use borrow.Author.Tests.{eqb-false}
 use lib.Dec.{eqb, ltb}
@@ -12,7 +12,7 @@ use Rattle.octets.proofs.Choice.{by, either}
 use Rattle.octets.proofs.First.{first-all, first-le}
 use Rattle.parse.specs.Content as content
 use Rattle.content.specs.Encode.{strayInfo}
-use Rattle.parse.specs.Numbers.{rows, lacksPid, strangeS, strangeU, wrongFrmr}
+use Rattle.parse.specs.Numbers.{lacksPid, strangeS, strangeU, wrongFrmr}
 use Rattle.parse.proofs.Numbers.{numbers, rows-some}
 use Rattle.parse.specs.declared.ContentAnswer.{ContentAnswer}
 use Rattle.parse.specs.declared.ContentAnswer.the-variants.{Accepted, ContentZeroLength, MissingPidField, UnrecognisedSFieldType, UnrecognisedUFieldType, WrongSizeFrmrInfo}
@@ -21,7 +21,7 @@ use Rattle.frame.specs.Frame.{writeNumber}
 use Rattle.frame.specs.Spell.{spell}
 use Rattle.frame.specs.Write.{frameEncodable, writeAnswer}
 use Rattle.frame.specs.declared.Ax25Frame.{Ax25Frame}
-use Rattle.decode.specs.Read.{nonzero, startOf, endOf, repeatersOf, refusedWith, acceptedWith, refusalOf, withContent, decodeField, decode}
+use Rattle.decode.specs.Read.{nonzero, startOf, endOf, refusedWith, acceptedWith, withContent, decodeField, decode}
 use Rattle.decode.specs.Numbers.{noStart, noEnd, shortField, noContent, manyRepeaters, reported}
 use Rattle.decode.specs.declared.Decoded.{Decoded}
 

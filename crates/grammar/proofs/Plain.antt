@@ -1,13 +1,13 @@
 -- What decoding accepts is plain once the mark is there, and spells no more octets than were read.
 use Prim.Native.Nat.{ℕ, zero, suc, _+_, _-_, _*_, _/_, _≤_, _<_}
-use mathlib.Core.Path.{_≡_, refl, ap, sym, subst, _∙_}
-use mathlib.Core.Bool.{Bool, true, false, cond}
-use mathlib.Core.List.{List, [], _∷_}
+use mathlib.Core.Path.{_≡_, refl, sym, subst, _∙_}
+use mathlib.Core.Bool.{true, cond}
+use mathlib.Core.List.{List}
 use native.Mathlib.Nat.{add-zero}
 use native.Mathlib.Omega.{arith}
 use borrow.Author.Tests.{not-true, eqb-false}
 use lib.Dec.{eqb, ltb}
-use lib.ListN.{length, length-drop, length-take, getD, drop, take}
+use lib.ListN.{length, length-drop, length-take, getD, drop}
 use lib.Seq.{getD-drop, getD-take, length-take-le}
 use Rattle.octets.specs.Octet.{Octets, bit}
 use Rattle.octets.proofs.Choice.{by}

@@ -2,17 +2,12 @@
 -- nothing, and an accepted one what the frame spells.
 use Prim.Native.Nat.{ℕ, _+_, _-_, _≤_}
 use mathlib.Core.Path.{_≡_, refl, ap, sym, _∙_}
-use mathlib.Core.Bool.{Bool, true, false, true≢false, cond}
+use mathlib.Core.Bool.{false}
 use mathlib.Core.List.{List, []}
 use native.Mathlib.Omega.{arith}
-use lib.Dec.{eqb, ltb}
-use lib.ListN.{length, drop}
-use Rattle.octets.proofs.Choice.{by, either}
-use Rattle.parse.specs.Content.{contentOf}
-use Rattle.content.specs.declared.FrameContent.{FrameContent}
+use lib.ListN.{drop}
+use Rattle.octets.proofs.Choice.{by}
 use Rattle.content.specs.declared.FrameContent.the-variants as kind
-use Rattle.content.specs.declared.UnnumberedInformation.{UnnumberedInformation}
-use Rattle.parse.specs.declared.ContentAnswer.{ContentAnswer}
 use Rattle.parse.specs.declared.ContentAnswer.the-variants as content
 use Rattle.lean.proofs.Laws.{never-unknown}
 use Rattle.decode.specs.Answer.{isAccepted}
@@ -21,10 +16,9 @@ use Rattle.frame.specs.Spell.{spell}
 use Rattle.frame.specs.Write.{writeAnswer, octetsBy, octetsWritten}
 use Rattle.frame.specs.declared.WriteAnswer.{WriteAnswer}
 use Rattle.frame.specs.declared.WriteAnswer.the-variants as write
-use Rattle.decode.specs.Read.{startOf, endOf, repeatersOf, frameAt, refusedWith, acceptedWith, withContent, decodeField, decode}
+use Rattle.decode.specs.Read.{endOf, frameAt, refusedWith, acceptedWith, decode}
 use Rattle.frame.specs.declared.Ax25Frame.{Ax25Frame}
 use Rattle.decode.specs.declared.Decoded.{Decoded}
-use Rattle.decode.specs.declared.DecodeAnswer.{DecodeAnswer}
 use Rattle.decode.proofs.Accepts.{Accepts, accepts}
 use Rattle.decode.proofs.Refusals.{refused-is}
 use Rattle.frame.proofs.Write.{accepted-taken}

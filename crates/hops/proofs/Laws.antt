@@ -1,17 +1,18 @@
 -- The hop set by its bits and its ones: bit i is set exactly where place i is marked, and the ones are the marked places.
-use Prim.Native.Nat.{ℕ, zero, suc, _+_, _-_, _*_, _/_, _%_, _^_, _≤_, _<_}
-use mathlib.Core.Path.{_≡_, refl, ap, sym, _∙_}
-use mathlib.Core.Bool.{Bool, true, false, cond, _&&_}
+use Prim.Native.Nat.{ℕ, zero, suc, _+_, _-_, _*_, _/_, _%_, _^_, _<_}
+use mathlib.Core.Path.{_≡_, refl, _∙_}
+use mathlib.Core.Bool.{Bool, true, false}
 use mathlib.Core.List.{List, [], _∷_}
 use native.Mathlib.Nat.{pow-suc, zero-div}
 use native.Mathlib.Numerals.{one-add}
 use native.Mathlib.Omega.{arith}
 use borrow.Author.Tests.{eq-eqb, ne-eqb, eqb-true}
 use lib.Count.{ones, ones-step}
-use lib.Dec.{eqb, ltb}
+use lib.Dec.{eqb}
 use lib.ListN.{length, getD, drop}
 use lib.Pow.{shr-shr}
 use lib.Seq.{drop-cons}
+use Rattle.octets.specs.Count.{count}
 use Rattle.octets.specs.Octet.{bit, flag}
 use Rattle.octets.specs.Same.{same}
 use Rattle.octets.proofs.Choice.{both}
@@ -19,7 +20,7 @@ use Rattle.octets.proofs.Same.{same-refl, same-eq}
 use Rattle.address.specs.declared.Address.{Address}
 use Rattle.frame.specs.declared.RouteEntry.{RouteEntry}
 use Rattle.frame.specs.declared.Ax25Frame.{Ax25Frame}
-use Rattle.hops.specs.Hops.{markedAt, marks, setOf, hopSet, hopsUsed, howMany}
+use Rattle.hops.specs.Hops.{markedAt, marks, setOf, hopSet, hopsUsed}
 use Rattle.hops.specs.Station.{sameStation}
 
 pub set-below : (ms : List Bool) → setOf ms < 2 ^ length ms
@@ -66,8 +67,8 @@ set-bit (m ∷ ms) (suc k) =
     rw (← one-add k, ← shr-shr (setOf ms * 2 + flag 0 m) 1 k, half) (set-bit ms k)
 
 -- the ones of the set are the marked places
-pub set-ones : (ms : List Bool) → ones (setOf ms) ≡ howMany ms
-unfolding setOf howMany ones
+pub set-ones : (ms : List Bool) → ones (setOf ms) ≡ count (λ (m : Bool). m) ms
+unfolding setOf count ones
 set-ones [] = refl
 set-ones (true ∷ ms) =
     let low : (setOf ms * 2 + 1) % 2 ≡ 1 = omega arith in
@@ -82,7 +83,7 @@ pub hop-bit : (f : Ax25Frame) (i : ℕ) → i < 8 → bit i (hopSet f) ≡ marke
 unfolding hopSet
 hop-bit f i h = set-bit (marks (f .route) (f .«route_count»)) i ∙ marks-at (f .route) (f .«route_count») i h
 
-pub hops-marked : (f : Ax25Frame) → hopsUsed f ≡ howMany (marks (f .route) (f .«route_count»))
+pub hops-marked : (f : Ax25Frame) → hopsUsed f ≡ count (λ (m : Bool). m) (marks (f .route) (f .«route_count»))
 unfolding hopsUsed hopSet
 hops-marked f = set-ones (marks (f .route) (f .«route_count»))
 

@@ -1,6 +1,6 @@
 -- The hops of a route (document 01, Hops).
-use Prim.Native.Nat.{ℕ, suc, _+_, _*_}
-use mathlib.Core.Bool.{Bool, true, false, cond, _&&_}
+use Prim.Native.Nat.{ℕ, _+_, _*_}
+use mathlib.Core.Bool.{Bool, _&&_}
 use mathlib.Core.List.{List, [], _∷_}
 use lib.Count.{ones}
 use lib.Dec.{ltb}
@@ -35,8 +35,3 @@ hopsUsed f = ones (hopSet f)
 -- the due place equals the hops used
 unfoldable pub duePlace : Ax25Frame → ℕ
 duePlace f = hopsUsed f
-
--- how many of a list are true
-unfoldable pub howMany : List Bool → ℕ
-howMany [] = 0
-howMany (m ∷ ms) = cond m (suc (howMany ms)) (howMany ms)

@@ -2,8 +2,7 @@
 -- spelled again.
 use Prim.Native.Nat.{ℕ, _+_, _<_, _≤_}
 use mathlib.Core.Path.{_≡_, refl, ap, _∙_}
-use borrow.Author.Tests.{ne-eqb}
-use mathlib.Core.Bool.{Bool, true, false, false≢true, cond}
+use mathlib.Core.Bool.{Bool, true, false, false≢true}
 use mathlib.Core.List.{List, [], _++_}
 use native.Mathlib.Omega.{arith}
 use lib.ListN.{length, getD}
@@ -12,11 +11,9 @@ use Rattle.octets.proofs.Octet.{Each, octets-each}
 use Rattle.protocol.specs.Pid.{octetOf, pidOf}
 use Rattle.protocol.proofs.Laws.{pid-plain, pid-octet, octet-below}
 use Rattle.content.specs.Control.{rr, rnr, rej, sabm, disc, dm, ua, frmr, ui}
-use Rattle.parse.specs.Content.{contentOf, numberOf}
+use Rattle.parse.specs.Content.{contentOf}
 use Rattle.content.specs.Spell.{hasInfo, numbered, sent, unnumbered, isResponse, front, spellContent, PlainContent}
-use Rattle.parse.specs.Numbers.{rows, lacksPid, strangeS, strangeU, wrongFrmr}
 use Rattle.lean.specs.Lean.{lean, infoOf}
-use Rattle.parse.proofs.Numbers.{numbers}
 use Rattle.lean.proofs.Lean.{lean-exact, lean-spelled}
 use Rattle.lean.proofs.Back.{flags-below, i-back, rr-back, rnr-back, rej-back, sabm-back, disc-back, dm-back, ua-back, frmr-way, frmr-back, ui-back}
 use Rattle.parse.proofs.Read.{Reads, accepted}

@@ -1,6 +1,6 @@
 -- From the code's masks and shifts to the numbers of the definitions.
 use Prim.Native.Nat.{ℕ, zero, suc, _+_, _-_, _*_, _/_, _%_, _^_, _<_}
-use mathlib.Core.Path.{_≡_, refl, ap, sym, _∙_}
+use mathlib.Core.Path.{_≡_, refl, ap, _∙_}
 use mathlib.Core.Bool.{Bool, true, false, not}
 use native.Mathlib.Nat.{zero-mul, one-mul, two-pow-succ, mod-lt}
 use native.Mathlib.Numerals.{one-add}

@@ -12,7 +12,6 @@ use Rattle.content.specs.declared.CommandResponse.the-variants.{Command, Respon
 use Rattle.content.specs.declared.Information.{Information}
 use Rattle.content.specs.declared.UnnumberedInformation.{UnnumberedInformation}
 use Rattle.content.specs.declared.FrameReject.{FrameReject}
-use Rattle.content.specs.declared.FrameContent.{FrameContent}
 use Rattle.content.specs.declared.FrameContent.the-variants as kind
 use Rattle.parse.specs.declared.ContentAnswer.{ContentAnswer}
 use Rattle.parse.specs.declared.ContentAnswer.the-variants.{Accepted, ContentZeroLength, MissingPidField, UnrecognisedSFieldType, UnrecognisedUFieldType, WrongSizeFrmrInfo}

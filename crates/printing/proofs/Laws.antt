@@ -14,7 +14,7 @@ use Rattle.octets.specs.Splice.{splice}
 use Rattle.octets.proofs.Splice.{splice-in, splice-more}
 use Rattle.address.specs.declared.Address.{Address}
 use Rattle.address.specs.Address.{encodable}
-use Rattle.printing.specs.Print.{space, used, trimmed, decimalText, ssidSuffix, textOf, short, printNumberOf, printNumber, printed, printedInto}
+use Rattle.printing.specs.Print.{space, used, trimmed, decimalText, ssidSuffix, textOf, short, printNumberOf, printed, printedInto}
 
 pub used-le : (s : List ℕ) → used s ≤ length s
 unfolding used
@@ -61,8 +61,8 @@ module _ (c : List ℕ) (s n : ℕ) (e : n ≡ used c) where
       rw z at m ∙ rw e refl
 
 -- the numbers that printing gives
-pub print-numbers : (a : Address) (room : ℕ) → printNumberOf (printed a room .answer) ≡ printNumber a room
-unfolding printed printNumber
+pub print-numbers : (a : Address) (room : ℕ) → printNumberOf (printed a room .answer) ≡ cond (not (encodable a)) 22 (cond (short a room) 24 0)
+unfolding printed
 print-numbers a room =
     by (encodable a) (λ e. by (short a room) (λ r. simp (e, r)) (λ r. simp (e, r))) (λ e. simp e)
 
@@ -73,8 +73,3 @@ unfolding printedInto
 printed-text a out e h =
     let z : 0 + length (textOf a) ≡ length (textOf a) = omega arith in
     rw e (splice-in out 0 (textOf a) (omega arith) ∙ rw z refl)
-
--- the table, row by row
-pub print-rows : (a : Address) (room : ℕ) → printNumber a room ≡ cond (not (encodable a)) 22 (cond (short a room) 24 0)
-unfolding printNumber
-print-rows a room = refl

@@ -1,6 +1,6 @@
 -- Printing an address: its text, the numbers of refusals, and what is left in the output (document 01, Text).
 use Prim.Native.Nat.{ℕ, suc, _+_, _/_, _%_}
-use mathlib.Core.Bool.{Bool, cond, not, _&&_}
+use mathlib.Core.Bool.{Bool, cond, _&&_}
 use mathlib.Core.List.{List, [], _∷_, _++_}
 use lib.Dec.{eqb, ltb}
 use lib.ListN.{length, take}
@@ -44,10 +44,6 @@ printNumberOf print.NoRoom = 24
 -- 24: the output is shorter than the text
 abbrev pub short : Address → ℕ → Bool
 short a room = ltb room (length (textOf a))
-
--- the numbers in the table's order
-unfoldable pub printNumber : Address → ℕ → ℕ
-printNumber a room = cond (not (encodable a)) 22 (cond (short a room) 24 0)
 
 -- what printing answers, with room for that many octets
 unfoldable pub printed : Address → ℕ → Printed

@@ -66,6 +66,20 @@ pub extern "C" fn probe_encode(flat: &[u8], info: &[u8], out: &mut [u8], len: &m
     answer.number()
 }
 
+// The frame of a flat record, as a flat record again.
+#[no_mangle]
+pub extern "C" fn probe_again(given: &[u8], flat: &mut [u8]) -> u32
+    ensures { λ r. ⌜ r ≡ answers (lacks (now (flat .entry)) 92) 0 ⌝ }
+    ensures { λ r. ⌜ now (flat .exit) ≡ leaves (lacks (now (flat .entry)) 92) (now (flat .entry)) (flatOf (frameFrom (now (given .entry)))) ⌝ }
+{
+    if flat.len() < FRAME {
+        return NO_ROOM;
+    }
+    let frame = given::frame_from(given);
+    flat::put_frame(flat, frame);
+    0
+}
+
 // Reads a callsign and an SSID: the number and the address.
 #[no_mangle]
 pub extern "C" fn probe_from_parts(callsign: &[u8], ssid: u8, flat: &mut [u8]) -> u32

@@ -1,30 +1,23 @@
 -- What re-encoding writes: the facts that the demands state.
 use Prim.Native.Nat.{ℕ, _+_, _*_, _≤_, _<_}
-use mathlib.Core.Path.{_≡_, refl, ap, sym, _∙_}
-use mathlib.Core.Bool.{Bool, true, false, false≢true, cond, _&&_}
+use mathlib.Core.Path.{_≡_, refl, _∙_}
+use mathlib.Core.Bool.{Bool, true, false}
 use mathlib.Core.List.{List, []}
 use native.Mathlib.Omega.{arith}
 use borrow.Author.Tests.{le-ltb, lt-ltb}
 use lib.Dec.{ltb}
 use lib.ListN.{length}
 use Rattle.octets.specs.Octet.{Octets}
-use Rattle.octets.specs.Same.{same}
-use Rattle.octets.proofs.Choice.{by, both, equal}
-use Rattle.octets.proofs.Same.{same-refl, same-eq}
+use Rattle.octets.proofs.Choice.{by}
 use Rattle.content.specs.Spell.{front}
 use Rattle.decode.specs.Answer.{isAccepted}
 use Rattle.decode.specs.Read.{decode, infoIn}
-use Rattle.frame.specs.Spell.{withMark, spell, Plain, inUse}
+use Rattle.frame.specs.Spell.{spell}
 use Rattle.frame.specs.Write.{octetsWritten, written}
-use Rattle.frame.specs.declared.Ax25Frame.{Ax25Frame}
 use Rattle.frame.proofs.Write.{spell-length}
-use Rattle.grammar.specs.Direct.{direct}
-use Rattle.decode.proofs.Accepts.{accepts}
-use Rattle.grammar.proofs.Back.{info-spell, frame-spell}
 use Rattle.grammar.proofs.Plain.{read, inside, info-length}
-use Rattle.grammar.proofs.Respell.{mark-spell, use-spell, use-mark, accepted-spell, decoded-written, decoded-octets, written-is}
-use Rattle.grammar.proofs.Direct.{direct-spelled, direct-again}
-use Rattle.spelling.specs.Canonical.{again, canonical}
+use Rattle.grammar.proofs.Respell.{mark-spell, decoded-written, decoded-octets, written-is}
+use Rattle.spelling.specs.Canonical.{again}
 use Rattle.respelling.specs.Reencode.{due, reencodeAnswer, reencoded, reencode, answerBy}
 use Rattle.respelling.specs.declared.ReencodeAnswer.the-variants.{Written, Refused, NoRoom}
 

@@ -1,28 +1,21 @@
 -- The canonical check is exact, and an accepted input spelled again is canonical: the facts that the demands state.
-use Prim.Native.Nat.{ℕ, _+_, _*_, _≤_}
-use mathlib.Core.Path.{_≡_, refl, ap, sym, _∙_}
-use mathlib.Core.Bool.{Bool, true, false, false≢true, cond, _&&_}
-use mathlib.Core.List.{List, []}
-use native.Mathlib.Omega.{arith}
-use borrow.Author.Tests.{le-ltb}
-use lib.Dec.{ltb}
+use Prim.Native.Nat.{ℕ, _≤_}
+use mathlib.Core.Path.{_≡_, _∙_}
+use mathlib.Core.Bool.{true, false}
+use mathlib.Core.List.{List}
 use lib.ListN.{length}
 use Rattle.octets.specs.Octet.{Octets}
-use Rattle.octets.specs.Same.{same}
-use Rattle.octets.proofs.Choice.{by, both, equal}
+use Rattle.octets.proofs.Choice.{both, equal}
 use Rattle.octets.proofs.Same.{same-refl, same-eq}
-use Rattle.content.specs.Spell.{front}
 use Rattle.decode.specs.Answer.{isAccepted}
 use Rattle.decode.specs.Read.{decode, infoIn}
-use Rattle.frame.specs.Spell.{withMark, spell, Plain, inUse}
-use Rattle.frame.specs.Write.{octetsWritten, written}
+use Rattle.frame.specs.Spell.{withMark, spell, Plain}
 use Rattle.frame.specs.declared.Ax25Frame.{Ax25Frame}
-use Rattle.frame.proofs.Write.{spell-length}
 use Rattle.grammar.specs.Direct.{direct}
 use Rattle.decode.proofs.Accepts.{accepts}
 use Rattle.grammar.proofs.Back.{info-spell, frame-spell}
-use Rattle.grammar.proofs.Plain.{read, inside, info-length}
-use Rattle.grammar.proofs.Respell.{mark-spell, use-spell, use-mark, accepted-spell, decoded-written, decoded-octets, written-is}
+use Rattle.grammar.proofs.Plain.{read}
+use Rattle.grammar.proofs.Respell.{mark-spell, use-spell, use-mark, accepted-spell}
 use Rattle.grammar.proofs.Direct.{direct-spelled, direct-again}
 use Rattle.spelling.specs.Canonical.{again, canonical}
 

@@ -16,31 +16,37 @@ use Rattle.octets.proofs.Choice.{by, both}
 use Rattle.octets.proofs.All.{all-nil, all-cons, all-at, all-append, all-follows}
 use Rattle.octets.proofs.First.{first-step, first-end, first-past}
 use Rattle.octets.proofs.Octet.{octet-where}
-use Rattle.octets.proofs.Splice.{splice-in}
 use Rattle.address.specs.declared.Address.{Address}
 use Rattle.text.specs.declared.AddressAnswer.{AddressAnswer}
 use Rattle.text.specs.declared.AddressAnswer.the-variants.{Accepted}
 use Rattle.address.specs.Address.{low, encodable, PlainAddress}
-use Rattle.text.specs.Text.{addressNumberOf, hyphen, digit, upperCase, lowerCase, alphanumeric, upper, upperAt, count, decimalFrom, decimal, digits8, afterPlus, callsignText, manyHyphens, empty, long, wide, hasSsid, ssidText, ssidValue, badSsid, callsignNumber, partsNumber, textNumber, padded, readCallsign, readParts, readText, upperOrDigit, TextAddress, high, strange}
-use Rattle.printing.specs.Print.{space, short, used, trimmed, decimalText, ssidSuffix, textOf, printNumberOf, printNumber, printed, printedInto}
+use Rattle.octets.specs.Count.{count}
+use Rattle.text.specs.Text.{addressNumberOf, hyphen, digit, upperCase, lowerCase, alphanumeric, upper, upperAt, decimalFrom, decimal, digits8, afterPlus, callsignText, manyHyphens, empty, long, wide, hasSsid, ssidText, ssidValue, badSsid, padded, readCallsign, readParts, readText, upperOrDigit, TextAddress, high, strange}
+use Rattle.printing.specs.Print.{space, used, trimmed, decimalText, ssidSuffix, textOf}
 use Rattle.address.proofs.Laws.{six-list, no-call-plain}
 use Rattle.text.proofs.Reading.{and-false}
 use Rattle.printing.proofs.Laws.{used-le, trimmed-length}
 
+-- the rows that both tables end with: empty (32); 31; characters (32); 34
+abbrev pub callsignRows : List ℕ → ℕ → ℕ
+callsignRows c s = cond (empty c) 32 (cond (long c) 31 (cond (strange c) 32 (cond (wide s) 34 0)))
+
 -- the numbers that reading gives
-callsign-numbers : (c : List ℕ) (s : ℕ) → addressNumberOf (readCallsign c s .answer) ≡ callsignNumber c s
-unfolding readCallsign callsignNumber
+callsign-numbers : (c : List ℕ) (s : ℕ) → addressNumberOf (readCallsign c s .answer) ≡ callsignRows c s
+unfolding readCallsign
 callsign-numbers c s =
     by (empty c) (λ e. simp e) (λ e.
     by (long c) (λ l. simp (e, l)) (λ l.
     by (all alphanumeric c) (λ x. by (wide s) (λ w. simp (e, l, x, w)) (λ w. simp (e, l, x, w))) (λ x. simp (e, l, x))))
 
-pub parts-numbers : (c : List ℕ) (s : ℕ) → addressNumberOf (readParts c s .answer) ≡ partsNumber c s
-unfolding readParts partsNumber
+pub parts-numbers : (c : List ℕ) (s : ℕ) → addressNumberOf (readParts c s .answer) ≡ cond (high c) 35 (callsignRows c s)
+unfolding readParts
 parts-numbers c s = by (all low c) (λ h. simp h (callsign-numbers c s)) (λ h. simp h)
 
-pub text-numbers : (t : List ℕ) → addressNumberOf (readText t .answer) ≡ textNumber t
-unfolding readText textNumber
+pub text-numbers : (t : List ℕ)
+    → addressNumberOf (readText t .answer)
+    ≡ cond (high t) 35 (cond (manyHyphens t) 32 (cond (badSsid t) 33 (callsignRows (callsignText t) (ssidValue t))))
+unfolding readText
 text-numbers t =
     by (all low t) (λ h.
     by (manyHyphens t) (λ m. simp (h, m)) (λ m.
@@ -377,15 +383,3 @@ pub text-back : (t : List ℕ) → readText t .answer ≡ Accepted → readText 
 text-back t e =
     print-back (readText t .address) (text-address t e)
     ∙ ap (λ (x : AddressAnswer). record { answer = x; address = readText t .address }) (sym e)
-
--- the tables, row by row
-pub parts-rows : (c : List ℕ) (s : ℕ) → partsNumber c s ≡ cond (high c) 35 (cond (empty c) 32 (cond (long c) 31 (cond (strange c) 32 (cond (wide s) 34 0))))
-unfolding partsNumber callsignNumber
-parts-rows c s = refl
-
-pub text-rows : (t : List ℕ)
-    → textNumber t
-    ≡ cond (high t) 35 (cond (manyHyphens t) 32 (cond (badSsid t) 33
-    (cond (empty (callsignText t)) 32 (cond (long (callsignText t)) 31 (cond (strange (callsignText t)) 32 (cond (wide (ssidValue t)) 34 0))))))
-unfolding textNumber callsignNumber
-text-rows t = refl

@@ -13,7 +13,8 @@ use Rattle.octets.specs.First.{first}
 use Rattle.octets.proofs.Choice.{by}
 use Rattle.text.specs.declared.AddressAnswer.the-variants.{InvalidSsid}
 use Rattle.text.specs.declared.Ssid.the-variants.{Number, NotANumber}
-use Rattle.text.specs.Text.{hyphen, digit, count, decimalFrom, decimal, digits8, afterPlus, ssidText, hasSsid, ssidValue, badSsid, digitsSay, ssidFrom, refused, readCallsign, readWith}
+use Rattle.octets.specs.Count.{count}
+use Rattle.text.specs.Text.{hyphen, digit, decimalFrom, decimal, digits8, afterPlus, ssidText, hasSsid, ssidValue, badSsid, digitsSay, ssidFrom, refused, readCallsign, readWith}
 
 module _ {A : Type 0} (p : A → Bool) where
   pub count-step : (s : List A) (i : ℕ) (d : A) → i < length s

@@ -1,13 +1,13 @@
 -- Reading the text of an address: callsign, hyphen, SSID. The conditions of document 01's number table, and the readers.
-use Prim.Native.Nat.{ℕ, suc, _+_, _*_, _-_, _/_, _%_, _≤_, _<_}
+use Prim.Native.Nat.{ℕ, _+_, _*_, _-_, _≤_, _<_}
 use mathlib.Core.Path.{_≡_}
 use mathlib.Core.Bool.{Bool, true, cond, not, _&&_, _||_}
-use mathlib.Core.List.{List, [], _∷_, _++_}
+use mathlib.Core.List.{List, [], _∷_}
 use lib.Dec.{eqb, ltb, leb}
 use lib.ListN.{length, getD, take, drop}
 use Rattle.octets.specs.All.{all}
+use Rattle.octets.specs.Count.{count}
 use Rattle.octets.specs.First.{first}
-use Rattle.octets.specs.Splice.{splice}
 use Rattle.address.specs.declared.Address.{Address}
 use Rattle.text.specs.declared.AddressAnswer.{AddressAnswer}
 use Rattle.text.specs.declared.AddressAnswer.the-variants.{Accepted, CallsignTooLong, InvalidFormat, InvalidSsid, SsidOutOfRange, NotAscii}
@@ -49,11 +49,6 @@ alphanumeric c = digit c || upperCase c || lowerCase c
 -- lower case becomes upper
 unfoldable pub upper : ℕ → ℕ
 upper c = cond (lowerCase c) (c - 32) c
-
--- how many elements pass a test
-unfoldable pub count : {A : Type 0} → (A → Bool) → List A → ℕ
-count p [] = 0
-count p (x ∷ s) = cond (p x) (suc (count p s)) (count p s)
 
 -- the value of decimal digits, the highest first
 unfoldable pub decimalFrom : ℕ → List ℕ → ℕ
@@ -114,18 +109,6 @@ strange c = not (all alphanumeric c)
 -- 34: the SSID is 16 or more
 abbrev pub wide : ℕ → Bool
 wide s = ltb 15 s
-
--- the numbers in the table's order: empty (32); 31; characters (32); 34
-unfoldable pub callsignNumber : List ℕ → ℕ → ℕ
-callsignNumber c s = cond (empty c) 32 (cond (long c) 31 (cond (strange c) 32 (cond (wide s) 34 0)))
-
--- `from_parts`: 35 before these
-unfoldable pub partsNumber : List ℕ → ℕ → ℕ
-partsNumber c s = cond (high c) 35 (callsignNumber c s)
-
--- text: 35; hyphens (32); 33; then the callsign's and the SSID's
-unfoldable pub textNumber : List ℕ → ℕ
-textNumber t = cond (high t) 35 (cond (manyHyphens t) 32 (cond (badSsid t) 33 (callsignNumber (callsignText t) (ssidValue t))))
 
 -- the callsign that is read: in upper case, padded with spaces to six
 abbrev pub upperAt : List ℕ → ℕ → ℕ

@@ -1,9 +1,9 @@
 // Reading the text of an address: a callsign, then a hyphen and an SSID, as VK7NTK-5. The crate `printing` writes it.
 ghost use mathlib.Core.Path.{_≡_};
-ghost use lib.ListN.{length};
 ghost use Rattle.octets.specs.All.{all};
 ghost use Rattle.octets.specs.First.{first};
-ghost use Rattle.text.specs.Text.{addressNumberOf, hyphen, count, digitsSay, afterPlus, ssidFrom, alphanumeric, upper, upperAt, padded, refused, readCallsign, readWith, readParts, readText};
+ghost use Rattle.octets.specs.Count.{count};
+ghost use Rattle.text.specs.Text.{addressNumberOf, hyphen, digitsSay, afterPlus, ssidFrom, alphanumeric, upper, upperAt, padded, refused, readCallsign, readWith, readParts, readText};
 use address::Address;
 
 // How reading an address ended.

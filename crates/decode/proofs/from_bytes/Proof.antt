@@ -1,8 +1,6 @@
 -- A refusal is the default frame; past an accepted outline the content and the addresses make the whole.
-use mathlib.Core.Path.{_≡_, refl, ap, sym, _∙_}
-use mathlib.Core.Bool.{true}
+use mathlib.Core.Path.{refl, ap, sym, _∙_}
 use native.Mathlib.Omega.{arith}
-use Rattle.decode.specs.Answer.{isAccepted}
 use Rattle.decode.specs.Read.{decode}
 use Rattle.decode.specs.declared.Outline.{Outline}
 use Rattle.decode.proofs.Read.{told-refused}

@@ -1,5 +1,5 @@
 -- So far the first i places are read and the others unused.
-use Prim.Native.Nat.{ℕ, _+_, _-_, _≤_}
+use Prim.Native.Nat.{_-_, _≤_}
 use mathlib.Core.Path.{_≡_, _∙_}
 use native.Mathlib.Omega.{arith}
 use Rattle.decode.specs.Read.{entryAt, routeAt, placeAt}

@@ -1,9 +1,9 @@
 -- The comparison from place i on is the comparison of the whole.
-use Prim.Native.Nat.{ℕ, _-_, _≤_}
+use Prim.Native.Nat.{_-_, _≤_}
 use mathlib.Core.Path.{_≡_, refl, sym, _∙_}
 use native.Mathlib.Omega.{arith}
 use borrow.Author.Tests.{eq-eqb, ne-eqb}
-use lib.ListN.{length, drop}
+use lib.ListN.{drop}
 use Rattle.octets.specs.Same.{same}
 use Rattle.octets.proofs.Same.{same-step, same-end}
 use borrow.Author.Needs.{needs}

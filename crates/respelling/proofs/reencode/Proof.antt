@@ -1,13 +1,13 @@
 -- A refused input is answered with its decode; an accepted one is written by the frame's writer, which can refuse for room alone.
-use Prim.Native.Nat.{ℕ, _+_, _-_, _*_, _≤_}
-use mathlib.Core.Path.{_≡_, refl, ap, sym, _∙_}
+use Prim.Native.Nat.{_+_, _-_}
+use mathlib.Core.Path.{_≡_, refl, sym, _∙_}
 use mathlib.Core.Bool.{true, false}
 use native.Mathlib.Omega.{arith}
-use lib.ListN.{length, take, drop}
+use lib.ListN.{length}
 use Rattle.octets.specs.Octet.{Octets}
 use Rattle.octets.proofs.Splice.{splice-none}
 use Rattle.decode.specs.Answer.{isAccepted}
-use Rattle.decode.specs.Read.{decode, infoIn}
+use Rattle.decode.specs.Read.{decode}
 use Rattle.decode.proofs.Read.{told-refused}
 use Rattle.grammar.proofs.Plain.{Inside, inside}
 use Rattle.respelling.proofs.Laws.{refused-answer, accepted-answer}

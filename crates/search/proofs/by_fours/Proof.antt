@@ -17,16 +17,20 @@ Inv-loop bytes mask i₀ i = Reached (masked mask) bytes i
 abbrev μ-loop : tie.MeasureT-loop
 μ-loop bytes mask i₀ i = length bytes - i
 
-one : (c : tie.Else1 Inv-loop μ-loop) → Reached (masked (c .before .before .before .before .args .mask)) (c .before .before .before .before .args .bytes .now) (c .before .before .before .loop .i + 1)
+-- the search has come k places past the turn's start
+abbrev Past : tie.At-loop Inv-loop μ-loop → ℕ → Type 0
+Past l k = Reached (masked (l .before .args .mask)) (l .before .args .bytes .now) (l .loop .i + k)
+
+one : (c : tie.Else1 Inv-loop μ-loop) → Past (c .before .before .before) 1
 one c = reached-next _ _ _ _ (c .before .before .before .loop .inv) (omega arith) (ap not (eq-eqb _ _ (c .if1 .left))) (omega arith)
 
-two : (c : tie.Else2 Inv-loop μ-loop) → Reached (masked (c .before .before .before .before .before .before .args .mask)) (c .before .before .before .before .before .before .args .bytes .now) (c .before .before .before .before .before .loop .i + 2)
+two : (c : tie.Else2 Inv-loop μ-loop) → Past (c .before .before .before .before .before) 2
 two c = reached-next _ _ _ _ (one (c .before .before)) (omega arith) (ap not (eq-eqb _ _ (c .if2 .left))) (omega arith)
 
-three : (c : tie.Else3 Inv-loop μ-loop) → Reached (masked (c .before .before .before .before .before .before .before .before .args .mask)) (c .before .before .before .before .before .before .before .before .args .bytes .now) (c .before .before .before .before .before .before .before .loop .i + 3)
+three : (c : tie.Else3 Inv-loop μ-loop) → Past (c .before .before .before .before .before .before .before) 3
 three c = reached-next _ _ _ _ (two (c .before .before)) (omega arith) (ap not (eq-eqb _ _ (c .if3 .left))) (omega arith)
 
-four : (c : tie.Else4 Inv-loop μ-loop) → Reached (masked (c .before .before .before .before .before .before .before .before .before .before .args .mask)) (c .before .before .before .before .before .before .before .before .before .before .args .bytes .now) (c .before .before .before .before .before .before .before .before .before .loop .i + 4)
+four : (c : tie.Else4 Inv-loop μ-loop) → Past (c .before .before .before .before .before .before .before .before .before) 4
 four c = reached-next _ _ _ _ (three (c .before .before)) (omega arith) (ap not (eq-eqb _ _ (c .if4 .left))) (omega arith)
 
 loop-holds : tie.Need-loop-holds Inv-loop μ-loop

@@ -1,6 +1,6 @@
 -- A refused input is not canonical; of an accepted one the direct look decides.
 use mathlib.Core.Path.{_≡_, refl, ap, sym, _∙_}
-use mathlib.Core.Bool.{true, false}
+use mathlib.Core.Bool.{true}
 use Rattle.octets.specs.Octet.{Octets}
 use Rattle.decode.specs.Answer.{isAccepted}
 use Rattle.decode.specs.Read.{decode}

@@ -2,7 +2,6 @@
 use Prim.Native.Nat.{ℕ, _+_, _*_}
 use mathlib.Core.Path.{_≡_, refl, ap, sym, _∙_}
 use mathlib.Core.Bool.{true, not}
-use native.Mathlib.Omega.{arith}
 use borrow.Author.Tests.{eq-eqb, ne-eqb, not-true, not-false}
 use lib.ListN.{getD}
 use Rattle.octets.specs.Octet.{bit}
@@ -11,7 +10,6 @@ use Rattle.octets.proofs.Splice.{part-from}
 use Rattle.frame.specs.Spell.{marked}
 use Rattle.address.specs.Group.{markSet}
 use Rattle.decode.specs.Read.{nonzero, commandOf}
-use Rattle.grammar.specs.Direct.{reservedGroups}
 use Rattle.grammar.proofs.Direct.{direct-is}
 use borrow.Author.Needs.{needs}
 use Rattle.spelling.proofs.is_direct.Statement.{statement}
@@ -20,13 +18,16 @@ use Rattle.spelling.proofs.is_direct.Tie as tie
 first : (c : tie.Else1) → nonzero (getD (c .before .before .before .args .bytes .now) 0 0) ≡ true
 first c = ap not (ne-eqb _ _ (c .if1 .left))
 
-low : (c : tie.Else2) → bit 0 (getD (c .before .before .before .before .before .args .bytes .now) (13 + 7 * c .before .before .before .before .before .args .count) 0) ≡ true
+low : (c : tie.Else2) →
+    let a = c .before .before .before .before .before .args in
+    bit 0 (getD (a .bytes .now) (13 + 7 * a .count) 0) ≡ true
 low c =
     let a = c .before .before .before .before .before .args in
     sym (bit-test (getD (a .bytes .now) (13 + 7 * a .count) 0) 0) ∙ ap not (ne-eqb _ _ (c .if2 .left))
 
-marks : (c : tie.After-is-marked) → c .is-marked .result
-    ≡ marked (commandOf (markSet (getD (c .before .before .before .before .before .before .before .before .before .before .args .bytes .now) 6 0)) (markSet (getD (c .before .before .before .before .before .before .before .before .before .before .args .bytes .now) 13 0)))
+marks : (c : tie.After-is-marked) →
+    let s = c .before .before .before .before .before .before .before .before .before .before .args .bytes .now in
+    c .is-marked .result ≡ marked (commandOf (markSet (getD s 6 0)) (markSet (getD s 13 0)))
 marks c = c .is-marked .ensures ∙ rw (c .before .mark-set2 .ensures, c .before .before .before .mark-set .ensures) refl
 
 shared-slice-read-if1 : tie.Need-shared-slice-read-if1
@@ -66,7 +67,9 @@ is-marked-requires : tie.Need-is-marked-requires
 is-marked-requires c κs = search needs
 
 returns-3 : tie.Need-returns-3
-returns-3 c = simp (direct-is, first (c .before .before .before .before .before .before .before .before), low (c .before .before .before .before .before .before), sym (marks (c .before)) ∙ not-true _ (c .if3 .taken))
+returns-3 c =
+    let e = c .before .before .before .before .before .before in
+    simp (direct-is, first (e .before .before), low e, sym (marks (c .before)) ∙ not-true _ (c .if3 .taken))
 
 add-reserved-groups : tie.Need-add-reserved-groups
 add-reserved-groups c = search needs
@@ -77,10 +80,11 @@ reserved-groups-requires c κs = search needs
 returns-4 : tie.Need-returns-4
 returns-4 c =
     let m = c .before .before in
+    let e = m .before .before .before .before .before .before in
     simp (
       direct-is,
-      first (m .before .before .before .before .before .before .before .before),
-      low (m .before .before .before .before .before .before),
+      first (e .before .before),
+      low e,
       sym (marks (m .before)) ∙ not-false _ (m .if3 .left),
       sym (c .before .reserved-groups .ensures) ∙ not-true _ (c .if4 .taken),
     )
@@ -107,10 +111,11 @@ returns-5 : tie.Need-returns-5
 returns-5 c =
     let r = c .before .before in
     let m = r .before .before in
+    let e = m .before .before .before .before .before .before in
     simp (
       direct-is,
-      first (m .before .before .before .before .before .before .before .before),
-      low (m .before .before .before .before .before .before),
+      first (e .before .before),
+      low e,
       sym (marks (m .before)) ∙ not-false _ (m .if3 .left),
       sym (r .before .reserved-groups .ensures) ∙ not-false _ (r .if4 .left),
       c .is-lean .ensures,

@@ -6,7 +6,8 @@ use native.Mathlib.Omega.{arith}
 use borrow.Author.Tests.{eq-eqb, ne-eqb}
 use borrow.Author.Needs.{needs}
 use lib.ListN.{length, drop}
-use Rattle.text.specs.Text.{hyphen, count}
+use Rattle.octets.specs.Count.{count}
+use Rattle.text.specs.Text.{hyphen}
 use Rattle.text.proofs.Reading.{count-step, count-end}
 use Rattle.text.proofs.hyphens.Statement.{statement}
 use Rattle.text.proofs.hyphens.Tie as tie

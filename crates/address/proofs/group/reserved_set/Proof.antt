@@ -1,5 +1,4 @@
 -- The mask's test is that of the field, at each of the 256 octets.
-use mathlib.Core.Bool.{Bool}
 use lib.Bits.{bitAnd}
 use lib.Dec.{eqb}
 use Rattle.octets.proofs.Octet.{octet-agree}

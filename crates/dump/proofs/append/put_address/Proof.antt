@@ -1,4 +1,4 @@
-use mathlib.Core.Path.{_≡_, refl, ap, sym, _∙_}
+use mathlib.Core.Path.{refl, sym}
 use Rattle.printing.specs.Print.{trimmed, ssidSuffix}
 use Rattle.printing.proofs.Laws.{used-le, trimmed-length}
 use Rattle.dump.specs.Text.{characters}

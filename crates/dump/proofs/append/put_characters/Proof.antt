@@ -6,7 +6,7 @@ use Rattle.octets.proofs.Splice.{splice-length}
 use Rattle.dump.specs.Text.{character, textIn, characters, Put}
 use Rattle.dump.proofs.Laws.{put-none, fits-next, put-then, word-is, characters-next, characters-fit}
 use Rattle.dump.proofs.Short.{character-short}
-use mathlib.Core.Path.{_≡_, refl, ap, sym, _∙_}
+use mathlib.Core.Path.{_≡_}
 use native.Mathlib.Omega.{arith}
 use Prim.Native.Nat.{_-_, _≤_}
 use lib.ListN.{length, take}

@@ -1,11 +1,10 @@
 -- A refusal writes nothing; else the frame is put.
-use mathlib.Core.Path.{_≡_, refl, ap, sym, _∙_}
+use mathlib.Core.Path.{_≡_, sym, _∙_}
 use mathlib.Core.List.{[]}
 use lib.ListN.{length}
 use Rattle.octets.proofs.Splice.{splice-none}
 use Rattle.frame.specs.Spell.{spell}
 use Rattle.frame.specs.Write.{writeAnswer, octetsBy, octetsWritten, written}
-use Rattle.frame.specs.declared.WriteAnswer.the-variants.{Accepted}
 use Rattle.frame.proofs.Write.{told-accepted, told-refused, accepted-taken}
 use borrow.Author.Needs.{needs}
 use Rattle.frame.proofs.Ax25Frame.to_bytes.Statement.{statement}

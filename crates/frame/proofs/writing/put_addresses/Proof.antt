@@ -1,8 +1,6 @@
 -- Each group is written at its place, and the three parts one after the other are the address field.
-use mathlib.Core.Path.{_≡_, sym, _∙_}
-use mathlib.Core.Bool.{not}
+use mathlib.Core.Path.{_∙_}
 use Rattle.octets.proofs.Splice.{splice-length}
-use Rattle.frame.specs.Spell.{destinationMark, sourceMark}
 use Rattle.frame.proofs.Write.{frame-each, marks-differ, field-put}
 use borrow.Author.Needs.{needs}
 use Rattle.frame.proofs.writing.put_addresses.Statement.{statement}

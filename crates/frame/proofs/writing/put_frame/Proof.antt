@@ -1,12 +1,11 @@
 -- The address field goes to the start of the output, and the content into what is left after it.
-use Prim.Native.Nat.{ℕ, _+_, _*_, _≤_}
-use mathlib.Core.Path.{_≡_, refl, ap, sym, _∙_}
+use Prim.Native.Nat.{_+_, _*_, _≤_}
+use mathlib.Core.Path.{_≡_, ap, _∙_}
 use native.Mathlib.Omega.{arith}
 use lib.ListN.{length}
 use Rattle.octets.proofs.Splice.{splice-length}
 use Rattle.content.specs.Spell.{front}
 use Rattle.content.specs.declared.ContentWritten.{ContentWritten}
-use Rattle.frame.specs.Spell.{spell}
 use Rattle.frame.proofs.Write.{spell-length, field-room, content-length, content-put}
 use borrow.Author.Needs.{needs}
 use Rattle.frame.proofs.writing.put_frame.Statement.{statement}
