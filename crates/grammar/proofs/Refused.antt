@@ -5,7 +5,7 @@ use mathlib.Core.Path.{_≡_, refl, ap, sym, _∙_}
 use mathlib.Core.Bool.{false}
 use mathlib.Core.List.{List, []}
 use native.Mathlib.Omega.{arith}
-use lib.ListN.{drop}
+use lib.ListN.{length, drop}
 use Rattle.octets.proofs.Choice.{by}
 use Rattle.content.specs.declared.FrameContent.the-variants as kind
 use Rattle.parse.specs.declared.ContentAnswer.the-variants as content

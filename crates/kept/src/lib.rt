@@ -7,7 +7,7 @@ use respelling::Reencoded;
 ghost use mathlib.Core.Path.{_≡_};
 ghost use mathlib.Core.Bool.{true, false};
 ghost use mathlib.Core.Logic.{_↔_};
-ghost use Prim.Native.Nat.{ℕ, _≤_, _<_};
+ghost use Prim.Native.Nat.{_≤_, _<_};
 ghost use lib.ListN.{length};
 ghost use Rattle.content.specs.declared.FrameContent.the-variants.{UnknownContent};
 ghost use Rattle.decode.specs.Answer.{numberOf, reportOf, isAccepted};
