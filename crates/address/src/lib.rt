@@ -1,4 +1,4 @@
-// The address of a station: a callsign and a numeric SSID. `group` has its seven octets; the crate `text` its text.
+// The address of a station: a callsign and a numeric SSID. `group` has its seven octets; the crates `printing` and `text` its text.
 ghost use mathlib.Core.Path.{_≡_};
 ghost use Rattle.octets.specs.All.{all};
 ghost use Rattle.address.specs.Address.{low, noCall, encodable};

@@ -38,7 +38,8 @@ pub struct Decoded {
     pub info_len: usize,
 }
 
-// What is known before anything is taken apart: the answer, and where the address field starts and ends. Most calls ask for no more.
+// What is known before anything is taken apart: the answer, and where the address field starts and ends. The
+// decode number and the canonical check ask for no more.
 pub struct Outline {
     pub answer: DecodeAnswer,
     pub start: usize,

@@ -1,4 +1,5 @@
 pub mod Table
+pub mod Lent
 pub mod Numbers
 pub mod OneSpelling
 pub mod Shape

@@ -18,15 +18,18 @@ use Rattle.decode.specs.Answer.{numberOf, reportOf, isAccepted}
 use Rattle.frame.specs.Frame.{writeNumber, defaultFrame}
 use Rattle.decode.specs.Numbers.{reported}
 use Rattle.decode.specs.Read.{decode}
+use Rattle.frame.specs.Spell.{spell}
 use Rattle.frame.specs.Write.{writeAnswer, octetsWritten, written}
 use Rattle.frame.specs.declared.Written.{Written}
 use Rattle.frame.specs.declared.Ax25Frame.{Ax25Frame}
 use Rattle.grammar.proofs.Numbers.{decode-report, decode-rows, write-rows}
-use Rattle.grammar.proofs.Refused.{refused-parts, refused-octets, decoded-known}
+use Rattle.grammar.proofs.Refused.{refused-parts, refused-octets, accepted-octets, decoded-known}
 use Rattle.grammar.proofs.Respell.{written-is}
 use Rattle.demands.specs.Table.{Table, given, FirstRow}
 use Rattle.demands.specs.Numbers.{decodeTable, writeTable, printTable, partsTable, textTable}
+use Rattle.demands.specs.Lent.{starting}
 use Rattle.demands.proofs.Table.{exactly}
+use Rattle.demands.proofs.Lent.{splice-start}
 
 -- a number that a table gives is given exactly when its row is the first that holds
 by-table : (x : ℕ) (rows : Table) → x ≡ given rows → (n : ℕ) → (x ≡ n) ↔ FirstRow rows n
@@ -67,6 +70,14 @@ pub refused-write : (f : Ax25Frame) (info : List ℕ) (room : ℕ) → (writeNum
 refused-write f info room n =
     let e : octetsWritten f info room ≡ [] = refused-octets f info room n in
     (ap (λ (w : Written). w .length) (written-is f info room) ∙ rw e refl, λ out. rw e (splice-none out 0))
+
+-- an accepted write puts what the frame spells at the start of the buffer
+pub accepted-write : (f : Ax25Frame) (info out : List ℕ) → writeNumber (writeAnswer f info (length out)) ≡ 0
+    → (written f info (length out) .length ≡ length (spell f info))
+    × (splice out 0 (octetsWritten f info (length out)) ≡ starting (spell f info) out)
+accepted-write f info out n =
+    let o = accepted-octets f info (length out) n in
+    (ap (λ (w : Written). w .length) (written-is f info (length out)) ∙ rw (o .0) refl, rw (o .0) (splice-start out (spell f info) (o .1)))
 
 -- no input decodes to `UnknownContent`
 pub never-unknown : (s : List ℕ) → decode s .frame .content ≡ UnknownContent → ⊥

@@ -1,23 +1,24 @@
 -- Demand 3, proved.
-use Prim.Native.Nat.{ℕ, _+_, _≤_}
-use mathlib.Core.Path.{_≡_, refl, sym, _∙_}
-use mathlib.Core.Bool.{true}
-use mathlib.Core.List.{List, _++_}
-use native.Mathlib.Omega.{arith}
-use lib.ListN.{length, drop}
+use Prim.Native.Nat.{ℕ, _≤_, _<_}
+use mathlib.Core.Path.{_≡_, sym, _∙_}
+use mathlib.Core.Bool.{true, false}
+use mathlib.Core.List.{List}
+use lib.ListN.{length}
 use Rattle.octets.specs.Octet.{Octets}
 use Rattle.octets.specs.Splice.{splice}
-use Rattle.octets.proofs.Splice.{splice-in}
+use Rattle.octets.proofs.Splice.{splice-none}
 use Rattle.decode.specs.Answer.{isAccepted}
 use Rattle.decode.specs.Read.{decode, infoIn}
 use Rattle.frame.specs.Spell.{withMark}
 use Rattle.grammar.proofs.Back.{unique}
 use Rattle.spelling.specs.Canonical.{again}
 use Rattle.respelling.specs.Reencode.{reencode, reencoded}
-use Rattle.respelling.specs.declared.ReencodeAnswer.the-variants.{Written}
+use Rattle.respelling.specs.declared.ReencodeAnswer.the-variants.{Written, Refused, NoRoom}
 use Rattle.spelling.proofs.Laws.{spell-canonical, canonical-plain, again-facts}
-use Rattle.respelling.proofs.Laws.{again-room, answer-is}
-use Rattle.demands.specs.OneSpelling.{Respelled, OneSpelling}
+use Rattle.respelling.proofs.Laws.{again-room, refused-answer, again-short, again-fits}
+use Rattle.demands.specs.Lent.{starting}
+use Rattle.demands.specs.OneSpelling.{OneSpelling}
+use Rattle.demands.proofs.Lent.{splice-start}
 
 pub one-spelling : (s : List ℕ) → Octets s → OneSpelling s
 one-spelling s o = record {
@@ -31,13 +32,16 @@ one-spelling s o = record {
   written = λ e room h. again-room s room o e h;
 }
 
--- what the re-encoder leaves in a buffer with room of the input's length
-pub respelled-into : (s out : List ℕ) → Octets s → isAccepted (decode s .answer) ≡ true → length s ≤ length out
-    → (reencode s (length out) .answer ≡ Written)
-    × (splice out 0 (reencoded s (length out)) ≡ again s ++ drop (length (again s)) out) × Respelled s (again s)
-respelled-into s out o e h =
-    let d = one-spelling s o in
-    let w = d .written e (length out) h in
-    let r = d .respelled e in
-    let z : 0 + length (again s) ≡ length (again s) = omega arith in
-    (answer-is s (length out) ∙ w .0, rw (w .1) (splice-in out 0 (again s) (omega (arith, r .shorter)) ∙ rw z refl), r)
+-- what the re-encoder answers and leaves in a buffer: of a refused input, with too little room, with enough
+pub respelled-refused : (s out : List ℕ) → isAccepted (decode s .answer) ≡ false
+    → (reencode s (length out) ≡ record { answer = Refused (decode s .answer); length = 0 }) × (splice out 0 (reencoded s (length out)) ≡ out)
+respelled-refused s out e = let r = refused-answer s (length out) e in (r .0, rw (r .1) (splice-none out 0))
+
+pub respelled-short : (s out : List ℕ) → isAccepted (decode s .answer) ≡ true → length out < length (again s)
+    → (reencode s (length out) ≡ record { answer = NoRoom; length = 0 }) × (splice out 0 (reencoded s (length out)) ≡ out)
+respelled-short s out e h = let r = again-short s (length out) e h in (r .0, rw (r .1) (splice-none out 0))
+
+pub respelled-into : (s out : List ℕ) → isAccepted (decode s .answer) ≡ true → length (again s) ≤ length out
+    → (reencode s (length out) ≡ record { answer = Written; length = length (again s) })
+    × (splice out 0 (reencoded s (length out)) ≡ starting (again s) out)
+respelled-into s out e h = let r = again-fits s (length out) e h in (r .0, rw (r .1) (splice-start out (again s) h))

@@ -1,10 +1,11 @@
--- A refused decode is its answer with the default frame and no info; nothing decodes to `UnknownContent`.
-use Prim.Native.Nat.{ℕ, _+_, _-_}
+-- A refused decode is its answer with the default frame and no info; nothing decodes to `UnknownContent`; a refused write writes
+-- nothing, and an accepted one what the frame spells.
+use Prim.Native.Nat.{ℕ, _+_, _-_, _≤_}
 use mathlib.Core.Path.{_≡_, refl, ap, sym, _∙_}
 use mathlib.Core.Bool.{false}
 use mathlib.Core.List.{List, []}
 use native.Mathlib.Omega.{arith}
-use lib.ListN.{drop}
+use lib.ListN.{length, drop}
 use Rattle.octets.proofs.Choice.{by}
 use Rattle.content.specs.declared.FrameContent.the-variants as kind
 use Rattle.parse.specs.declared.ContentAnswer.the-variants as content
@@ -20,6 +21,7 @@ use Rattle.frame.specs.declared.Ax25Frame.{Ax25Frame}
 use Rattle.decode.specs.declared.Decoded.{Decoded}
 use Rattle.decode.proofs.Accepts.{Accepts, accepts}
 use Rattle.decode.proofs.Refusals.{refused-is}
+use Rattle.frame.proofs.Write.{accepted-taken}
 
 pub refused-parts : (s : List ℕ) → isAccepted (decode s .answer) ≡ false
     → (decode s .frame ≡ defaultFrame) × (decode s .«info_start» ≡ 0) × (decode s .«info_len» ≡ 0)
@@ -54,3 +56,18 @@ nothing write.NoRoom s n = refl
 pub refused-octets : (f : Ax25Frame) (info : List ℕ) (room : ℕ) → (writeNumber (writeAnswer f info room) ≡ 0 → ⊥) → octetsWritten f info room ≡ []
 unfolding octetsWritten
 refused-octets f info room n = nothing (writeAnswer f info room) (spell f info) n
+
+-- an accepted one writes what the frame spells, and there is room for it
+zero : (a : WriteAnswer) → writeNumber a ≡ 0 → a ≡ write.Accepted
+zero write.Accepted e = refl
+zero write.RouteTooLong e = absurd (omega (arith, e))
+zero write.NotEncodable e = absurd (omega (arith, e))
+zero write.InfoNotAllowed e = absurd (omega (arith, e))
+zero write.NoRoom e = absurd (omega (arith, e))
+
+pub accepted-octets : (f : Ax25Frame) (info : List ℕ) (room : ℕ) → writeNumber (writeAnswer f info room) ≡ 0
+    → (octetsWritten f info room ≡ spell f info) × (length (spell f info) ≤ room)
+unfolding octetsWritten
+accepted-octets f info room n =
+    let e : writeAnswer f info room ≡ write.Accepted = zero (writeAnswer f info room) n in
+    (rw e refl, accepted-taken f info room e .room)

@@ -1,21 +1,25 @@
-// The demands as contracts of the code: each function only calls the product's, and its contract is the demand.
+// The demands as contracts of the code: each function only calls the product's, and its contract is the demand. Together the
+// clauses of a contract fix the result, and what is left in a lent buffer, for every input.
 use decode::Decoded;
 use frame::Ax25Frame;
 use frame::Written;
 use respelling::Reencoded;
 ghost use mathlib.Core.Path.{_≡_};
-ghost use mathlib.Core.Bool.{true};
-ghost use mathlib.Core.List.{_++_};
+ghost use mathlib.Core.Bool.{true, false};
 ghost use mathlib.Core.Logic.{_↔_};
-ghost use Prim.Native.Nat.{ℕ, _≤_};
-ghost use lib.ListN.{length, drop};
-ghost use Rattle.decode.specs.Answer.{numberOf, isAccepted};
-ghost use Rattle.frame.specs.Frame.{writeNumber};
+ghost use Prim.Native.Nat.{_≤_, _<_};
+ghost use lib.ListN.{length};
+ghost use Rattle.content.specs.declared.FrameContent.the-variants.{UnknownContent};
+ghost use Rattle.decode.specs.Answer.{numberOf, reportOf, isAccepted};
+ghost use Rattle.decode.specs.Numbers.{reported};
 ghost use Rattle.decode.specs.Read.{decode};
+ghost use Rattle.frame.specs.Frame.{writeNumber, defaultFrame};
+ghost use Rattle.frame.specs.Spell.{spell};
 ghost use Rattle.spelling.specs.Canonical.{again};
-ghost use Rattle.respelling.specs.declared.ReencodeAnswer.the-variants.{Written as Done};
+ghost use Rattle.respelling.specs.declared.ReencodeAnswer.the-variants.{Written as Done, Refused, NoRoom};
 ghost use Rattle.demands.specs.Table.{FirstRow};
 ghost use Rattle.demands.specs.Numbers.{decodeTable, writeTable};
+ghost use Rattle.demands.specs.Lent.{starting};
 ghost use Rattle.demands.specs.OneSpelling.{Spelled, Respelled};
 
 // Demand 3: yes exactly when some plain frame spells the input.
@@ -25,26 +29,41 @@ pub fn canonical(bytes: &[u8]) -> bool
     spelling::is_canonical(bytes)
 }
 
-// Demand 1: the number is that of the first row of the table that holds.
+// Demand 1: the number is that of the first row of the table that holds; the details are the table's; a refusal is the default
+// frame with no info; nothing is read as `UnknownContent`. Demand 2: all else is as the rules read it.
 pub fn decoded(bytes: &[u8]) -> Decoded
     ensures { λ r. ⌜ FirstRow (decodeTable (now (bytes .entry))) (numberOf (r .answer)) ⌝ }
+    ensures { λ r. ⌜ reportOf (r .answer) ≡ reported (now (bytes .entry)) ⌝ }
+    ensures { λ r. ⌜ (isAccepted (r .answer) ≡ false → (r .frame ≡ defaultFrame) × (r .«info_start» ≡ 0) × (r .«info_len» ≡ 0)) ⌝ }
+    ensures { λ r. ⌜ (r .frame .content ≡ UnknownContent → ⊥) ⌝ }
+    ensures { λ r. ⌜ r ≡ decode (now (bytes .entry)) ⌝ }
 {
     decode::from_bytes(bytes)
 }
 
-// Demand 1: so for writing, and a refusal leaves the buffer as it was.
+// Demand 1: so for the number of writing, and a refusal has length 0 and leaves the buffer as it was. Demand 2: an accepted frame
+// stands at the start of the buffer as it spells, with that length, and the octets beyond it stay.
 pub fn written(frame: Ax25Frame, info: &[u8], out: &mut [u8]) -> Written
     ensures { λ r. ⌜ FirstRow (writeTable frame (now (info .entry)) (length (now (out .entry)))) (writeNumber (r .answer)) ⌝ }
     ensures { λ r. ⌜ ((writeNumber (r .answer) ≡ 0 → ⊥) → (r .length ≡ 0) × (now (out .exit) ≡ now (out .entry))) ⌝ }
+    ensures { λ r. ⌜ (writeNumber (r .answer) ≡ 0 → (r .length ≡ length (spell frame (now (info .entry))))
+        × (now (out .exit) ≡ starting (spell frame (now (info .entry))) (now (out .entry)))) ⌝ }
 {
     frame.to_bytes(info, out)
 }
 
-// Demand 3: with room of the input's length, an accepted input is respelled at the start of the output.
+// Demand 1: a refused input is answered by its decode's number and details, and too little room by 24; both have length 0 and leave the
+// buffer as it was. Demand 3: else the respelling stands at the start of the buffer, with its length, and the octets beyond it stay;
+// an accepted input's respelling is canonical, no longer than the input, and means the same.
 pub fn respelled(bytes: &[u8], out: &mut [u8]) -> Reencoded
-    ensures { λ r. ⌜ (isAccepted (decode (now (bytes .entry)) .answer) ≡ true → length (now (bytes .entry)) ≤ length (now (out .entry))
-        → (r .answer ≡ Done) × (now (out .exit) ≡ again (now (bytes .entry)) ++ drop (length (again (now (bytes .entry)))) (now (out .entry)))
-        × Respelled (now (bytes .entry)) (again (now (bytes .entry)))) ⌝ }
+    ensures { λ r. ⌜ (isAccepted (decode (now (bytes .entry)) .answer) ≡ false
+        → (r .answer ≡ Refused (decode (now (bytes .entry)) .answer)) × (r .length ≡ 0) × (now (out .exit) ≡ now (out .entry))) ⌝ }
+    ensures { λ r. ⌜ (isAccepted (decode (now (bytes .entry)) .answer) ≡ true → length (now (out .entry)) < length (again (now (bytes .entry)))
+        → (r .answer ≡ NoRoom) × (r .length ≡ 0) × (now (out .exit) ≡ now (out .entry))) ⌝ }
+    ensures { λ r. ⌜ (isAccepted (decode (now (bytes .entry)) .answer) ≡ true → length (again (now (bytes .entry))) ≤ length (now (out .entry))
+        → (r .answer ≡ Done) × (r .length ≡ length (again (now (bytes .entry))))
+        × (now (out .exit) ≡ starting (again (now (bytes .entry))) (now (out .entry)))) ⌝ }
+    ensures { λ r. ⌜ (isAccepted (decode (now (bytes .entry)) .answer) ≡ true → Respelled (now (bytes .entry)) (again (now (bytes .entry)))) ⌝ }
 {
     respelling::reencode(bytes, out)
 }

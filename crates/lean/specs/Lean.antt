@@ -18,7 +18,7 @@ pidKept b = eqb (octetOf (pidOf b)) b
 abbrev pub frmrTidy : ℕ → ℕ → Bool
 frmrTidy flags n = eqb (field 4 4 flags) 0 && eqb (field 0 1 n) 0
 
--- the PID kept in I and UI; FRMR tidy; no tail in any other kind
+-- the PID kept in I and UI; FRMR tidy; no tail in any other kind. For content that reading accepts
 unfoldable pub lean : List ℕ → Bool
 lean s =
     cond (isI (getD s 0 0) || isUi (getD s 0 0)) (pidKept (getD s 1 0))

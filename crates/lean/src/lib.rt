@@ -37,7 +37,8 @@ fn is_i(control: u8) -> bool
     low == 0
 }
 
-// Content from its control octet on: the PID as it is written, FRMR's unnamed bits zero, no tail.
+// Content from its control octet on: the PID as it is written, FRMR's unnamed bits zero, no tail. The answer means something only of
+// content that reading accepts: what is missing counts as 0 here, and nothing is refused.
 pub fn is_lean(bytes: &[u8]) -> bool
     ensures { λ r. ⌜ r ≡ lean (now (bytes .entry)) ⌝ }
 {

@@ -1,10 +1,10 @@
 -- What re-encoding writes: the facts that the demands state.
-use Prim.Native.Nat.{ℕ, _+_, _*_, _≤_}
+use Prim.Native.Nat.{ℕ, _+_, _*_, _≤_, _<_}
 use mathlib.Core.Path.{_≡_, refl, _∙_}
 use mathlib.Core.Bool.{Bool, true, false}
 use mathlib.Core.List.{List, []}
 use native.Mathlib.Omega.{arith}
-use borrow.Author.Tests.{le-ltb}
+use borrow.Author.Tests.{le-ltb, lt-ltb}
 use lib.Dec.{ltb}
 use lib.ListN.{length}
 use Rattle.octets.specs.Octet.{Octets}
@@ -19,7 +19,7 @@ use Rattle.grammar.proofs.Plain.{read, inside, info-length}
 use Rattle.grammar.proofs.Respell.{mark-spell, decoded-written, decoded-octets, written-is}
 use Rattle.spelling.specs.Canonical.{again}
 use Rattle.respelling.specs.Reencode.{due, reencodeAnswer, reencoded, reencode, answerBy}
-use Rattle.respelling.specs.declared.ReencodeAnswer.the-variants.{Written, Refused}
+use Rattle.respelling.specs.declared.ReencodeAnswer.the-variants.{Written, Refused, NoRoom}
 
 -- what is due, by the decode
 pub due-accepted : (s : List ℕ) → isAccepted (decode s .answer) ≡ true → due s ≡ spell (decode s .frame) (infoIn s (decode s))
@@ -68,6 +68,21 @@ again-room s room o e h =
     let fits : ltb room (length (due s)) ≡ false = le-ltb room (length (due s)) (omega (arith, due-fits s o e)) in
     (simp (e, fits), simp fits (due-accepted s e))
 
-pub answer-is : (s : List ℕ) (room : ℕ) → reencode s room .answer ≡ reencodeAnswer s room
-unfolding reencode
-answer-is s room = refl
+-- in any room: 24 and nothing where it is too little, else the whole
+due-again : (s : List ℕ) → isAccepted (decode s .answer) ≡ true → due s ≡ again s
+unfolding due
+due-again s e = simp e
+
+pub again-short : (s : List ℕ) (room : ℕ) → isAccepted (decode s .answer) ≡ true → room < length (again s)
+    → (reencode s room ≡ record { answer = NoRoom; length = 0 }) × (reencoded s room ≡ [])
+unfolding reencode reencodeAnswer reencoded
+again-short s room e h =
+    let short : ltb room (length (again s)) ≡ true = lt-ltb room (length (again s)) h in
+    (simp (e, due-again s e, short), simp (due-again s e, short))
+
+pub again-fits : (s : List ℕ) (room : ℕ) → isAccepted (decode s .answer) ≡ true → length (again s) ≤ room
+    → (reencode s room ≡ record { answer = Written; length = length (again s) }) × (reencoded s room ≡ again s)
+unfolding reencode reencodeAnswer reencoded
+again-fits s room e h =
+    let fits : ltb room (length (again s)) ≡ false = le-ltb room (length (again s)) h in
+    (simp (e, due-again s e, fits), simp (due-again s e, fits))

@@ -1,4 +1,4 @@
--- The canonical check is exact, and re-encoding gives a canonical spelling: the facts that the demands state.
+-- The canonical check is exact, and an accepted input spelled again is canonical: the facts that the demands state.
 use Prim.Native.Nat.{ℕ, _≤_}
 use mathlib.Core.Path.{_≡_, _∙_}
 use mathlib.Core.Bool.{true, false}

@@ -1,4 +1,4 @@
--- The text of an address: callsign, hyphen, SSID. The conditions of document 01's number table, the readers, and what is printed.
+-- Reading the text of an address: callsign, hyphen, SSID. The conditions of document 01's number table, and the readers.
 use Prim.Native.Nat.{ℕ, _+_, _*_, _-_, _≤_, _<_}
 use mathlib.Core.Path.{_≡_}
 use mathlib.Core.Bool.{Bool, true, cond, not, _&&_, _||_}

@@ -1,6 +1,6 @@
--- The decode's number is that of the first row that holds.
+-- The decode is the definition's, of which the demands are proved.
 use mathlib.Core.Path.{_≡_, refl}
-use Rattle.demands.proofs.Numbers.{decoding}
+use Rattle.demands.proofs.Numbers.{decoding, details, refused-decode, never-unknown}
 use borrow.Author.Needs.{needs}
 use Rattle.kept.proofs.decoded.Statement.{statement}
 use Rattle.kept.proofs.decoded.Tie as tie
@@ -9,7 +9,7 @@ from-bytes-requires : tie.Need-from-bytes-requires
 from-bytes-requires c κs = search needs
 
 returns : tie.Need-returns
-returns c = rw (c .from-bytes .ensures) (decoding _ _ .0 refl)
+returns c = rw (c .from-bytes .ensures) (decoding _ _ .0 refl, (details _, ((λ e. refused-decode _ e), ((λ u. never-unknown _ u), refl))))
 
 pub decoded-spec : {M : Type 1} → statement M
 decoded-spec = tie.close (tie.spec from-bytes-requires returns)
