@@ -1,5 +1,4 @@
 -- The check's result is the definition's, which is exact.
-use mathlib.Core.Path.{_≡_}
 use Rattle.demands.proofs.OneSpelling.{one-spelling}
 use borrow.Author.Needs.{needs}
 use Rattle.kept.proofs.canonical.Statement.{statement}

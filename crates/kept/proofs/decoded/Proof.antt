@@ -1,5 +1,5 @@
 -- The decode is the definition's, of which the demands are proved.
-use mathlib.Core.Path.{_≡_, refl}
+use mathlib.Core.Path.{refl}
 use Rattle.demands.proofs.Numbers.{decoding, details, refused-decode, never-unknown}
 use borrow.Author.Needs.{needs}
 use Rattle.kept.proofs.decoded.Statement.{statement}

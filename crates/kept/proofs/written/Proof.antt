@@ -1,5 +1,5 @@
 -- The writer's answer and buffer are the definition's, of which the demands are proved.
-use mathlib.Core.Path.{_≡_, refl, ap, _∙_}
+use mathlib.Core.Path.{refl, ap, _∙_}
 use lib.ListN.{length}
 use Rattle.frame.specs.declared.Written.{Written}
 use Rattle.grammar.proofs.Respell.{written-is}
