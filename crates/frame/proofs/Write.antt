@@ -1,7 +1,7 @@
 -- Laws of writing that the functions' proofs share: lengths, the groups one after the other, which addresses can be written.
 use Prim.Native.Nat.{ℕ, zero, suc, _+_, _-_, _*_, _≤_, _<_}
 use mathlib.Core.Path.{_≡_, refl, subst, _∙_}
-use mathlib.Core.Bool.{Bool, true, false, not, _&&_}
+use mathlib.Core.Bool.{true, false, not, _&&_}
 use mathlib.Core.List.{List, [], _∷_, _++_, append-assoc}
 use mathlib.Core.Logic.{⊎-elim}
 use native.Mathlib.Nat.{eq-or-lt-of-le, le-of-suc-le-suc, not-suc-le-zero}
@@ -13,7 +13,7 @@ use borrow.Author.Tests.{ltb-false, le-ltb, not-false}
 use lib.Dec.{eqb, ltb}
 use lib.ListN.{length, take, drop, length-append, length-drop}
 use Rattle.octets.specs.Splice.{splice}
-use Rattle.octets.proofs.Choice.{both, either}
+use Rattle.octets.proofs.Choice.{both, either, and-false}
 use Rattle.octets.proofs.Splice.{part-from, splice-length, splice-more, splice-then, splice-part}
 use Rattle.address.specs.Address.{encodable}
 use Rattle.address.specs.Group.{groupOf}
@@ -63,13 +63,9 @@ unfolding routeEncodable
 route-one route zero i e h = absurd (not-suc-le-zero h)
 route-one route (suc n) i e h =
     ⊎-elim
-    (λ (q : i ≡ n). rw (← q, e) (never (routeEncodable route i)))
+    (λ (q : i ≡ n). rw (← q, e) (and-false (routeEncodable route i)))
     (λ (l : i < n). rw (route-one route n i e l))
     (eq-or-lt-of-le (le-of-suc-le-suc h))
-  where
-    never : (b : Bool) → (b && false) ≡ false
-    never true = refl
-    never false = refl
 
 pub field-length : (f : Ax25Frame) → length (addressField f) ≡ 14 + 7 * f .«route_count»
 unfolding addressField

@@ -12,7 +12,7 @@ use lib.ListN.{length, getD, take, drop, length-append, List·getD-eq-default}
 use lib.Seq.{getD-drop, drop-append-add, take-append-seam}
 use Rattle.octets.specs.All.{all}
 use Rattle.octets.specs.First.{first}
-use Rattle.octets.proofs.Choice.{by, both}
+use Rattle.octets.proofs.Choice.{by, both, and-false}
 use Rattle.octets.proofs.All.{all-nil, all-cons, all-at, all-append, all-follows}
 use Rattle.octets.proofs.First.{first-step, first-end, first-past}
 use Rattle.octets.proofs.Octet.{octet-where}
@@ -24,7 +24,6 @@ use Rattle.octets.specs.Count.{count}
 use Rattle.text.specs.Text.{addressNumberOf, hyphen, digit, upperCase, lowerCase, alphanumeric, upper, upperAt, decimalFrom, decimal, digits8, afterPlus, callsignText, manyHyphens, empty, long, wide, hasSsid, ssidText, ssidValue, badSsid, padded, readCallsign, readParts, readText, upperOrDigit, TextAddress, high, strange}
 use Rattle.printing.specs.Print.{space, used, trimmed, decimalText, ssidSuffix, textOf}
 use Rattle.address.proofs.Laws.{six-list, no-call-plain}
-use Rattle.text.proofs.Reading.{and-false}
 use Rattle.printing.proofs.Laws.{used-le, trimmed-length}
 
 -- the rows that both tables end with: empty (32); 31; characters (32); 34

@@ -1,7 +1,7 @@
 -- How the loops and tests of the readers come to their definitions: one turn, the end, and what each refusal of an SSID's text rests on.
 use Prim.Native.Nat.{ℕ, zero, suc, _+_, _*_, _-_, _<_, _≤_}
 use mathlib.Core.Path.{_≡_, refl}
-use mathlib.Core.Bool.{Bool, true, false, cond, _&&_}
+use mathlib.Core.Bool.{Bool, true, false, cond}
 use mathlib.Core.List.{List, [], _∷_}
 use native.Mathlib.Numerals.{add-one}
 use native.Mathlib.Omega.{arith}
@@ -10,7 +10,7 @@ use lib.ListN.{length, getD, drop, drop-of-length-le}
 use lib.Seq.{drop-cons}
 use Rattle.octets.specs.All.{all}
 use Rattle.octets.specs.First.{first}
-use Rattle.octets.proofs.Choice.{by}
+use Rattle.octets.proofs.Choice.{by, and-false}
 use Rattle.text.specs.declared.AddressAnswer.the-variants.{InvalidSsid}
 use Rattle.text.specs.declared.Ssid.the-variants.{Number, NotANumber}
 use Rattle.octets.specs.Count.{count}
@@ -45,10 +45,6 @@ pub getD-within : (s : List ℕ) (k d e : ℕ) → k < length s → getD s k d �
 getD-within [] k d e h = absurd (omega arith)
 getD-within (x ∷ s) zero d e h = refl
 getD-within (x ∷ s) (suc k) d e h = getD-within s k d e (omega arith)
-
-pub and-false : (b : Bool) → (b && false) ≡ false
-and-false true = refl
-and-false false = refl
 
 -- what digits say
 pub say-none : (ds : List ℕ) → length ds ≡ 0 → digitsSay ds ≡ NotANumber
