@@ -5,14 +5,14 @@ ghost use lib.ListN.{length, drop};
 ghost use Rattle.octets.specs.First.{first};
 ghost use Rattle.search.specs.Search.{masked};
 
-// How far the search may be taken: nothing before this place has a bit of the mask. Four octets a turn, since most of a search
+// How far the search may be taken: nothing before this place has a bit of the mask. Eight octets a turn, since most of a search
 // is the turning.
-fn by_fours(bytes: &[u8], mask: u8) -> usize
+fn by_eights(bytes: &[u8], mask: u8) -> usize
     ensures { λ r. ⌜ r ≤ length (now (bytes .entry)) ⌝ }
     ensures { λ r. ⌜ first (masked mask) (now (bytes .entry)) ≡ r + first (masked mask) (drop r (now (bytes .entry))) ⌝ }
 {
     let mut i = 0;
-    while 4 <= bytes.len() - i {
+    while 8 <= bytes.len() - i {
         let one = bytes[i] & mask;
         if one != 0 {
             return i;
@@ -29,7 +29,23 @@ fn by_fours(bytes: &[u8], mask: u8) -> usize
         if four != 0 {
             return i + 3;
         }
-        i += 4;
+        let five = bytes[i + 4] & mask;
+        if five != 0 {
+            return i + 4;
+        }
+        let six = bytes[i + 5] & mask;
+        if six != 0 {
+            return i + 5;
+        }
+        let seven = bytes[i + 6] & mask;
+        if seven != 0 {
+            return i + 6;
+        }
+        let eight = bytes[i + 7] & mask;
+        if eight != 0 {
+            return i + 7;
+        }
+        i += 8;
     }
     i
 }
@@ -40,7 +56,7 @@ pub fn find(bytes: &[u8], mask: u8) -> usize
     ensures { λ r. ⌜ r ≡ first (masked mask) (now (bytes .entry)) ⌝ }
     ensures { λ r. ⌜ r ≤ length (now (bytes .entry)) ⌝ }
 {
-    let mut i = by_fours(bytes, mask);
+    let mut i = by_eights(bytes, mask);
     while i < bytes.len() {
         let bits = bytes[i] & mask;
         if bits != 0 {

@@ -1,4 +1,4 @@
--- The rest of the search, from the place that the fours came to.
+-- The rest of the search, from the place that the eights came to.
 use Prim.Native.Nat.{_-_}
 use mathlib.Core.Path.{ap}
 use mathlib.Core.Bool.{not}
@@ -18,11 +18,11 @@ Inv-loop bytes mask i₀ i = Reached (masked mask) bytes i
 abbrev μ-loop : tie.MeasureT-loop
 μ-loop bytes mask i₀ i = length bytes - i
 
-by-fours-requires : tie.Need-by-fours-requires Inv-loop μ-loop
-by-fours-requires c κs = search needs
+by-eights-requires : tie.Need-by-eights-requires Inv-loop μ-loop
+by-eights-requires c κs = search needs
 
 loop-holds : tie.Need-loop-holds Inv-loop μ-loop
-loop-holds c = (c .by-fours .ensures .0, c .by-fours .ensures .1)
+loop-holds c = (c .by-eights .ensures .0, c .by-eights .ensures .1)
 
 shared-slice-read-bits : tie.Need-shared-slice-read-bits Inv-loop μ-loop
 shared-slice-read-bits c = search needs
@@ -53,7 +53,7 @@ find-spec =
     (tie.spec
     Inv-loop
     μ-loop
-    by-fours-requires
+    by-eights-requires
     loop-holds
     shared-slice-read-bits
     returns
