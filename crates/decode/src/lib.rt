@@ -1,12 +1,10 @@
 // Reading a frame: first its outline, then its content and its addresses.
 use address::group::ParsedAddress;
 use content::FrameContent;
-use content::UnnumberedInformation;
 use frame::Ax25Frame;
 use frame::Mark;
 use frame::RouteEntry;
 use parse::ContentAnswer;
-use protocol::ProtocolIdentifier;
 ghost use mathlib.Core.Path.{_≡_};
 ghost use mathlib.Core.Bool.{true};
 ghost use Prim.Native.Nat.{_+_, _*_, _≤_, _<_};

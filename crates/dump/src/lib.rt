@@ -1,7 +1,6 @@
 // What the dumper prints of an octet string, as octets in a lent buffer.
 use decode::DecodeAnswer;
 use decode::Decoded;
-use frame::Ax25Frame;
 ghost use mathlib.Core.Path.{_≡_};
 ghost use mathlib.Core.Bool.{true};
 ghost use Prim.Native.Nat.{_+_, _≤_};

@@ -1,5 +1,4 @@
 // Octets read, and what was accepted written again.
-use frame::Ax25Frame;
 use show_frame::cutting::first;
 use show_frame::cutting::place;
 use show_frame::frames;

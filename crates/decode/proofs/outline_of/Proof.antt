@@ -7,7 +7,6 @@ use Rattle.decode.proofs.Read.{start-le-end, null-end, start-masked, en
 use borrow.Author.Needs.{needs}
 use Rattle.decode.proofs.outline_of.Statement.{statement}
 use Rattle.decode.proofs.outline_of.Tie as tie
-use Rattle.decode.proofs.outline_of.Lts as lts
 
 start : (c : tie.After-find) → c .find .result ≡ startOf (c .before .before .args .bytes .now)
 start c = c .find .ensures .0 ∙ start-masked _ (λ k. c .before .shared-slice-known .given k .fits)
