@@ -236,10 +236,6 @@ pub no-call-plain : PlainAddress noCall
 unfolding noCall encodable
 no-call-plain = record { six = refl; writable = simp (all-cons, all-nil) }
 
-pub no-call-starts : 0 < getD (noCall .callsign) 0 0
-unfolding noCall
-no-call-starts = omega arith
-
 -- the reserved bits of a group are those of its last octet
 pub reserved-last : (g : List ℕ) → reserved g ≡ reservedSet (getD g 6 0)
 unfolding reserved

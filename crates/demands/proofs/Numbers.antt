@@ -2,7 +2,6 @@
 -- `UnknownContent`.
 use Prim.Native.Nat.{ℕ}
 use mathlib.Core.Path.{_≡_, refl, ap, _∙_}
-use mathlib.Core.Bool.{false}
 use mathlib.Core.List.{List, []}
 use mathlib.Core.Logic.{_↔_}
 use lib.ListN.{length}
@@ -13,17 +12,15 @@ use Rattle.printing.specs.Print.{printNumberOf, printed}
 use Rattle.address.specs.declared.Address.{Address}
 use Rattle.text.proofs.Laws.{text-numbers, parts-numbers}
 use Rattle.printing.proofs.Laws.{print-numbers}
-use Rattle.content.specs.declared.FrameContent.the-variants.{UnknownContent}
-use Rattle.decode.specs.Answer.{numberOf, reportOf, isAccepted}
-use Rattle.frame.specs.Frame.{writeNumber, defaultFrame}
-use Rattle.decode.specs.Numbers.{reported}
+use Rattle.decode.specs.Answer.{numberOf}
+use Rattle.frame.specs.Frame.{writeNumber}
 use Rattle.decode.specs.Read.{decode}
 use Rattle.frame.specs.Spell.{spell}
 use Rattle.frame.specs.Write.{writeAnswer, octetsWritten, written}
 use Rattle.frame.specs.declared.Written.{Written}
 use Rattle.frame.specs.declared.Ax25Frame.{Ax25Frame}
-use Rattle.grammar.proofs.Numbers.{decode-report, decode-rows, write-rows}
-use Rattle.grammar.proofs.Refused.{refused-parts, refused-octets, accepted-octets, decoded-known}
+use Rattle.grammar.proofs.Numbers.{decode-rows, write-rows}
+use Rattle.grammar.proofs.Refused.{refused-octets, accepted-octets}
 use Rattle.grammar.proofs.Respell.{written-is}
 use Rattle.demands.specs.Table.{Table, given, FirstRow}
 use Rattle.demands.specs.Numbers.{decodeTable, writeTable, printTable, partsTable, textTable}
@@ -55,15 +52,6 @@ pub text : (t : List ℕ) (n : ℕ) → (addressNumberOf (readText t .answer) �
 unfolding given
 text t n = by-table _ (textTable t) (text-numbers t) n
 
--- the details that decoding's numbers give
-pub details : (s : List ℕ) → reportOf (decode s .answer) ≡ reported s
-details s = decode-report s
-
--- a refused decode is the default frame, with no info
-pub refused-decode : (s : List ℕ) → isAccepted (decode s .answer) ≡ false
-    → (decode s .frame ≡ defaultFrame) × (decode s .«info_start» ≡ 0) × (decode s .«info_len» ≡ 0)
-refused-decode s e = refused-parts s e
-
 -- a refused write has length 0, and what it leaves in a buffer is what was there
 pub refused-write : (f : Ax25Frame) (info : List ℕ) (room : ℕ) → (writeNumber (writeAnswer f info room) ≡ 0 → ⊥)
     → (written f info room .length ≡ 0) × ((out : List ℕ) → splice out 0 (octetsWritten f info room) ≡ out)
@@ -78,7 +66,3 @@ pub accepted-write : (f : Ax25Frame) (info out : List ℕ) → writeNumber (writ
 accepted-write f info out n =
     let o = accepted-octets f info (length out) n in
     (ap (λ (w : Written). w .length) (written-is f info (length out)) ∙ rw (o .0) refl, rw (o .0) (splice-start out (spell f info) (o .1)))
-
--- no input decodes to `UnknownContent`
-pub never-unknown : (s : List ℕ) → decode s .frame .content ≡ UnknownContent → ⊥
-never-unknown s e = decoded-known s e

@@ -53,12 +53,6 @@ module _ {A : Type 0} (p : A → Bool) where
   first-is (x ∷ s) d (suc k) h e f =
       rw (f 0 (omega arith)) (ap suc (first-is s d k (omega arith) e (λ j l. f (suc j) (omega arith))))
 
-  -- where nothing passes, the search comes to the end
-  pub first-none : (s : List A) (d : A) → ((j : ℕ) → j < length s → p (getD s j d) ≡ false) → first p s ≡ length s
-  unfolding first
-  first-none [] d f = refl
-  first-none (x ∷ s) d f = rw (f 0 (omega arith)) (ap suc (first-none s d (λ j l. f (suc j) (omega arith))))
-
   -- a search goes past a part in which nothing passes
   pub first-past : (a s : List A) (d : A) → ((j : ℕ) → j < length a → p (getD a j d) ≡ false) → first p (a ++ s) ≡ length a + first p s
   unfolding first
