@@ -1,4 +1,4 @@
-/* AX.25 frames for the relay box: the calls of libax25.a, for x86-64.
+/* AX.25 frames for the relay box: the calls of libax25frame.a, for x86-64.
 
    Four calls on octets that the caller lends. Each is proved to give exactly the answer that its contract states, for every
    input, to read and write nothing but what is lent to it, and to return.

@@ -78,7 +78,7 @@ def collect(folder, kit, captures_status):
         "differences": {"unlisted": found, "shown": differences},
         "ratios": bench["bench"] if bench else None,
         "stack": dict(re.findall(r"^ok: (ax25_\w+) can use at most (\d+) octets of stack", log, re.M)),
-        "archive": dict(re.findall(r"^([0-9a-f]{64})  (libax25\.a|ax25\.h|dumper)$", log, re.M)),
+        "archive": dict(re.findall(r"^([0-9a-f]{64})  (libax25frame\.a|ax25\.h|dumper)$", log, re.M)),
     }
 
 
