@@ -9,6 +9,7 @@ mod domain;
 mod flat;
 mod inputs;
 mod lent;
+mod lines;
 mod oracle;
 mod port;
 mod records;
@@ -141,7 +142,7 @@ fn main() {
             status(single::simple_ui(&octets(source), &octets(destination), &octets(info)))
         }
         ["bench"] => leave(&bench::run(), &options.json),
-        ["replay-list"] => replay::list(3000),
+        ["replay-list"] => replay::list(5000),
         ["replay-list", lines] => replay::list(number(lines) as usize),
         _ => refuse(&format!("usage:\n{}", USAGE)),
     }
