@@ -48,7 +48,7 @@ unfoldable pub responseOf : ℕ → CommandResponse
 responseOf n = cond (bit 4 n) Response Command
 
 -- FRMR: control; Z Y X W in bits 3 to 0; N(R), response bit and N(S); the rejected control octet. The order of the last three is
--- the Rust's, and not that of AX.25's figure (docs/DIFFERENCES.md, A9)
+-- the Rust's, and not that of AX.25's figure (docs/DIFFERENCES.md, A9); bits without a name are not looked at (A10)
 abbrev pub frmrFieldsOf : List ℕ → FrameReject
 frmrFieldsOf s = record {
   «final_bit» = pollOf (getD s 0 0);
@@ -77,7 +77,8 @@ uOf c s =
     (cond (eqb (uKind c) ui) (uiOf s)
     UnrecognisedUFieldType)))))
 
--- content from its control octet on: low bit 0 is I, low bits 01 are S, low bits 11 are U
+-- content from its control octet on: low bit 0 is I, low bits 01 are S, low bits 11 are U. None at all has a number too
+-- (docs/DIFFERENCES.md, B5)
 unfoldable pub contentOf : List ℕ → ContentAnswer
 contentOf s =
     cond (eqb (length s) 0) ContentZeroLength
