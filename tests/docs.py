@@ -115,13 +115,13 @@ def statements():
     wrong, many, last = [], 0, []
     for title in ('Demand 1: every input gets an answer, bad input a number', 'Smaller statements that stand for themselves'):
         for row in rows(GUARANTEES[title]):
+            if len(row) != 3 or row[1].startswith('contracts'):
+                continue
             files = []
-            for folder, name in re.findall(r'(crates/[\w/]+/)?(\w+\.antt)', row[2] if len(row) == 3 else ''):
+            for folder, name in re.findall(r'(crates/[\w/]+/)?(\w+\.antt)', row[2]):
                 files.append((folder or os.path.dirname(files[-1]) + '/') + name)
             last = files or last
-            names = re.findall(r'`([\w-]+)`', row[1]) if len(row) == 3 and ('same file' in row[2] or files) else []
-            if row[1].startswith('contracts'):
-                continue
+            names = re.findall(r'`([\w-]+)`', row[1]) if 'same file' in row[2] or files else []
             for name in names:
                 many += 1
                 if not any(os.path.exists(f) and re.search(rf'^\s*(?:pub |abbrev |unfoldable )*{re.escape(name)}\b', read(f), re.M) for f in last):
