@@ -13,6 +13,7 @@ use Rattle.content.specs.declared.Information.{Information}
 use Rattle.content.specs.declared.UnnumberedInformation.{UnnumberedInformation}
 use Rattle.content.specs.declared.FrameReject.{FrameReject}
 use Rattle.content.specs.declared.FrameContent.the-variants as kind
+use Rattle.parse.specs.Report.{Report, number}
 use Rattle.parse.specs.declared.ContentAnswer.{ContentAnswer}
 use Rattle.parse.specs.declared.ContentAnswer.the-variants.{Accepted, ContentZeroLength, MissingPidField, UnrecognisedSFieldType, UnrecognisedUFieldType, WrongSizeFrmrInfo}
 
@@ -86,11 +87,14 @@ contentOf s =
     (cond (eqb (field 0 2 (getD s 0 0)) 1) (sOf (getD s 0 0))
     (uOf (getD s 0 0) s)))
 
--- the number of an answer (document 01, Numbers)
+-- the number of an answer and its details (document 01, Numbers). Of 4 the detail is the length: content that is empty has length 0
+abbrev pub reportOf : ContentAnswer → Report
+reportOf (Accepted k) = number 0
+reportOf ContentZeroLength = record { number = 4; start = 0; end = 0; len = 0 }
+reportOf MissingPidField = number 5
+reportOf UnrecognisedSFieldType = number 6
+reportOf UnrecognisedUFieldType = number 7
+reportOf WrongSizeFrmrInfo = number 8
+
 abbrev pub numberOf : ContentAnswer → ℕ
-numberOf (Accepted k) = 0
-numberOf ContentZeroLength = 4
-numberOf MissingPidField = 5
-numberOf UnrecognisedSFieldType = 6
-numberOf UnrecognisedUFieldType = 7
-numberOf WrongSizeFrmrInfo = 8
+numberOf a = reportOf a .number
