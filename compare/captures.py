@@ -253,6 +253,11 @@ def lines_of(path, raw):
     return lines + [f'passed over\t{what}' for what in capture.passed_over], None
 
 
+def octets_of_lines(lines):
+    """UTF-8, whatever the host's language is."""
+    return ''.join(f'{line}\n' for line in lines).encode()
+
+
 def stop(message):
     print(message, file=sys.stderr)
     sys.exit(2)
@@ -287,12 +292,11 @@ def main():
         refused = [f'{shown(path)}: {why}' for path, _, why in read_all if why is not None]
         if refused:
             stop('\n'.join(refused))
-        for _, lines, _ in read_all:
-            print('\n'.join(lines))
+        sys.stdout.buffer.write(octets_of_lines(line for _, lines, _ in read_all for line in lines))
     elif sys.argv[1:2] == ['compare'] and len(sys.argv) > 2:
         captures, others = arguments(sys.argv[3:], ['--json'])
-        lines = [line for path, raw in captures for line in lines_of(path, raw)[0]]
-        sys.exit(subprocess.run([sys.argv[2], 'frames', *others], input='\n'.join(lines).encode()).returncode)
+        lines = octets_of_lines(line for path, raw in captures for line in lines_of(path, raw)[0])
+        sys.exit(subprocess.run([sys.argv[2], 'frames', *others], input=lines).returncode)
     else:
         stop(__doc__)
 
