@@ -2,7 +2,7 @@
 """Puts together the laboratory's report from what ./lab left in a folder: report.md and report.json there.
 
 usage: report.py FOLDER KIT CAPTURES_STATUS
-Exit status: 0 where everything holds, 1 where something does not, 2 where a capture could not be read.
+Exit status: 0 where everything holds, 1 where something does not, 2 where the captures could not be compared.
 """
 import hashlib
 import json
@@ -124,8 +124,7 @@ def markdown(report):
     if report["captures"]:
         part = report["captures"]
         out += table(["file", "format", "frames", "passed over"], [(c["file"], c["format"], c["frames"], len(c["passed_over"])) for c in part["captures"]])
-        out += [""] + [f"- refused: {refused}" for refused in part["refused_captures"]]
-        out += [f"{part['decodes']} decodes and {part['writes']} writes compared; {part['accepted']} accepted, {part['canonical']} of them canonical. " + listed(part), ""]
+        out += ["", f"{part['decodes']} decodes and {part['writes']} writes compared; {part['accepted']} accepted, {part['canonical']} of them canonical. " + listed(part), ""]
     else:
         out += ["Not compared.", ""]
     out += ["## The Rust beside the port", ""]

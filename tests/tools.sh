@@ -286,5 +286,5 @@ tools_need_programs() { # PACKAGE VARIABLE=PROGRAM..
 # DECODE_APRS, GEN_PACKETS, KISSUTIL: direwolf's programs of those names; DIREWOLF itself.
 need_direwolf() { tools_need_programs direwolf DECODE_APRS=decode_aprs GEN_PACKETS=gen_packets KISSUTIL=kissutil DIREWOLF=direwolf ATEST=atest; }
 
-# TSHARK, TEXT2PCAP: Wireshark's programs for the terminal.
-need_tshark() { tools_need_programs tshark TSHARK=tshark TEXT2PCAP=text2pcap; }
+# TSHARK, TEXT2PCAP, EDITCAP: Wireshark's programs for the terminal.
+need_tshark() { tools_need_programs tshark TSHARK=tshark TEXT2PCAP=text2pcap EDITCAP=editcap; }

@@ -5,7 +5,7 @@ use crate::port::Beside;
 use crate::report::{self, Line, Report};
 use crate::rng::Rng;
 use crate::show;
-use crate::{capture_check, inputs, records, texts};
+use crate::{inputs, records, texts};
 
 /// A class under way.
 pub struct Class<'a> {
@@ -120,10 +120,6 @@ pub fn test(scale: usize, seed: u64, only: Option<String>) -> Report {
     frame_records(&mut checker, &mut report, scale, &mut seeds);
     side_by_side(&mut checker, &mut report, scale, seeds.next());
     address_texts(&mut checker, &mut report, scale, &mut seeds);
-    class(&mut checker, &mut report, "captures: each format comes back, and what can't be read is refused", |c| {
-        let frames: Vec<Vec<u8>> = inputs::good_frames().into_iter().chain([vec![0xC0, 0xDB, 0xDC, 0xDD, 0xC0]]).collect();
-        c.other("captures of good frames", capture_check::faults(&frames));
-    });
     let missing = checker.seen.missing();
     class(&mut checker, &mut report, "met: every number, kind, mark, PID, route length and listed difference", |c| c.missing(missing));
     report::totals(&mut report, &checker.seen);
