@@ -138,12 +138,12 @@ fn content_answer(bytes: &[u8], control: usize) -> DecodeAnswer
 fn refused_outline(answer: DecodeAnswer, start: usize, end: usize) -> Outline
     ensures { λ r. ⌜ r ≡ outlineBy start end (refusedWith answer) ⌝ }
 {
-    let frame = Ax25Frame::default();
+    let nothing = Ax25Frame::default();
     Outline {
         answer,
         start,
         end,
-        route_count: frame.route_count,
+        route_count: nothing.route_count,
     }
 }
 
