@@ -259,7 +259,7 @@ need_rustc() {
 # PYTHON: Python 3.
 need_python() {
     PYTHON=$(tools_path python3 python3) && return
-    tools_fetch python3 python3-minimal || return 1
+    tools_fetch python3 python3 || return 1
     [ ! -d "$tools_dir/python3" ] || tools_wrap python3 python3
     PYTHON=$(tools_path python3 python3)
 }
