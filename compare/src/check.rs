@@ -3,9 +3,11 @@
 
 use crate::domain::{self, Listed};
 use crate::flat::{self, Decode, Flat, FlatAddress, ADDRESS, FLAT, NOCALL};
+use crate::lent::{rooms, Room, Tried, LONGER};
 use crate::oracle::{self, Refusal};
 use crate::port::{Beside, Port, PLACES};
-use crate::seen::Seen;
+use crate::rng::Rng;
+use crate::seen::{Seen, Writer};
 use crate::show;
 use ax25::frame::Ax25Frame;
 
@@ -22,17 +24,26 @@ pub struct Checker {
     pub seen: Seen,
     /// Differences are only counted, and not described.
     pub quiet: bool,
+    /// Every room is tried, and not only some.
+    thorough: bool,
     found: Vec<Difference>,
-    /// Counts the inputs.
-    turn: u64,
+    /// Draws the rooms.
+    draw: Rng,
 }
-
-/// How much longer than needed the longer buffers are.
-const LONGER: usize = 9;
 
 impl Checker {
     pub fn new() -> Checker {
-        Checker { port: Port::new(), seen: Seen::new(), quiet: false, found: Vec::new(), turn: 0 }
+        Checker { port: Port::new(), seen: Seen::new(), quiet: false, thorough: false, found: Vec::new(), draw: Rng::new(0) }
+    }
+
+    /// For one input at a time: whatever room showed a difference is among those that are tried.
+    pub fn thorough() -> Checker {
+        Checker { thorough: true, ..Checker::new() }
+    }
+
+    /// The rooms to write this many octets into.
+    fn rooms(&mut self, tried: Tried, needed: usize) -> impl Iterator<Item = usize> {
+        rooms(if self.thorough { Tried::All } else { tried }, needed, &mut self.draw)
     }
 
     fn differ(&mut self, what: &str, owed: impl FnOnce() -> String, port: impl FnOnce(&Checker) -> String) {
@@ -45,7 +56,6 @@ impl Checker {
     }
 
     fn finish(&mut self) -> Vec<Difference> {
-        self.turn += 1;
         if let Some(fault) = self.port.fault() {
             self.differ("lent storage", || "nothing else is written".to_string(), |_| fault.to_string());
         }
@@ -66,6 +76,9 @@ impl Checker {
     pub fn octets(&mut self, input: &[u8]) -> Vec<Difference> {
         let rust = oracle::read(input);
         self.seen.decodes += 1;
+        if let Some((start, end)) = domain::field(input) {
+            self.seen.searched(input, start, end);
+        }
         if domain::repeaters(input) > flat::REPEATERS {
             self.beyond(input, &rust);
         } else {
@@ -92,13 +105,36 @@ impl Checker {
         self.seen.frame(&owed.record, octets == input);
         self.decode(input, &owed);
         self.loader(input, 0, &octets);
-        self.write(&owed.record, info, &octets);
+        for room in self.rooms(Tried::Some, octets.len()) {
+            self.seen.written(Writer::Reencode, &owed.record, Room::of(room, octets.len()));
+            self.reencode(input, 0, &octets, room);
+        }
+        self.seen.writes += 1;
+        for room in self.rooms(Tried::Some, octets.len()) {
+            self.seen.written(Writer::Read, &owed.record, Room::of(room, octets.len()));
+            self.write_in(Writer::Read, &owed.record, info, 0, &octets, room);
+        }
     }
 
     fn refused(&mut self, input: &[u8], refusal: Refusal) {
         self.seen.refusal(refusal.number);
         self.decode(input, &oracle::refused(refusal));
         self.loader(input, refusal.number, &[]);
+        for room in self.refused_rooms(input) {
+            self.seen.refused_room(refusal.number, room, input.len());
+            self.reencode(input, refusal.number, &[], room);
+        }
+    }
+
+    /// A room to re-encode a refused input into: most of the time one that a frame of its length would fit in.
+    fn refused_rooms(&mut self, input: &[u8]) -> std::ops::Range<usize> {
+        let enough = input.len() + LONGER;
+        let room = match self.draw.below(6) {
+            0 => 0,
+            1 => self.draw.within(0, input.len()),
+            _ => enough,
+        };
+        if self.thorough { 0..enough + 1 } else { room..room + 1 }
     }
 
     /// Nine or more repeaters: the port answers 9; the Rust reads them all and then looks at the content.
@@ -122,7 +158,7 @@ impl Checker {
         }
     }
 
-    /// The loader's four calls. `octets` is the re-encoding, empty for a refusal.
+    /// The loader's calls without an output. `octets` is the re-encoding, empty for a refusal.
     fn loader(&mut self, input: &[u8], number: u32, octets: &[u8]) {
         let canonical = u32::from(number == 0 && octets == input);
         let owed = (number, canonical, octets.len());
@@ -133,13 +169,10 @@ impl Checker {
             };
             self.differ("the loader's calls", || say(owed), |_| say(port));
         }
-        for room in rooms(octets.len(), self.turn) {
-            self.reencode(input, number, octets, room);
-        }
     }
 
     fn reencode(&mut self, input: &[u8], number: u32, octets: &[u8], room: usize) {
-        let (owed, octets) = self.owed_in(room, number, octets);
+        let (owed, octets) = self.owed_in(Writer::Reencode, room, number, octets);
         let port = self.port.reencode(input, room);
         if port != owed || !self.port.output_is(octets) {
             let says = |me: &Checker| format!("number {} written {}", port, me.output(octets.len()));
@@ -148,10 +181,12 @@ impl Checker {
     }
 
     /// What is owed in a room of this size: 24 where an accepted write doesn't fit, and a refusal writes nothing.
-    fn owed_in<'a>(&mut self, room: usize, number: u32, octets: &'a [u8]) -> (u32, &'a [u8]) {
+    fn owed_in<'a>(&mut self, writer: Writer, room: usize, number: u32, octets: &'a [u8]) -> (u32, &'a [u8]) {
         if number != 0 {
-            (number, &[])
-        } else if room < octets.len() {
+            return (number, &[]);
+        }
+        self.seen.room(writer, Room::of(room, octets.len()));
+        if room < octets.len() {
             self.seen.listed(Listed::B4);
             (24, &[])
         } else {
@@ -173,16 +208,17 @@ impl Checker {
         }
     }
 
-    /// Writing a record, into room that suffices exactly, is one short, or more than is needed.
-    fn write(&mut self, record: &[u8], info: &[u8], octets: &[u8]) {
+    /// Writing a record that was made up, in each kind of room. `settled` is how the record is read.
+    fn write(&mut self, record: &[u8], settled: &Flat, info: &[u8], octets: &[u8]) {
         self.seen.writes += 1;
-        for room in rooms(octets.len(), self.turn) {
-            self.write_in(record, info, 0, octets, room);
+        for room in self.rooms(Tried::Each, octets.len()) {
+            self.seen.written(Writer::MadeUp, settled, Room::of(room, octets.len()));
+            self.write_in(Writer::MadeUp, record, info, 0, octets, room);
         }
     }
 
-    fn write_in(&mut self, record: &[u8], info: &[u8], number: u32, octets: &[u8], room: usize) {
-        let (number, octets) = self.owed_in(room, number, octets);
+    fn write_in(&mut self, writer: Writer, record: &[u8], info: &[u8], number: u32, octets: &[u8], room: usize) {
+        let (number, octets) = self.owed_in(writer, room, number, octets);
         let port = self.port.encode(record, info, room);
         if port != (number, octets.len()) || !self.port.output_is(octets) {
             let says = |me: &Checker| format!("number {} length {} written {}", port.0, port.1, me.output(octets.len()));
@@ -190,25 +226,52 @@ impl Checker {
         }
     }
 
-    /// Writing an accepted input again with the input, or its info, close to the output.
+    /// Writing an input again with the input, or its info, close to the output; or refusing to, and leaving all as it was.
     pub fn beside(&mut self, input: &[u8], beside: &Beside) -> Vec<Difference> {
-        if let Ok(frame) = oracle::read(input) {
-            let octets = frame.to_bytes();
-            if domain::repeaters(input) <= flat::REPEATERS {
-                let whole = self.port.reencode_beside(input, &octets, beside);
-                self.placed("re-encoding beside the input", whole, &octets);
-                let info = flat::info_of(&frame).unwrap_or(&[]);
-                let written = self.port.encode_beside(&flat::of_frame(&frame), info, &octets, beside);
-                self.placed("writing beside the info", written, &octets);
-            }
+        match oracle::read(input) {
+            _ if domain::repeaters(input) > flat::REPEATERS => self.refused_beside(input, 9, beside),
+            Ok(frame) => self.accepted_beside(input, &frame, beside),
+            Err(refusal) => self.refused_beside(input, refusal.number, beside),
         }
         self.finish()
     }
 
-    fn placed(&mut self, what: &str, port: (u32, bool), octets: &[u8]) {
-        if port != (0, true) {
+    fn accepted_beside(&mut self, input: &[u8], frame: &Ax25Frame, beside: &Beside) {
+        let octets = frame.to_bytes();
+        let (record, info) = (flat::of_frame(frame), flat::info_of(frame).unwrap_or(&[]));
+        for room in self.rooms(Tried::Some, octets.len()) {
+            let (number, owed) = self.owed_in(Writer::Beside, room, 0, &octets);
+            self.seen.beside(number);
+            let port = self.port.reencode_beside(input, room, owed, beside);
+            self.placed("re-encoding beside the input", port, number, owed);
+            let port = self.port.encode_beside(&record, info, room, owed, beside);
+            self.placed("writing beside the info", port, number, owed);
+        }
+    }
+
+    fn refused_beside(&mut self, input: &[u8], number: u32, beside: &Beside) {
+        self.seen.beside(number);
+        for room in self.refused_rooms(input) {
+            let port = self.port.reencode_beside(input, room, &[], beside);
+            self.placed("re-encoding beside the input", port, number, &[]);
+        }
+    }
+
+    /// Refusing to write a record that the Rust can't hold, its info close to the output.
+    pub fn record_beside(&mut self, record: &[u8], info: &[u8], beside: &Beside) -> Vec<Difference> {
+        let number = domain::record_number(&padded::<FLAT>(record), info);
+        for room in [0, FLAT + info.len() + LONGER] {
+            let port = self.port.encode_beside(record, info, room, &[], beside);
+            self.placed("writing beside the info", port, number, &[]);
+        }
+        self.finish()
+    }
+
+    /// Whether the last call gave this number, left these octets, and all else in the storage is as it was.
+    fn placed(&mut self, what: &str, port: (u32, bool), number: u32, octets: &[u8]) {
+        if port != (number, true) {
             let says = |me: &Checker| format!("number {}, all the storage {}", port.0, show::hex(me.port.output()));
-            self.differ(what, || show::written(0, octets.len(), octets), says);
+            self.differ(what, || show::written(number, octets.len(), octets), says);
         }
     }
 
@@ -225,9 +288,8 @@ impl Checker {
         let frame = flat::to_frame(whole, info);
         let octets = frame.to_bytes();
         let settled = flat::settled(whole, &frame);
-        self.seen.written(&settled);
         self.again(record, &settled);
-        self.write(record, info, &octets);
+        self.write(record, &settled, info, &octets);
         let mut found = self.finish();
         found.extend(self.octets(&octets));
         found
@@ -237,7 +299,7 @@ impl Checker {
         self.seen.listed(Listed::B3);
         self.seen.write_refusal(number);
         for room in [0, 14, FLAT + info.len() + LONGER] {
-            self.write_in(record, info, number, &[], room);
+            self.write_in(Writer::MadeUp, record, info, number, &[], room);
         }
         self.finish()
     }
@@ -307,7 +369,7 @@ impl Checker {
         if domain::encodable(&whole) {
             let text = flat::addresses(&[whole])[0].to_string();
             self.seen.print(0);
-            for room in rooms(text.len(), self.turn) {
+            for room in self.rooms(Tried::Each, text.len()) {
                 self.print_in(address, 0, text.as_bytes(), room);
             }
         } else {
@@ -321,7 +383,7 @@ impl Checker {
     }
 
     fn print_in(&mut self, address: &[u8], number: u32, text: &[u8], room: usize) {
-        let (number, text) = self.owed_in(room, number, text);
+        let (number, text) = self.owed_in(Writer::Print, room, number, text);
         let port = self.port.print(address, room);
         if port != (number, text.len()) || !self.port.output_is(text) {
             let says = |me: &Checker| format!("number {} length {} written {}", port.0, port.1, me.output(text.len()));
@@ -350,7 +412,7 @@ impl Checker {
         let owed = flat::of_frame(frame);
         self.left(what, number, &owed);
         self.again(&owed, &owed);
-        self.write(&owed, info, &frame.to_bytes());
+        self.write(&owed, &owed, info, &frame.to_bytes());
     }
 
     /// The refusals that are `probe`'s own: a lent buffer shorter than what is to be left there.
@@ -383,16 +445,6 @@ impl Checker {
             self.differ(what, || "number 24, nothing touched".to_string(), says);
         }
     }
-}
-
-/// Room exactly full, and in turns, on every second input, longer, or one short where that can be.
-fn rooms(len: usize, turn: u64) -> impl Iterator<Item = usize> {
-    let other = match turn % 4 {
-        0 => Some(len + LONGER),
-        2 => len.checked_sub(1),
-        _ => None,
-    };
-    [Some(len), other].into_iter().flatten()
 }
 
 /// The octets, and 0 past their end.

@@ -19,6 +19,7 @@ pub fn class(checker: &mut Checker, report: &mut Report, name: &str, body: impl 
     if report.only.as_ref().map_or(false, |only| !name.contains(only.as_str())) {
         return;
     }
+    checker.seen.class(name);
     let line = Line { name: name.to_string(), inputs: 0, mismatches: 0 };
     let mut class = Class { checker, report, line };
     body(&mut class);
@@ -52,9 +53,18 @@ impl Class<'_> {
 
     fn beside(&mut self, input: &[u8], beside: &Beside) {
         let found = self.checker.beside(input, beside);
+        self.done_beside(found, beside, || show::hex(input));
+    }
+
+    fn record_beside(&mut self, record: &[u8], info: &[u8], beside: &Beside) {
+        let found = self.checker.record_beside(record, info, beside);
+        self.done_beside(found, beside, || format!("record {} info {}", show::hex(record), show::hex(info)));
+    }
+
+    fn done_beside(&mut self, found: Vec<Difference>, beside: &Beside, input: impl FnOnce() -> String) {
         self.done(found, || {
             let order = if beside.output_first { "output, gap, input" } else { "input, gap, output" };
-            let input = format!("{} with a gap of {} ({})", show::hex(input), beside.gap, order);
+            let input = format!("{} with a gap of {} ({})", input(), beside.gap, order);
             (input, "compare test --only 'side by side'".to_string())
         });
     }
@@ -125,7 +135,7 @@ pub fn test(scale: usize, seed: u64, only: Option<String>) -> Report {
         c.other("captures of good frames", capture_check::faults(&frames));
     });
     let missing = checker.seen.missing();
-    class(&mut checker, &mut report, "met: every number, kind, mark, PID, route length and listed difference", |c| c.missing(missing));
+    class(&mut checker, &mut report, "met: every number, kind, mark, PID, route length, room, search and listed difference", |c| c.missing(missing));
     report::totals(&mut report, &checker.seen);
     report.extra("seed", seed.to_string());
     report.extra("scale", scale.to_string());
@@ -144,6 +154,7 @@ fn octets(checker: &mut Checker, report: &mut Report, scale: usize, seeds: &mut 
     run("octets: every pair of the first two SSID octets", &mut |each| inputs::ssid_pairs(each));
     run("octets: every octet at every address place, 0 to 9 repeaters", &mut |each| inputs::address_places(each));
     run("octets: leading nulls", &mut |each| inputs::leading_nulls(each));
+    run("octets: first nonzero and first odd octet at each place of a search by eights", &mut |each| inputs::searches(each));
     run("octets: every prefix of good frames", &mut |each| inputs::prefixes(each));
     run("octets: every bit of good frames damaged", &mut |each| inputs::single_bits(each));
     run("octets: every two bits of good frames damaged", &mut |each| inputs::double_bits(each));
@@ -154,7 +165,7 @@ fn octets(checker: &mut Checker, report: &mut Report, scale: usize, seeds: &mut 
     run("octets: long inputs, to 131,074", &mut |each| inputs::long(f, each));
 }
 
-/// Every length of info to 100 with every gap to 40, and seeded frames.
+/// Every length of info to 100 with every gap to 40; then seeded frames, damaged ones, and inputs that each search refuses.
 fn side_by_side(checker: &mut Checker, report: &mut Report, scale: usize, seed: u64) {
     class(checker, report, "octets: input and output side by side", |class| {
         for length in 0..=100 {
@@ -167,8 +178,16 @@ fn side_by_side(checker: &mut Checker, report: &mut Report, scale: usize, seed: 
             }
         }
         let mut gaps = Rng::new(seed);
-        inputs::frames(seed, 20_000 * scale, &mut |input| {
-            class.beside(input, &Beside { gap: gaps.within(0, 40), output_first: gaps.chance(2) });
+        let mut each = |input: &[u8]| class.beside(input, &Beside { gap: gaps.within(0, 40), output_first: gaps.chance(2) });
+        inputs::frames(seed, 20_000 * scale, &mut each);
+        inputs::damaged(seed, 10_000 * scale, &mut each);
+        inputs::prefixes(&mut each);
+        (0..=100).for_each(|length| each(&vec![0; length]));
+    });
+    class(checker, report, "records: those that the Rust can't hold, info and output side by side", |class| {
+        let mut gaps = Rng::new(seed);
+        records::seeded_unholdable(seed, 5_000 * scale, &mut |record, info| {
+            class.record_beside(record, info, &Beside { gap: gaps.within(0, 40), output_first: gaps.chance(2) });
         });
     });
 }

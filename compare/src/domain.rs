@@ -23,12 +23,17 @@ pub const LISTED: [(Listed, &str); 4] = [
     (Listed::B4, "too little room, lent on purpose"),
 ];
 
+/// Where the address field starts and ends.
+pub fn field(input: &[u8]) -> Option<(usize, usize)> {
+    let start = input.iter().position(|&octet| octet != 0)?;
+    let end = input.iter().position(|&octet| octet % 2 == 1)?;
+    Some((start, end))
+}
+
 /// The repeaters of an input that has an address field and something after it.
 pub fn repeaters(input: &[u8]) -> usize {
-    let start = input.iter().position(|&octet| octet != 0);
-    let end = input.iter().position(|&octet| octet % 2 == 1);
-    match (start, end) {
-        (Some(start), Some(end)) if end + 1 < input.len() => (end - start + 1).saturating_sub(14) / 7,
+    match field(input) {
+        Some((start, end)) if end + 1 < input.len() => (end - start + 1).saturating_sub(14) / 7,
         _ => 0,
     }
 }

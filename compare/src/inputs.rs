@@ -139,6 +139,28 @@ pub fn leading_nulls(each: Each) {
     }
 }
 
+/// The first nonzero octet, each of its bits alone and all of them, at each place of a search by eights, and the first odd octet there
+/// or at each place after it. What follows lets the last eight be whole, or leaves the found octet to the rest.
+pub fn searches(each: Each) {
+    let tails = [&[][..], &[0x00], &[0x01], &[0x03, 0xF0, 0x41], &[0x00; 8], &[0xFF; 9], &FRAME];
+    for nulls in 0..=25 {
+        for first in [0x01, 0xFF, 0x02, 0x04, 0x08, 0x10, 0x20, 0x40, 0x80, 0xFE] {
+            let mut input = vec![0; nulls];
+            input.push(first);
+            if first % 2 == 1 {
+                tails.iter().for_each(|tail| each(&[&input[..], tail].concat()));
+                continue;
+            }
+            for between in 0..=24 {
+                for (even, odd) in [(0x00, 0x01), (0xFE, 0xFF)] {
+                    let field = [&input[..], &vec![even; between], &[odd]].concat();
+                    tails[..5].iter().for_each(|tail| each(&[&field[..], tail].concat()));
+                }
+            }
+        }
+    }
+}
+
 pub fn single_bits(each: Each) {
     for frame in good_frames() {
         for bit in 0..8 * frame.len() {

@@ -309,11 +309,18 @@ impl Beside {
 }
 
 impl Port {
-    /// Runs a call on an input and an output side by side, the output with room just for `octets`; whether these are then
-    /// there, and all else is as it was.
-    fn side_by_side(&mut self, input: &[u8], octets: &[u8], beside: &Beside, call: impl FnOnce(*const u8, *mut u8) -> u32) -> (u32, bool) {
-        let (input_at, output_at) = beside.places(input.len(), octets.len());
-        let mut image = vec![0x5A; input.len() + octets.len() + beside.gap];
+    /// Runs a call on an input and an output of this room side by side; whether `octets` are then at the output's start, and
+    /// all else is as it was.
+    fn side_by_side(
+        &mut self,
+        input: &[u8],
+        room: usize,
+        octets: &[u8],
+        beside: &Beside,
+        call: impl FnOnce(*const u8, *mut u8) -> u32,
+    ) -> (u32, bool) {
+        let (input_at, output_at) = beside.places(input.len(), room);
+        let mut image = vec![0x5A; input.len() + room + beside.gap];
         image[input_at..input_at + input.len()].copy_from_slice(input);
         self.output.hold(&image);
         let storage = self.output.mut_ptr();
@@ -323,14 +330,14 @@ impl Port {
         (number, self.output.is(&image))
     }
 
-    pub fn reencode_beside(&mut self, input: &[u8], octets: &[u8], beside: &Beside) -> (u32, bool) {
-        self.side_by_side(input, octets, beside, |from, to| unsafe { ax25_reencode(from, input.len(), to, octets.len()) })
+    pub fn reencode_beside(&mut self, input: &[u8], room: usize, octets: &[u8], beside: &Beside) -> (u32, bool) {
+        self.side_by_side(input, room, octets, beside, |from, to| unsafe { ax25_reencode(from, input.len(), to, room) })
     }
 
-    pub fn encode_beside(&mut self, record: &[u8], info: &[u8], octets: &[u8], beside: &Beside) -> (u32, bool) {
-        let mut length = [0];
-        let (number, holds) = self.side_by_side(info, octets, beside, |from, to| unsafe {
-            probe_encode(record.as_ptr(), record.len(), from, info.len(), to, octets.len(), length.as_mut_ptr(), 1)
+    pub fn encode_beside(&mut self, record: &[u8], info: &[u8], room: usize, octets: &[u8], beside: &Beside) -> (u32, bool) {
+        let mut length = [usize::MAX];
+        let (number, holds) = self.side_by_side(info, room, octets, beside, |from, to| unsafe {
+            probe_encode(record.as_ptr(), record.len(), from, info.len(), to, room, length.as_mut_ptr(), 1)
         });
         (number, holds && length[0] == octets.len())
     }

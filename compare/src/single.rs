@@ -26,7 +26,7 @@ pub fn each(words: &[&str], mut check: impl FnMut(&str) -> bool) -> bool {
 }
 
 pub fn one(input: &[u8]) -> bool {
-    let mut checker = Checker::new();
+    let mut checker = Checker::thorough();
     println!("input: {} octets: {}", input.len(), show::hex(input));
     if domain::repeaters(input) > flat::REPEATERS {
         println!("outside the domain of equality (B1): {} repeaters, the port owes 9", domain::repeaters(input));
@@ -80,7 +80,7 @@ fn show_rust_address(read: Result<Address, u32>) {
 
 pub fn text(text: &[u8]) -> bool {
     println!("text: {} ({})", show::text(text), show::hex(text));
-    let mut checker = Checker::new();
+    let mut checker = Checker::thorough();
     match std::str::from_utf8(text) {
         Ok(text) => show_rust_address(oracle::from_str(text)),
         Err(_) => println!("Rust: can't be asked, the octets are no UTF-8"),
@@ -93,7 +93,7 @@ pub fn text(text: &[u8]) -> bool {
 
 pub fn parts(callsign: &[u8], ssid: u8) -> bool {
     println!("callsign: {} ({}) SSID {}", show::text(callsign), show::hex(callsign), ssid);
-    let mut checker = Checker::new();
+    let mut checker = Checker::thorough();
     match std::str::from_utf8(callsign) {
         Ok(callsign) => show_rust_address(oracle::from_parts(callsign, ssid)),
         Err(_) => println!("Rust: can't be asked, the octets are no UTF-8"),
@@ -107,7 +107,7 @@ pub fn parts(callsign: &[u8], ssid: u8) -> bool {
 pub fn print(address: &[u8]) -> bool {
     let whole = padded::<ADDRESS>(address);
     println!("address: {}", show::address(&whole));
-    let mut checker = Checker::new();
+    let mut checker = Checker::thorough();
     if domain::encodable(&whole) {
         println!("Rust: {:?}", flat::addresses(&[whole])[0].to_string());
     } else {
@@ -122,7 +122,7 @@ pub fn print(address: &[u8]) -> bool {
 pub fn record(record: &[u8], info: &[u8]) -> bool {
     let whole = padded::<FLAT>(record);
     println!("record: {} info {}", show::record(&whole), show::hex(info));
-    let mut checker = Checker::new();
+    let mut checker = Checker::thorough();
     match domain::record_number(&whole, info) {
         0 => println!("Rust: writes {}", show::hex(&flat::to_frame(&whole, info).to_bytes())),
         number => println!("outside the domain of equality (B3): the port owes {}", number),
@@ -143,7 +143,7 @@ pub fn simple_ui(source: &[u8], destination: &[u8], info: &[u8]) -> bool {
     }
     let known = flat::addresses(&[from, to]);
     println!("Rust: {:?}", Ax25Frame::new_simple_ui_frame(known[0].clone(), known[1].clone(), info.to_vec()));
-    let mut checker = Checker::new();
+    let mut checker = Checker::thorough();
     let number = checker.port.simple_ui(source, destination, FLAT);
     println!("port: number {} {}", number, show::record(&padded(checker.port.output())));
     verdict(checker.simple_ui(source, destination, info))
