@@ -275,20 +275,20 @@ impl Seen {
     fn missing_writes(&self, missing: &mut Missing) {
         for ((writer, who), written) in WRITERS.into_iter().zip(&self.written) {
             let kinds = if let Writer::MadeUp = writer { &written.kinds[..] } else { &written.kinds[..READ_KINDS] };
-            missing.rooms(&format!("{}, kind", who), kinds);
-            missing.rooms(&format!("{}, mark", who), &written.marks);
-            missing.rooms(&format!("{}, PID", who), &written.pids);
-            missing.rooms(&format!("{}, repeaters", who), &written.routes);
+            missing.rooms_by_case(&format!("{}, kind", who), kinds);
+            missing.rooms_by_case(&format!("{}, mark", who), &written.marks);
+            missing.rooms_by_case(&format!("{}, PID", who), &written.pids);
+            missing.rooms_by_case(&format!("{}, repeaters", who), &written.routes);
         }
         for kind in [I, RR, RNR, REJ, FRMR] {
             let large = self.written[Writer::MadeUp as usize].large[usize::from(kind)];
-            missing.rooms(&format!("a sequence number of 8 or more, {}", KINDS[usize::from(kind)]), &[large]);
+            missing.rooms(&format!("a sequence number of 8 or more, {}", KINDS[usize::from(kind)]), large);
         }
         for (name, writers) in &self.classes {
             for (writer, who) in WRITERS {
                 let rooms = writers[writer as usize];
                 if rooms != Rooms::default() {
-                    missing.rooms(&format!("{} in the class '{}'", who, name), &[rooms]);
+                    missing.rooms(&format!("{} in the class '{}'", who, name), rooms);
                 }
             }
         }
@@ -309,10 +309,14 @@ impl Missing {
         self.0.extend(absent.map(|(case, _)| format!("{} {}", what, case)));
     }
 
-    fn rooms(&mut self, what: &str, table: &[Rooms]) {
-        for (case, rooms) in table.iter().enumerate() {
-            let absent = ROOMS.iter().filter(|&&(room, _)| rooms[room as usize] == 0);
-            self.0.extend(absent.map(|(_, name)| format!("{} (case {}) in a room that is {}", what, case, name)));
+    fn rooms(&mut self, what: &str, rooms: Rooms) {
+        let absent = ROOMS.iter().filter(|&&(room, _)| rooms[room as usize] == 0);
+        self.0.extend(absent.map(|(_, name)| format!("{}: room that is {}", what, name)));
+    }
+
+    fn rooms_by_case(&mut self, what: &str, table: &[Rooms]) {
+        for (case, &rooms) in table.iter().enumerate() {
+            self.rooms(&format!("{} {}", what, case), rooms);
         }
     }
 }
