@@ -1,7 +1,8 @@
 //! The port's calls, by the two archives: `loader` is the product, `probe` shows what the product's calls leave inside.
 
-use crate::flat::{Decode, ADDRESS, FLAT};
+use crate::flat::{self, Decode, Flat, ADDRESS, FLAT, NOCALL};
 use crate::lent::{self, Lent};
+use ax25::frame::Ax25Frame;
 
 #[link(name = "loader", kind = "static")]
 extern "C" {
@@ -51,22 +52,45 @@ extern "C" {
         record_len: usize,
     ) -> u32;
     fn probe_default(record: *mut u8, record_len: usize) -> u32;
+    fn probe_hops(record: *const u8, record_len: usize, numbers: *mut usize, numbers_len: usize) -> u32;
+    fn probe_same_station(one: *const u8, one_len: usize, other: *const u8, other_len: usize) -> u32;
+    fn probe_content(input: *const u8, input_len: usize, content: *mut u8, content_len: usize) -> u32;
+    fn probe_content_encode(
+        content: *const u8,
+        content_len: usize,
+        info: *const u8,
+        info_len: usize,
+        out: *mut u8,
+        out_len: usize,
+        length: *mut usize,
+        length_len: usize,
+    ) -> u32;
 }
 
 /// The number of places that `probe_decode` gives: start, end, length, and info's start and length.
 pub const PLACES: usize = 5;
+/// The number of numbers that `probe_hops` gives: hop set, hops used, due place.
+pub const HOPS: usize = 3;
 
 pub struct Port {
     input: Lent<u8>,
     second: Lent<u8>,
     output: Lent<u8>,
     sizes: Lent<usize>,
+    default_record: Flat,
     fault: Option<&'static str>,
 }
 
 impl Port {
     pub fn new() -> Port {
-        Port { input: lent::octets(), second: lent::octets(), output: lent::octets(), sizes: lent::sizes(), fault: None }
+        Port {
+            input: lent::octets(),
+            second: lent::octets(),
+            output: lent::octets(),
+            sizes: lent::sizes(),
+            default_record: flat::of_frame(&Ax25Frame::default()),
+            fault: None,
+        }
     }
 
     /// The first fault since this was last asked: something was written that should not have been.
@@ -151,12 +175,15 @@ impl Port {
         number
     }
 
+    /// A refusal leaves no record: its record here is the default frame's, as document 01 has it.
     pub fn decode(&mut self, input: &[u8]) -> Decode {
         let number = self.decode_into(input, FLAT, PLACES);
-        let holds = self.output.written_only(FLAT) && self.sizes.written_only(PLACES);
-        self.see(holds, "something beside the record or the places was written");
-        let mut record = [0; FLAT];
-        record.copy_from_slice(self.output.items());
+        let holds = self.output.written_only(left(number, FLAT)) && self.sizes.written_only(PLACES);
+        self.see(holds, "something beside the record or the places was written, or a refusal touched the record");
+        let mut record = self.default_record;
+        if number == 0 {
+            record.copy_from_slice(self.output.items());
+        }
         let places = self.sizes.items();
         let (start, end, length) = (places[0], places[1], places[2]);
         let (info_start, info_len) = (places[3], places[4]);
@@ -228,19 +255,22 @@ impl Port {
 
     pub fn from_parts(&mut self, callsign: &[u8], ssid: u8) -> (u32, [u8; ADDRESS]) {
         let number = self.from_parts_into(callsign, ssid, ADDRESS);
-        (number, self.one_address())
+        (number, self.one_address(number))
     }
 
     pub fn from_str(&mut self, text: &[u8]) -> (u32, [u8; ADDRESS]) {
         let number = self.from_str_into(text, ADDRESS);
-        (number, self.one_address())
+        (number, self.one_address(number))
     }
 
-    fn one_address(&mut self) -> [u8; ADDRESS] {
-        let holds = self.output.written_only(ADDRESS);
-        self.see(holds, "something beside the address was written");
-        let mut address = [0; ADDRESS];
-        address.copy_from_slice(self.output.items());
+    /// The address of a refusal is NOCALL, because the call leaves none.
+    fn one_address(&mut self, number: u32) -> [u8; ADDRESS] {
+        let holds = self.output.written_only(left(number, ADDRESS));
+        self.see(holds, "something beside the address was written, or a refusal touched it");
+        let mut address = NOCALL;
+        if number == 0 {
+            address.copy_from_slice(self.output.items());
+        }
         address
     }
 
@@ -288,6 +318,78 @@ impl Port {
         let number = unsafe { probe_default(self.output.mut_ptr(), room) };
         number
     }
+
+    /// Leaves the hop set, the hops used and the due place in the sizes.
+    pub fn hops_into(&mut self, record: &[u8], sizes: usize) -> u32 {
+        self.input.hold(record);
+        self.sizes.room(sizes);
+        let number = unsafe { probe_hops(self.input.ptr(), self.input.len(), self.sizes.mut_ptr(), sizes) };
+        self.see_input(record);
+        number
+    }
+
+    /// The number, and the hop set, the hops used and the due place.
+    pub fn hops(&mut self, record: &[u8]) -> (u32, [usize; HOPS]) {
+        let number = self.hops_into(record, HOPS);
+        let holds = self.sizes.written_only(HOPS);
+        self.see(holds, "something beside the hops was written");
+        let mut hops = [0; HOPS];
+        hops.copy_from_slice(self.sizes.items());
+        (number, hops)
+    }
+
+    pub fn same_station(&mut self, one: &[u8], other: &[u8]) -> u32 {
+        self.input.hold(one);
+        self.second.hold(other);
+        let same =
+            unsafe { probe_same_station(self.input.ptr(), self.input.len(), self.second.ptr(), self.second.len()) };
+        self.see_input(one);
+        self.see_second(other);
+        same
+    }
+
+    /// Leaves the flat content in the output.
+    pub fn content(&mut self, input: &[u8], room: usize) -> u32 {
+        self.input.hold(input);
+        self.output.room(room);
+        let number = unsafe { probe_content(self.input.ptr(), self.input.len(), self.output.mut_ptr(), room) };
+        self.see_input(input);
+        number
+    }
+
+    /// Leaves its octets in the output and their length in the sizes.
+    pub fn encode_content_into(&mut self, content: &[u8], info: &[u8], room: usize, sizes: usize) -> u32 {
+        self.input.hold(content);
+        self.second.hold(info);
+        self.output.room(room);
+        self.sizes.room(sizes);
+        let number = unsafe {
+            probe_content_encode(
+                self.input.ptr(),
+                self.input.len(),
+                self.second.ptr(),
+                self.second.len(),
+                self.output.mut_ptr(),
+                room,
+                self.sizes.mut_ptr(),
+                sizes,
+            )
+        };
+        self.see_input(content);
+        self.see_second(info);
+        number
+    }
+
+    /// The number and the length; the octets are in the output.
+    pub fn encode_content(&mut self, content: &[u8], info: &[u8], room: usize) -> (u32, usize) {
+        let number = self.encode_content_into(content, info, room, 1);
+        (number, self.one_size())
+    }
+}
+
+/// How much a call with this number leaves in lent octets: no refusal touches them.
+fn left(number: u32, accepted: usize) -> usize {
+    if number == 0 { accepted } else { 0 }
 }
 
 /// Two buffers in one piece of storage, so that one ends where the other starts, or a few octets before: where a compiler
