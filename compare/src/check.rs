@@ -2,10 +2,12 @@
 //! does on document 01's domain of equality, and as docs/DIFFERENCES.md lists outside it.
 
 use crate::domain::{self, Listed};
-use crate::flat::{self, Decode, Flat, FlatAddress, ADDRESS, FLAT, NOCALL};
+use crate::flat::{self, Decode, Flat, FlatAddress, ADDRESS, FLAT, KIND};
+use crate::inputs::{self, FIELD};
 use crate::lent::{rooms, Room, Tried, LONGER};
 use crate::oracle::{self, Refusal};
-use crate::port::{Beside, Port, PLACES};
+use crate::port::{Beside, Port, HOPS, PLACES};
+use crate::records;
 use crate::rng::Rng;
 use crate::seen::{Seen, Writer};
 use crate::show;
@@ -30,6 +32,9 @@ pub struct Checker {
     /// Draws the rooms.
     draw: Rng,
 }
+
+/// The octets of a flat record's content.
+const CONTENT: usize = FLAT - KIND;
 
 impl Checker {
     pub fn new() -> Checker {
@@ -69,7 +74,7 @@ impl Checker {
         }
         let (owed, rest) = self.port.output().split_at(owed.min(self.port.output().len()));
         let touched = if self.port.rest_is_as_it_was(owed.len()) { "as it was" } else { "NOT as it was" };
-        format!("{} and then, {}, {}", show::hex(owed), touched, show::hex(rest))
+        format!("{} and then, {}, {}", show::left(owed), touched, show::hex(rest))
     }
 
     /// Octets off the air: decoded, written again, and by the loader's four calls.
@@ -151,10 +156,14 @@ impl Checker {
         self.refused(input, Refusal { number: 9, start: 0, end: 0, length: 0 });
     }
 
+    /// The number, the places, and the record, which a refusal leaves alone.
     fn decode(&mut self, input: &[u8], owed: &Decode) {
-        let port = self.port.decode(input);
-        if port != *owed {
-            self.differ("decode", || show::decode(owed), |_| show::decode(&port));
+        let record = if owed.number == 0 { &owed.record[..] } else { &[] };
+        let places = [owed.start, owed.end, owed.length, owed.info_start, owed.info_len];
+        let number = self.port.decode(input, FLAT, PLACES);
+        if number != owed.number || !self.port.output_is(record) || !self.port.sizes_are(&places) {
+            let owes = || show::decode(owed.number, &places, &show::left(record));
+            self.differ("decode", owes, |me| show::decode(number, me.port.sizes(), &me.output(FLAT)));
         }
     }
 
@@ -304,11 +313,14 @@ impl Checker {
         self.finish()
     }
 
-    fn address(&mut self, what: &str, owed: (u32, FlatAddress), port: (u32, FlatAddress)) {
-        self.seen.text(owed.0);
-        if owed != port {
-            let say = |(number, read): (u32, FlatAddress)| format!("number {} {}", show::number(number), show::address(&read));
-            self.differ(what, || say(owed), |_| say(port));
+    /// Whether the last call read this address, or refused by this number and left the octets alone.
+    fn address(&mut self, what: &str, owed: Result<FlatAddress, u32>, number: u32) {
+        let owed_number = owed.err().unwrap_or(0);
+        let octets = owed.as_ref().map_or(&[][..], |address| &address[..]);
+        self.seen.text(owed_number);
+        if number != owed_number || !self.port.output_is(octets) {
+            let owes = || format!("number {} address {}", show::number(owed_number), show::left(octets));
+            self.differ(what, owes, |me| format!("number {} address {}", number, me.output(ADDRESS)));
         }
     }
 
@@ -316,21 +328,21 @@ impl Checker {
     pub fn text(&mut self, text: &[u8]) -> Vec<Difference> {
         let callsign = text.split(|&octet| octet == b'-').next().unwrap_or(&[]);
         let owed = self.owed_of_text(text, callsign, oracle::from_str);
-        let port = self.port.from_str(text);
-        self.address("text", owed, port);
+        let number = self.port.from_str(text, ADDRESS);
+        self.address("text", owed, number);
         self.finish()
     }
 
     /// A callsign and an SSID to an address.
     pub fn parts(&mut self, callsign: &[u8], ssid: u8) -> Vec<Difference> {
         let owed = self.owed_of_text(callsign, callsign, |text| oracle::from_parts(text, ssid));
-        let port = self.port.from_parts(callsign, ssid);
-        self.address("from_parts", owed, port);
+        let number = self.port.from_parts(callsign, ssid, ADDRESS);
+        self.address("from_parts", owed, number);
         self.finish()
     }
 
     /// The Rust's answer for ASCII text. Else 35, and the Rust takes letters of any script, where it has a text at all.
-    fn owed_of_text<F>(&mut self, text: &[u8], callsign: &[u8], ask: F) -> (u32, FlatAddress)
+    fn owed_of_text<F>(&mut self, text: &[u8], callsign: &[u8], ask: F) -> Result<FlatAddress, u32>
     where
         F: Fn(&str) -> Result<ax25::frame::Address, u32>,
     {
@@ -340,12 +352,9 @@ impl Checker {
             if let Ok(rust) = rust {
                 self.wide(text, callsign, rust);
             }
-            return (35, NOCALL);
+            return Err(35);
         }
-        match rust.expect("ASCII is UTF-8") {
-            Ok(address) => (0, flat::of_address(&address)),
-            Err(number) => (number, NOCALL),
-        }
+        rust.expect("ASCII is UTF-8").map(|address| flat::of_address(&address))
     }
 
     fn wide(&mut self, text: &[u8], callsign: &[u8], rust: Result<ax25::frame::Address, u32>) {
@@ -415,12 +424,110 @@ impl Checker {
         self.write(&owed, &owed, info, &frame.to_bytes());
     }
 
+    /// Content alone, from its control octet on: read, and written again. The Rust's reader of content can be asked only by way of
+    /// a frame.
+    pub fn content(&mut self, content: &[u8]) -> Vec<Difference> {
+        match oracle::read(&inputs::with_content(content)) {
+            Ok(frame) => {
+                let record = flat::of_frame(&frame);
+                self.read_content(content, 0, &record[KIND..]);
+                self.seen.writes += 1;
+                let octets = &frame.to_bytes()[FIELD..];
+                for room in self.rooms(Tried::Some, octets.len()) {
+                    self.seen.written(Writer::Content, &record, Room::of(room, octets.len()));
+                    self.write_content(&record[KIND..], flat::info_of(&frame).unwrap_or(&[]), 0, octets, room);
+                }
+            }
+            Err(_) if content.is_empty() => {
+                self.seen.listed(Listed::B5);
+                self.read_content(content, 4, &[]);
+            }
+            Err(refusal) => self.read_content(content, refusal.number, &[]),
+        }
+        self.finish()
+    }
+
+    fn read_content(&mut self, content: &[u8], owed: u32, octets: &[u8]) {
+        self.seen.content(owed);
+        let number = self.port.content(content, CONTENT + LONGER);
+        if number != owed || !self.port.output_is(octets) {
+            let says = |me: &Checker| format!("number {} content {}", number, me.output(CONTENT));
+            self.differ("content alone", || format!("number {} content {}", show::number(owed), show::left(octets)), says);
+        }
+    }
+
+    /// Content that was made up, octets past its end being 0, and info: written alone.
+    pub fn content_record(&mut self, content: &[u8], info: &[u8]) -> Vec<Difference> {
+        let mut whole = records::base(flat::I);
+        whole[KIND..].copy_from_slice(&padded::<CONTENT>(content));
+        match domain::record_number(&whole, info) {
+            0 => {
+                let frame = flat::to_frame(&whole, info);
+                let octets = &frame.to_bytes()[FIELD..];
+                self.seen.writes += 1;
+                for room in self.rooms(Tried::Each, octets.len()) {
+                    self.seen.written(Writer::Content, &flat::of_frame(&frame), Room::of(room, octets.len()));
+                    self.write_content(content, info, 0, octets, room);
+                }
+            }
+            number => {
+                self.seen.listed(Listed::B3);
+                self.seen.content(number);
+                for room in [0, 1, info.len() + LONGER] {
+                    self.write_content(content, info, number, &[], room);
+                }
+            }
+        }
+        self.finish()
+    }
+
+    fn write_content(&mut self, content: &[u8], info: &[u8], number: u32, octets: &[u8], room: usize) {
+        let (number, octets) = self.owed_in(Writer::Content, room, number, octets);
+        let port = self.port.encode_content(content, info, room);
+        if port != (number, octets.len()) || !self.port.output_is(octets) {
+            let says = |me: &Checker| format!("number {} length {} written {}", port.0, port.1, me.output(octets.len()));
+            self.differ(&format!("writing content into {} octets", room), || show::written(number, octets.len(), octets), says);
+        }
+    }
+
+    /// The hops of a record, octets past its end being 0. The Rust has none: the model is document 01's words.
+    pub fn hops(&mut self, record: &[u8]) -> Vec<Difference> {
+        let whole = padded::<FLAT>(record);
+        let owed = domain::hops(&whole);
+        self.seen.hops(&whole, owed[1]);
+        let number = self.port.hops(record, HOPS);
+        if number != 0 || !self.port.sizes_are(&owed) {
+            let says = |me: &Checker| format!("number {} hop set, hops used, due place {:?}", number, me.port.sizes());
+            self.differ("hops", || format!("number 0 hop set, hops used, due place {:?}", owed), says);
+        }
+        self.finish()
+    }
+
+    /// Whether two flat addresses, octets past their ends being 0, are of the same station: as the Rust says where it can hold both,
+    /// else by callsign and SSID, which are all the octets.
+    pub fn same_station(&mut self, one: &[u8], other: &[u8]) -> Vec<Difference> {
+        let pair = [padded::<ADDRESS>(one), padded(other)];
+        let held = pair.iter().all(domain::encodable);
+        let same = if held {
+            let known = flat::addresses(&pair);
+            known[0] == known[1]
+        } else {
+            pair[0] == pair[1]
+        };
+        self.seen.stations(held, same);
+        let port = self.port.same_station(one, other);
+        if port != u32::from(same) {
+            self.differ("same station", || u32::from(same).to_string(), |_| port.to_string());
+        }
+        self.finish()
+    }
+
     /// The refusals that are `probe`'s own: a lent buffer shorter than what is to be left there.
     pub fn short_buffers(&mut self, input: &[u8], short: usize) -> Vec<Difference> {
         let record = short % FLAT;
-        let number = self.port.decode_into(input, record, PLACES);
+        let number = self.port.decode(input, record, PLACES);
         self.untouched("probe_decode, short record", number);
-        let number = self.port.decode_into(input, FLAT, short % PLACES);
+        let number = self.port.decode(input, FLAT, short % PLACES);
         self.untouched("probe_decode, short places", number);
         let number = self.port.encode_into(input, input, FLAT, 0);
         self.untouched("probe_encode, no length", number);
@@ -428,14 +535,20 @@ impl Checker {
         self.untouched("probe_again, short record", number);
         let number = self.port.print_into(input, FLAT, 0);
         self.untouched("probe_print, no length", number);
-        let number = self.port.from_str_into(input, short % ADDRESS);
+        let number = self.port.from_str(input, short % ADDRESS);
         self.untouched("probe_from_str, short address", number);
-        let number = self.port.from_parts_into(input, 0, short % ADDRESS);
+        let number = self.port.from_parts(input, 0, short % ADDRESS);
         self.untouched("probe_from_parts, short address", number);
         let number = self.port.simple_ui(input, input, record);
         self.untouched("probe_simple_ui, short record", number);
         let number = self.port.default(record);
         self.untouched("probe_default, short record", number);
+        let number = self.port.content(input, short % CONTENT);
+        self.untouched("probe_content, short content", number);
+        let number = self.port.encode_content_into(input, input, FLAT, 0);
+        self.untouched("probe_content_encode, no length", number);
+        let number = self.port.hops(input, short % HOPS);
+        self.untouched("probe_hops, short numbers", number);
         self.finish()
     }
 

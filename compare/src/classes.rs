@@ -104,6 +104,32 @@ impl Class<'_> {
         });
     }
 
+    fn content(&mut self, content: &[u8]) {
+        let found = self.checker.content(content);
+        self.done(found, || (format!("content {}", show::hex(content)), format!("compare content '{}'", show::hex(content))));
+    }
+
+    fn content_record(&mut self, content: &[u8], info: &[u8]) {
+        let found = self.checker.content_record(content, info);
+        self.done(found, || {
+            let (content, info) = (show::hex(content), show::hex(info));
+            (format!("flat content {} info {}", content, info), format!("compare content-record '{}' '{}'", content, info))
+        });
+    }
+
+    fn hops(&mut self, record: &[u8]) {
+        let found = self.checker.hops(record);
+        self.done(found, || (format!("record {}", show::hex(record)), format!("compare hops '{}'", show::hex(record))));
+    }
+
+    fn same_station(&mut self, one: &[u8], other: &[u8]) {
+        let found = self.checker.same_station(one, other);
+        self.done(found, || {
+            let (one, other) = (show::hex(one), show::hex(other));
+            (format!("addresses {} and {}", one, other), format!("compare same-station '{}' '{}'", one, other))
+        });
+    }
+
     fn other(&mut self, name: &str, found: Vec<Difference>) {
         self.done(found, || (name.to_string(), "compare test".to_string()));
     }
@@ -130,6 +156,8 @@ pub fn test(scale: usize, seed: u64, only: Option<String>) -> Report {
     frame_records(&mut checker, &mut report, scale, &mut seeds);
     side_by_side(&mut checker, &mut report, scale, seeds.next());
     address_texts(&mut checker, &mut report, scale, &mut seeds);
+    contents(&mut checker, &mut report, scale, &mut seeds);
+    hops_and_stations(&mut checker, &mut report, scale, &mut seeds);
     class(&mut checker, &mut report, "captures: each format comes back, and what can't be read is refused", |c| {
         let frames: Vec<Vec<u8>> = inputs::good_frames().into_iter().chain([vec![0xC0, 0xDB, 0xDC, 0xDD, 0xC0]]).collect();
         c.other("captures of good frames", capture_check::faults(&frames));
@@ -148,9 +176,9 @@ fn octets(checker: &mut Checker, report: &mut Report, scale: usize, seeds: &mut 
     };
     let [a, b, c, d, e, f] = [0; 6].map(|_: u64| seeds.next());
     run("octets: every string of 0 to 2", &mut |each| inputs::short(each));
-    run("octets: the example's addresses with every content of 2", &mut |each| inputs::two_octet_contents(each));
-    run("octets: every control octet, content of 0 to 6", &mut |each| inputs::controls(a, each));
-    run("octets: FRMR, every flag, number and rejected control", &mut |each| inputs::frmr(each));
+    run("octets: the example's addresses with every content of 2", &mut |each| inputs::framed(|each| inputs::pairs(each), each));
+    run("octets: every control octet, content of 0 to 6", &mut |each| inputs::framed(|each| inputs::controls(a, each), each));
+    run("octets: FRMR, every flag, number and rejected control", &mut |each| inputs::framed(|each| inputs::frmr(each), each));
     run("octets: every pair of the first two SSID octets", &mut |each| inputs::ssid_pairs(each));
     run("octets: every octet at every address place, 0 to 9 repeaters", &mut |each| inputs::address_places(each));
     run("octets: leading nulls", &mut |each| inputs::leading_nulls(each));
@@ -255,4 +283,30 @@ fn address_texts(checker: &mut Checker, report: &mut Report, scale: usize, seeds
         texts::wide_parts(d, 50_000 * scale, &mut |callsign, ssid| class.parts(callsign, ssid));
     });
     class(checker, report, "printing", |class| texts::addresses(e, 200_000 * scale, &mut |address| class.print(address)));
+}
+
+fn contents(checker: &mut Checker, report: &mut Report, scale: usize, seeds: &mut Rng) {
+    let [a, b, c] = [0; 3].map(|_: u64| seeds.next());
+    let mut run = |name: &str, body: &mut dyn FnMut(inputs::Each)| {
+        class(checker, report, name, |c| body(&mut |content| c.content(content)));
+    };
+    run("content alone: every content of 2", &mut |each| inputs::pairs(each));
+    run("content alone: every control octet, content of 0 to 6", &mut |each| inputs::controls(a, each));
+    run("content alone: seeded", &mut |each| inputs::seeded_contents(b, 60_000 * scale, each));
+    class(checker, report, "content written alone: each kind, its fields, cut short, info where there is none", |class| {
+        records::contents(c, 20_000 * scale, &mut |content, info| class.content_record(content, info));
+    });
+}
+
+fn hops_and_stations(checker: &mut Checker, report: &mut Report, scale: usize, seeds: &mut Rng) {
+    let [a, b] = [0; 2].map(|_: u64| seeds.next());
+    class(checker, report, "hops: every way to mark eight places with every count, seeded, cut short", |class| {
+        let mut each = |record: &[u8], _: &[u8]| class.hops(record);
+        records::marks(&mut each);
+        records::holdable(a, 5_000 * scale, &mut each);
+        records::cut(a, &mut each);
+    });
+    class(checker, report, "same station: each octet changed, every two SSIDs, seeded", |class| {
+        texts::stations(b, 30_000 * scale, &mut |one, other| class.same_station(one, other));
+    });
 }

@@ -1,8 +1,6 @@
 //! The port's calls, by the two archives: `loader` is the product, `probe` shows what the product's calls leave inside.
 
-use crate::flat::{self, Decode, Flat, ADDRESS, FLAT, NOCALL};
 use crate::lent::{self, Lent};
-use ax25::frame::Ax25Frame;
 
 #[link(name = "loader", kind = "static")]
 extern "C" {
@@ -77,20 +75,12 @@ pub struct Port {
     second: Lent<u8>,
     output: Lent<u8>,
     sizes: Lent<usize>,
-    default_record: Flat,
     fault: Option<&'static str>,
 }
 
 impl Port {
     pub fn new() -> Port {
-        Port {
-            input: lent::octets(),
-            second: lent::octets(),
-            output: lent::octets(),
-            sizes: lent::sizes(),
-            default_record: flat::of_frame(&Ax25Frame::default()),
-            fault: None,
-        }
+        Port { input: lent::octets(), second: lent::octets(), output: lent::octets(), sizes: lent::sizes(), fault: None }
     }
 
     /// The first fault since this was last asked: something was written that should not have been.
@@ -115,6 +105,10 @@ impl Port {
     /// The same of the lent sizes of the last call.
     pub fn sizes_are(&self, sizes: &[usize]) -> bool {
         self.sizes.is(sizes)
+    }
+
+    pub fn sizes(&self) -> &[usize] {
+        self.sizes.items()
     }
 
     fn see(&mut self, holds: bool, fault: &'static str) {
@@ -164,7 +158,7 @@ impl Port {
     }
 
     /// Leaves the record in the output and the places in the sizes.
-    pub fn decode_into(&mut self, input: &[u8], room: usize, places: usize) -> u32 {
+    pub fn decode(&mut self, input: &[u8], room: usize, places: usize) -> u32 {
         self.input.hold(input);
         self.output.room(room);
         self.sizes.room(places);
@@ -173,21 +167,6 @@ impl Port {
         };
         self.see_input(input);
         number
-    }
-
-    /// A refusal leaves no record: its record here is the default frame's, as document 01 has it.
-    pub fn decode(&mut self, input: &[u8]) -> Decode {
-        let number = self.decode_into(input, FLAT, PLACES);
-        let holds = self.output.written_only(left(number, FLAT)) && self.sizes.written_only(PLACES);
-        self.see(holds, "something beside the record or the places was written, or a refusal touched the record");
-        let mut record = self.default_record;
-        if number == 0 {
-            record.copy_from_slice(self.output.items());
-        }
-        let places = self.sizes.items();
-        let (start, end, length) = (places[0], places[1], places[2]);
-        let (info_start, info_len) = (places[3], places[4]);
-        Decode { number, start, end, length, info_start, info_len, record }
     }
 
     /// Leaves its octets in the output and their length in the sizes.
@@ -235,7 +214,7 @@ impl Port {
     }
 
     /// Leaves the address in the output.
-    pub fn from_parts_into(&mut self, callsign: &[u8], ssid: u8, room: usize) -> u32 {
+    pub fn from_parts(&mut self, callsign: &[u8], ssid: u8, room: usize) -> u32 {
         self.input.hold(callsign);
         self.output.room(room);
         let number =
@@ -245,33 +224,12 @@ impl Port {
     }
 
     /// Leaves the address in the output.
-    pub fn from_str_into(&mut self, text: &[u8], room: usize) -> u32 {
+    pub fn from_str(&mut self, text: &[u8], room: usize) -> u32 {
         self.input.hold(text);
         self.output.room(room);
         let number = unsafe { probe_from_str(self.input.ptr(), self.input.len(), self.output.mut_ptr(), room) };
         self.see_input(text);
         number
-    }
-
-    pub fn from_parts(&mut self, callsign: &[u8], ssid: u8) -> (u32, [u8; ADDRESS]) {
-        let number = self.from_parts_into(callsign, ssid, ADDRESS);
-        (number, self.one_address(number))
-    }
-
-    pub fn from_str(&mut self, text: &[u8]) -> (u32, [u8; ADDRESS]) {
-        let number = self.from_str_into(text, ADDRESS);
-        (number, self.one_address(number))
-    }
-
-    /// The address of a refusal is NOCALL, because the call leaves none.
-    fn one_address(&mut self, number: u32) -> [u8; ADDRESS] {
-        let holds = self.output.written_only(left(number, ADDRESS));
-        self.see(holds, "something beside the address was written, or a refusal touched it");
-        let mut address = NOCALL;
-        if number == 0 {
-            address.copy_from_slice(self.output.items());
-        }
-        address
     }
 
     /// Leaves the text in the output and its length in the sizes.
@@ -320,22 +278,12 @@ impl Port {
     }
 
     /// Leaves the hop set, the hops used and the due place in the sizes.
-    pub fn hops_into(&mut self, record: &[u8], sizes: usize) -> u32 {
+    pub fn hops(&mut self, record: &[u8], sizes: usize) -> u32 {
         self.input.hold(record);
         self.sizes.room(sizes);
         let number = unsafe { probe_hops(self.input.ptr(), self.input.len(), self.sizes.mut_ptr(), sizes) };
         self.see_input(record);
         number
-    }
-
-    /// The number, and the hop set, the hops used and the due place.
-    pub fn hops(&mut self, record: &[u8]) -> (u32, [usize; HOPS]) {
-        let number = self.hops_into(record, HOPS);
-        let holds = self.sizes.written_only(HOPS);
-        self.see(holds, "something beside the hops was written");
-        let mut hops = [0; HOPS];
-        hops.copy_from_slice(self.sizes.items());
-        (number, hops)
     }
 
     pub fn same_station(&mut self, one: &[u8], other: &[u8]) -> u32 {
@@ -385,11 +333,6 @@ impl Port {
         let number = self.encode_content_into(content, info, room, 1);
         (number, self.one_size())
     }
-}
-
-/// How much a call with this number leaves in lent octets: no refusal touches them.
-fn left(number: u32, accepted: usize) -> usize {
-    if number == 0 { accepted } else { 0 }
 }
 
 /// Two buffers in one piece of storage, so that one ends where the other starts, or a few octets before: where a compiler

@@ -9,13 +9,16 @@ const DECODE_NUMBERS: [u32; 10] = [0, 1, 2, 3, 4, 5, 6, 7, 8, 9];
 const WRITE_NUMBERS: [u32; 3] = [21, 22, 23];
 const TEXT_NUMBERS: [u32; 6] = [0, 31, 32, 33, 34, 35];
 const PRINT_NUMBERS: [u32; 2] = [0, 22];
+/// The numbers of content alone, read and written.
+const CONTENT_NUMBERS: [u32; 7] = [0, 4, 5, 6, 7, 8, 23];
 /// The numbers that writing an input again, side by side with it, can give.
 const BESIDE_NUMBERS: [u32; 11] = [0, 1, 2, 3, 4, 5, 6, 7, 8, 9, 24];
 const TABLE: usize = 64;
-/// The kinds that reading gives: all but the last, `UnknownContent`.
-const READ_KINDS: usize = 10;
 /// The places of a search by eights that are looked at: three turns.
 const SEARCHED: usize = 24;
+
+/// The rooms that can be lent for one octet.
+const ROOMS_OF_ONE: &[(Room, &str)] = &[ROOMS[0], ROOMS[1], ROOMS[3]];
 
 /// A count for each kind of room.
 type Rooms = [u64; ROOMS.len()];
@@ -29,15 +32,18 @@ pub enum Writer {
     Read,
     /// `probe`, from a record that was made up.
     MadeUp,
+    /// `probe`, content alone.
+    Content,
     /// Either, with the output close to the input.
     Beside,
     Print,
 }
 
-const WRITERS: [(Writer, &str); 5] = [
+const WRITERS: [(Writer, &str); 6] = [
     (Writer::Reencode, "re-encoding"),
     (Writer::Read, "writing a record that was read"),
     (Writer::MadeUp, "writing a record that was made up"),
+    (Writer::Content, "writing content alone"),
     (Writer::Beside, "writing side by side"),
     (Writer::Print, "printing"),
 ];
@@ -61,6 +67,7 @@ pub struct Seen {
     write_numbers: [u64; TABLE],
     text_numbers: [u64; TABLE],
     print_numbers: [u64; TABLE],
+    content_numbers: [u64; TABLE],
     beside_numbers: [u64; TABLE],
     /// By decode number, a refused input re-encoded into no room, into less than the input and into more.
     refused_rooms: [[u64; 3]; 10],
@@ -68,8 +75,8 @@ pub struct Seen {
     marks: [u64; 3],
     pids: [u64; 16],
     routes: [u64; REPEATERS + 1],
-    /// By writer; those of records alone are counted.
-    written: [Written; 3],
+    /// By writer; those of records, and of content, are counted.
+    written: [Written; 4],
     /// Each class with the rooms that each writer was lent in it.
     classes: Vec<(String, [Rooms; WRITERS.len()])>,
     /// By place, a first nonzero octet 01; and the first odd octet. Both apart for a place in a whole eight and one in the rest.
@@ -77,8 +84,13 @@ pub struct Seen {
     ends: [[u64; 2]; SEARCHED],
     /// By place modulo 8, an even first nonzero octet and the first odd octet after it.
     fields: [[u64; 8]; 8],
-    listed: [u64; 4],
+    listed: [u64; LISTED.len()],
     wide: [u64; 2],
+    hops_used: [u64; REPEATERS + 1],
+    /// A route count to 8, and one over it.
+    hop_counts: [u64; 2],
+    /// Pairs that the Rust can't hold, and those that it can; other stations, and the same.
+    stations: [[u64; 2]; 2],
 }
 
 fn count(table: &mut [u64], at: usize) {
@@ -126,6 +138,7 @@ impl Seen {
             write_numbers: [0; TABLE],
             text_numbers: [0; TABLE],
             print_numbers: [0; TABLE],
+            content_numbers: [0; TABLE],
             beside_numbers: [0; TABLE],
             refused_rooms: [[0; 3]; 10],
             read_kinds: [0; 11],
@@ -137,8 +150,11 @@ impl Seen {
             first_ones: [[0; 2]; SEARCHED],
             ends: [[0; 2]; SEARCHED],
             fields: [[0; 8]; 8],
-            listed: [0; 4],
+            listed: [0; LISTED.len()],
             wide: [0; 2],
+            hops_used: [0; REPEATERS + 1],
+            hop_counts: [0; 2],
+            stations: [[0; 2]; 2],
         }
     }
 
@@ -211,6 +227,20 @@ impl Seen {
         count(&mut self.print_numbers, number as usize);
     }
 
+    pub fn content(&mut self, number: u32) {
+        count(&mut self.content_numbers, number as usize);
+    }
+
+    pub fn hops(&mut self, record: &Flat, used: usize) {
+        count(&mut self.hops_used, used);
+        self.hop_counts[usize::from(usize::from(record[COUNT]) > REPEATERS)] += 1;
+    }
+
+    /// Two stations, whether the Rust can hold both, and whether they are the same.
+    pub fn stations(&mut self, held: bool, same: bool) {
+        self.stations[usize::from(held)][usize::from(same)] += 1;
+    }
+
     pub fn listed(&mut self, which: Listed) {
         self.listed[which as usize] += 1;
     }
@@ -247,14 +277,20 @@ impl Seen {
         missing.numbers("write number", &WRITE_NUMBERS, &self.write_numbers);
         missing.numbers("text number", &TEXT_NUMBERS, &self.text_numbers);
         missing.numbers("print number", &PRINT_NUMBERS, &self.print_numbers);
+        missing.numbers("content alone, number", &CONTENT_NUMBERS, &self.content_numbers);
         missing.numbers("side by side, number", &BESIDE_NUMBERS, &self.beside_numbers);
-        missing.cases("kind read, case", &self.read_kinds[..READ_KINDS]);
+        // `UnknownContent`, the last kind, is never read.
+        missing.cases("kind read, case", &self.read_kinds[..usize::from(UNKNOWN_CONTENT)]);
         missing.cases("mark read, case", &self.marks);
         missing.cases("PID read, case", &self.pids);
         missing.cases("repeaters read,", &self.routes);
         missing.cases("canonical, case", &self.canonical);
         missing.cases("listed difference, case", &self.listed);
         missing.cases("text outside ASCII that the Rust refuses or accepts, case", &self.wide);
+        missing.cases("hops used,", &self.hops_used);
+        missing.cases("hops of a count to 8 and over it, case", &self.hop_counts);
+        missing.cases("stations that the Rust can't hold, other or same: case", &self.stations[0]);
+        missing.cases("stations that the Rust can hold, other or same: case", &self.stations[1]);
         for number in 1..self.refused_rooms.len() {
             missing.cases(&format!("re-encoding refused by {} with no room, less than the input, more: case", number), &self.refused_rooms[number]);
         }
@@ -274,21 +310,28 @@ impl Seen {
     /// The same of what was written: no case, and no writer of a class, lacks a kind of room.
     fn missing_writes(&self, missing: &mut Missing) {
         for ((writer, who), written) in WRITERS.into_iter().zip(&self.written) {
-            let kinds = if let Writer::MadeUp = writer { &written.kinds[..] } else { &written.kinds[..READ_KINDS] };
-            missing.rooms_by_case(&format!("{}, kind", who), kinds);
-            missing.rooms_by_case(&format!("{}, mark", who), &written.marks);
+            let read = matches!(writer, Writer::Reencode | Writer::Read);
+            let alone = matches!(writer, Writer::Content);
+            for kind in (0..=UNKNOWN_CONTENT).filter(|&kind| !read || kind < UNKNOWN_CONTENT) {
+                let (at, name) = (usize::from(kind), KINDS[usize::from(kind)]);
+                // No room lacks two octets of content that is one.
+                let rooms = if alone && (RR..=UA).contains(&kind) { ROOMS_OF_ONE } else { &ROOMS };
+                missing.rooms(&format!("{}, {}", who, name), rooms, written.kinds[at]);
+                if !read && [I, RR, RNR, REJ, FRMR].contains(&kind) {
+                    missing.rooms(&format!("{}, {} with a number of 8 or more", who, name), rooms, written.large[at]);
+                }
+            }
             missing.rooms_by_case(&format!("{}, PID", who), &written.pids);
-            missing.rooms_by_case(&format!("{}, repeaters", who), &written.routes);
-        }
-        for kind in [I, RR, RNR, REJ, FRMR] {
-            let large = self.written[Writer::MadeUp as usize].large[usize::from(kind)];
-            missing.rooms(&format!("a sequence number of 8 or more, {}", KINDS[usize::from(kind)]), large);
+            if !alone {
+                missing.rooms_by_case(&format!("{}, mark", who), &written.marks);
+                missing.rooms_by_case(&format!("{}, repeaters", who), &written.routes);
+            }
         }
         for (name, writers) in &self.classes {
             for (writer, who) in WRITERS {
                 let rooms = writers[writer as usize];
                 if rooms != Rooms::default() {
-                    missing.rooms(&format!("{} in the class '{}'", who, name), rooms);
+                    missing.rooms(&format!("{} in the class '{}'", who, name), &ROOMS, rooms);
                 }
             }
         }
@@ -309,14 +352,14 @@ impl Missing {
         self.0.extend(absent.map(|(case, _)| format!("{} {}", what, case)));
     }
 
-    fn rooms(&mut self, what: &str, rooms: Rooms) {
-        let absent = ROOMS.iter().filter(|&&(room, _)| rooms[room as usize] == 0);
+    fn rooms(&mut self, what: &str, needed: &[(Room, &str)], rooms: Rooms) {
+        let absent = needed.iter().filter(|&&(room, _)| rooms[room as usize] == 0);
         self.0.extend(absent.map(|(_, name)| format!("{}: room that is {}", what, name)));
     }
 
     fn rooms_by_case(&mut self, what: &str, table: &[Rooms]) {
         for (case, &rooms) in table.iter().enumerate() {
-            self.rooms(&format!("{} {}", what, case), rooms);
+            self.rooms(&format!("{} {}", what, case), &ROOMS, rooms);
         }
     }
 }
