@@ -103,6 +103,10 @@ def listed(part):
     return "Listed differences met (docs/DIFFERENCES.md): " + ", ".join(f"{n} {k} times" for n, k in part["listed"].items()) + "."
 
 
+def rooms(part):
+    return "Room lent to writers: " + ", ".join(f"{name} {count} times" for name, count in part["rooms"].items()) + "."
+
+
 def markdown(report):
     count = report["checks"]
     out = ["# ax25: the laboratory's run", ""]
@@ -130,7 +134,7 @@ def markdown(report):
     out += ["## The Rust beside the port", ""]
     if report["compared"]:
         out += classes(report["compared"])
-        out += ["", f"{report['compared']['decodes']} decodes and {report['compared']['writes']} writes compared. " + listed(report["compared"]), ""]
+        out += ["", f"{report['compared']['decodes']} decodes and {report['compared']['writes']} writes compared. " + rooms(report["compared"]) + " " + listed(report["compared"]), ""]
     else:
         out += ["Not compared.", ""]
     if report["ratios"]:

@@ -42,6 +42,10 @@ compare parts-hex HEX SSID         a callsign and an SSID to an address
 compare print HEX                  an address of seven flat octets, printed
 compare record HEX INFO            a flat record and info (hex), written
 compare simple-ui HEX HEX INFO     source, destination, info (hex): new_simple_ui_frame
+compare content HEX                content alone, from its control octet on
+compare content-record HEX INFO    flat content (a record's last twelve octets) and info (hex), written alone
+compare hops HEX                   the hops of a flat record
+compare same-station HEX HEX       two addresses of seven flat octets
 compare bench                      times of both, and their ratios
 compare replay-list [N]            about N (3000) lines of the Rust's answers, for the program replay
   --json FILE    leave counts, mismatches and ratios there (test, captures, frames, bench)
@@ -134,6 +138,10 @@ fn main() {
         ["simple-ui", source, destination, info] => {
             status(single::simple_ui(&octets(source), &octets(destination), &octets(info)))
         }
+        ["content", content] => status(single::content(&octets(content))),
+        ["content-record", content, info] => status(single::content_record(&octets(content), &octets(info))),
+        ["hops", record] => status(single::hops(&octets(record))),
+        ["same-station", one, other] => status(single::same_station(&octets(one), &octets(other))),
         ["bench"] => leave(&bench::run(), &options.json),
         ["replay-list"] => replay::list(3000),
         ["replay-list", lines] => replay::list(number(lines) as usize),

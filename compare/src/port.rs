@@ -1,6 +1,5 @@
 //! The port's calls, by the two archives: `loader` is the product, `probe` shows what the product's calls leave inside.
 
-use crate::flat::{Decode, ADDRESS, FLAT};
 use crate::lent::{self, Lent};
 
 #[link(name = "loader", kind = "static")]
@@ -51,10 +50,25 @@ extern "C" {
         record_len: usize,
     ) -> u32;
     fn probe_default(record: *mut u8, record_len: usize) -> u32;
+    fn probe_hops(record: *const u8, record_len: usize, numbers: *mut usize, numbers_len: usize) -> u32;
+    fn probe_same_station(one: *const u8, one_len: usize, other: *const u8, other_len: usize) -> u32;
+    fn probe_content(input: *const u8, input_len: usize, content: *mut u8, content_len: usize) -> u32;
+    fn probe_content_encode(
+        content: *const u8,
+        content_len: usize,
+        info: *const u8,
+        info_len: usize,
+        out: *mut u8,
+        out_len: usize,
+        length: *mut usize,
+        length_len: usize,
+    ) -> u32;
 }
 
 /// The number of places that `probe_decode` gives: start, end, length, and info's start and length.
 pub const PLACES: usize = 5;
+/// The number of numbers that `probe_hops` gives: hop set, hops used, due place.
+pub const HOPS: usize = 3;
 
 pub struct Port {
     input: Lent<u8>,
@@ -91,6 +105,10 @@ impl Port {
     /// The same of the lent sizes of the last call.
     pub fn sizes_are(&self, sizes: &[usize]) -> bool {
         self.sizes.is(sizes)
+    }
+
+    pub fn sizes(&self) -> &[usize] {
+        self.sizes.items()
     }
 
     fn see(&mut self, holds: bool, fault: &'static str) {
@@ -140,7 +158,7 @@ impl Port {
     }
 
     /// Leaves the record in the output and the places in the sizes.
-    pub fn decode_into(&mut self, input: &[u8], room: usize, places: usize) -> u32 {
+    pub fn decode(&mut self, input: &[u8], room: usize, places: usize) -> u32 {
         self.input.hold(input);
         self.output.room(room);
         self.sizes.room(places);
@@ -149,18 +167,6 @@ impl Port {
         };
         self.see_input(input);
         number
-    }
-
-    pub fn decode(&mut self, input: &[u8]) -> Decode {
-        let number = self.decode_into(input, FLAT, PLACES);
-        let holds = self.output.written_only(FLAT) && self.sizes.written_only(PLACES);
-        self.see(holds, "something beside the record or the places was written");
-        let mut record = [0; FLAT];
-        record.copy_from_slice(self.output.items());
-        let places = self.sizes.items();
-        let (start, end, length) = (places[0], places[1], places[2]);
-        let (info_start, info_len) = (places[3], places[4]);
-        Decode { number, start, end, length, info_start, info_len, record }
     }
 
     /// Leaves its octets in the output and their length in the sizes.
@@ -208,7 +214,7 @@ impl Port {
     }
 
     /// Leaves the address in the output.
-    pub fn from_parts_into(&mut self, callsign: &[u8], ssid: u8, room: usize) -> u32 {
+    pub fn from_parts(&mut self, callsign: &[u8], ssid: u8, room: usize) -> u32 {
         self.input.hold(callsign);
         self.output.room(room);
         let number =
@@ -218,30 +224,12 @@ impl Port {
     }
 
     /// Leaves the address in the output.
-    pub fn from_str_into(&mut self, text: &[u8], room: usize) -> u32 {
+    pub fn from_str(&mut self, text: &[u8], room: usize) -> u32 {
         self.input.hold(text);
         self.output.room(room);
         let number = unsafe { probe_from_str(self.input.ptr(), self.input.len(), self.output.mut_ptr(), room) };
         self.see_input(text);
         number
-    }
-
-    pub fn from_parts(&mut self, callsign: &[u8], ssid: u8) -> (u32, [u8; ADDRESS]) {
-        let number = self.from_parts_into(callsign, ssid, ADDRESS);
-        (number, self.one_address())
-    }
-
-    pub fn from_str(&mut self, text: &[u8]) -> (u32, [u8; ADDRESS]) {
-        let number = self.from_str_into(text, ADDRESS);
-        (number, self.one_address())
-    }
-
-    fn one_address(&mut self) -> [u8; ADDRESS] {
-        let holds = self.output.written_only(ADDRESS);
-        self.see(holds, "something beside the address was written");
-        let mut address = [0; ADDRESS];
-        address.copy_from_slice(self.output.items());
-        address
     }
 
     /// Leaves the text in the output and its length in the sizes.
@@ -288,6 +276,63 @@ impl Port {
         let number = unsafe { probe_default(self.output.mut_ptr(), room) };
         number
     }
+
+    /// Leaves the hop set, the hops used and the due place in the sizes.
+    pub fn hops(&mut self, record: &[u8], sizes: usize) -> u32 {
+        self.input.hold(record);
+        self.sizes.room(sizes);
+        let number = unsafe { probe_hops(self.input.ptr(), self.input.len(), self.sizes.mut_ptr(), sizes) };
+        self.see_input(record);
+        number
+    }
+
+    pub fn same_station(&mut self, one: &[u8], other: &[u8]) -> u32 {
+        self.input.hold(one);
+        self.second.hold(other);
+        let same =
+            unsafe { probe_same_station(self.input.ptr(), self.input.len(), self.second.ptr(), self.second.len()) };
+        self.see_input(one);
+        self.see_second(other);
+        same
+    }
+
+    /// Leaves the flat content in the output.
+    pub fn content(&mut self, input: &[u8], room: usize) -> u32 {
+        self.input.hold(input);
+        self.output.room(room);
+        let number = unsafe { probe_content(self.input.ptr(), self.input.len(), self.output.mut_ptr(), room) };
+        self.see_input(input);
+        number
+    }
+
+    /// Leaves its octets in the output and their length in the sizes.
+    pub fn encode_content_into(&mut self, content: &[u8], info: &[u8], room: usize, sizes: usize) -> u32 {
+        self.input.hold(content);
+        self.second.hold(info);
+        self.output.room(room);
+        self.sizes.room(sizes);
+        let number = unsafe {
+            probe_content_encode(
+                self.input.ptr(),
+                self.input.len(),
+                self.second.ptr(),
+                self.second.len(),
+                self.output.mut_ptr(),
+                room,
+                self.sizes.mut_ptr(),
+                sizes,
+            )
+        };
+        self.see_input(content);
+        self.see_second(info);
+        number
+    }
+
+    /// The number and the length; the octets are in the output.
+    pub fn encode_content(&mut self, content: &[u8], info: &[u8], room: usize) -> (u32, usize) {
+        let number = self.encode_content_into(content, info, room, 1);
+        (number, self.one_size())
+    }
 }
 
 /// Two buffers in one piece of storage, so that one ends where the other starts, or a few octets before: where a compiler
@@ -309,11 +354,18 @@ impl Beside {
 }
 
 impl Port {
-    /// Runs a call on an input and an output side by side, the output with room just for `octets`; whether these are then
-    /// there, and all else is as it was.
-    fn side_by_side(&mut self, input: &[u8], octets: &[u8], beside: &Beside, call: impl FnOnce(*const u8, *mut u8) -> u32) -> (u32, bool) {
-        let (input_at, output_at) = beside.places(input.len(), octets.len());
-        let mut image = vec![0x5A; input.len() + octets.len() + beside.gap];
+    /// Runs a call on an input and an output of this room side by side; whether `octets` are then at the output's start, and
+    /// all else is as it was.
+    fn side_by_side(
+        &mut self,
+        input: &[u8],
+        room: usize,
+        octets: &[u8],
+        beside: &Beside,
+        call: impl FnOnce(*const u8, *mut u8) -> u32,
+    ) -> (u32, bool) {
+        let (input_at, output_at) = beside.places(input.len(), room);
+        let mut image = vec![0x5A; input.len() + room + beside.gap];
         image[input_at..input_at + input.len()].copy_from_slice(input);
         self.output.hold(&image);
         let storage = self.output.mut_ptr();
@@ -323,14 +375,14 @@ impl Port {
         (number, self.output.is(&image))
     }
 
-    pub fn reencode_beside(&mut self, input: &[u8], octets: &[u8], beside: &Beside) -> (u32, bool) {
-        self.side_by_side(input, octets, beside, |from, to| unsafe { ax25_reencode(from, input.len(), to, octets.len()) })
+    pub fn reencode_beside(&mut self, input: &[u8], room: usize, octets: &[u8], beside: &Beside) -> (u32, bool) {
+        self.side_by_side(input, room, octets, beside, |from, to| unsafe { ax25_reencode(from, input.len(), to, room) })
     }
 
-    pub fn encode_beside(&mut self, record: &[u8], info: &[u8], octets: &[u8], beside: &Beside) -> (u32, bool) {
-        let mut length = [0];
-        let (number, holds) = self.side_by_side(info, octets, beside, |from, to| unsafe {
-            probe_encode(record.as_ptr(), record.len(), from, info.len(), to, octets.len(), length.as_mut_ptr(), 1)
+    pub fn encode_beside(&mut self, record: &[u8], info: &[u8], room: usize, octets: &[u8], beside: &Beside) -> (u32, bool) {
+        let mut length = [usize::MAX];
+        let (number, holds) = self.side_by_side(info, room, octets, beside, |from, to| unsafe {
+            probe_encode(record.as_ptr(), record.len(), from, info.len(), to, room, length.as_mut_ptr(), 1)
         });
         (number, holds && length[0] == octets.len())
     }

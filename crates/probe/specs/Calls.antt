@@ -1,10 +1,15 @@
--- A call that is lent too little, and any other.
+-- A call that is lent too little, one that refuses, and any other.
 use Prim.Native.Nat.{ℕ}
 use mathlib.Core.Bool.{Bool, cond}
-use mathlib.Core.List.{List}
-use lib.Dec.{ltb}
+use mathlib.Core.List.{List, [], _∷_}
+use lib.Dec.{eqb, ltb}
 use lib.ListN.{length}
 use Rattle.octets.specs.Splice.{splice}
+use Rattle.parse.specs.declared.ContentAnswer.{ContentAnswer}
+use Rattle.parse.specs.declared.ContentAnswer.the-variants.{Accepted, ContentZeroLength, MissingPidField, UnrecognisedSFieldType, UnrecognisedUFieldType, WrongSizeFrmrInfo}
+use Rattle.frame.specs.declared.Ax25Frame.{Ax25Frame}
+use Rattle.hops.specs.Hops.{hopSet, hopsUsed, duePlace}
+use Rattle.flat.specs.Laid.{contentFlat}
 
 -- fewer than n are lent
 abbrev pub lacks : List ℕ → ℕ → Bool
@@ -17,3 +22,20 @@ answers short n = cond short 24 n
 -- what it leaves of a list that is lent: nothing is touched where it is lent too little, else a part stands at the start
 abbrev pub leaves : Bool → List ℕ → List ℕ → List ℕ
 leaves short l part = cond short l (splice l 0 part)
+
+-- what a call that answers n leaves of octets that are lent: a part at their start, and no refusal touches them
+abbrev pub leavesBy : ℕ → List ℕ → List ℕ → List ℕ
+leavesBy n l part = cond (eqb n 0) (splice l 0 part) l
+
+-- content that was read, flat; a refusal has none
+abbrev pub readFlat : ContentAnswer → List ℕ
+readFlat (Accepted k) = contentFlat k
+readFlat ContentZeroLength = []
+readFlat MissingPidField = []
+readFlat UnrecognisedSFieldType = []
+readFlat UnrecognisedUFieldType = []
+readFlat WrongSizeFrmrInfo = []
+
+-- the hops of a frame: hop set, hops used, due place
+abbrev pub hopsOf : Ax25Frame → List ℕ
+hopsOf f = hopSet f ∷ hopsUsed f ∷ duePlace f ∷ []

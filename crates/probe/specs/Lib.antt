@@ -1,3 +1,2 @@
-pub mod Flat
-pub mod Given
+pub mod Places
 pub mod Calls

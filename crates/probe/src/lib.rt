@@ -1,6 +1,8 @@
-// Calls on flat octets, for the program that runs the Rust beside the port and for nothing else. specs/Flat.antt has the layout of a
-// flat address and of a flat frame. A call that is lent too little answers 24 and touches nothing.
+// Calls on flat octets, for the program that runs the Rust beside the port and for nothing else. The crate
+// `flat` has the layout of a flat address, content and frame. A call that is lent too little answers 24 and touches nothing; no other
+// refusal touches lent octets.
 use frame::Ax25Frame;
+use parse::ContentAnswer;
 ghost use mathlib.Core.Path.{_≡_};
 ghost use mathlib.Core.Bool.{cond, _||_};
 ghost use mathlib.Core.List.{[], _∷_};
@@ -11,28 +13,37 @@ ghost use Rattle.decode.specs.Answer.{numberOf};
 ghost use Rattle.frame.specs.Frame.{writeNumber, simpleUi, defaultFrame};
 ghost use Rattle.decode.specs.Read.{decode};
 ghost use Rattle.frame.specs.Write.{written, octetsWritten};
-ghost use Rattle.probe.specs.Flat.{addressFlat, flatOf, placesOf};
-ghost use Rattle.probe.specs.Given.{addressAt, frameFrom};
-ghost use Rattle.probe.specs.Calls.{lacks, answers, leaves};
+ghost use Rattle.parse.specs.Content.{contentOf};
+ghost use Rattle.parse.specs.Content.{numberOf as contentNumber};
+ghost use Rattle.content.specs.Encode.{encodeNumber, encodeOf, encoded};
+ghost use Rattle.hops.specs.Station.{sameStation};
+ghost use Rattle.octets.specs.Splice.{splice};
+ghost use Rattle.flat.specs.Laid.{addressFlat, flatOf};
+ghost use Rattle.flat.specs.Given.{addressAt, contentAt, frameFrom};
+ghost use Rattle.probe.specs.Places.{placesOf};
+ghost use Rattle.probe.specs.Calls.{lacks, answers, leaves, leavesBy, readFlat, hopsOf};
 
-mod flat; // flat.rt: from a frame to its flat record
-mod given; // given.rt: from a flat record to its frame
+mod places; // places.rt: the places of a decode
 
-// How many octets a flat frame and a flat address have, and how many places a decode reports.
+// How many octets a flat frame, address and content have, how many places a decode reports, and how many numbers the hops are.
 const FRAME: usize = 92;
 
 const ADDRESS: usize = 7;
 
+const CONTENT: usize = 12;
+
 const PLACES: usize = 5;
+
+const HOPS: usize = 3;
 
 // The number of a call that is lent too little.
 const NO_ROOM: u32 = 24;
 
-// Decodes: the number, the frame, and its places.
+// Decodes: the number, the frame, and its places, which a refusal's details are among.
 #[no_mangle]
 pub extern "C" fn probe_decode(input: &[u8], flat: &mut [u8], places: &mut [usize]) -> u32
     ensures { λ r. ⌜ r ≡ answers (lacks (now (flat .entry)) 92 || lacks (now (places .entry)) 5) (numberOf (decode (now (input .entry)) .answer)) ⌝ }
-    ensures { λ r. ⌜ now (flat .exit) ≡ leaves (lacks (now (flat .entry)) 92 || lacks (now (places .entry)) 5) (now (flat .entry)) (flatOf (decode (now (input .entry)) .frame)) ⌝ }
+    ensures { λ r. ⌜ now (flat .exit) ≡ leavesBy r (now (flat .entry)) (flatOf (decode (now (input .entry)) .frame)) ⌝ }
     ensures { λ r. ⌜ now (places .exit) ≡ leaves (lacks (now (flat .entry)) 92 || lacks (now (places .entry)) 5) (now (places .entry)) (placesOf (decode (now (input .entry)))) ⌝ }
 {
     if flat.len() < FRAME {
@@ -43,10 +54,14 @@ pub extern "C" fn probe_decode(input: &[u8], flat: &mut [u8], places: &mut [usiz
     }
     let decoded = decode::from_bytes(input);
     let answer = decoded.answer;
+    places::put_places(places, decoded);
+    let number = answer.number();
+    if number != 0 {
+        return number;
+    }
     let frame = decoded.frame;
-    flat::put_frame(flat, frame);
-    flat::put_places(places, decoded);
-    answer.number()
+    flat::laid::put_frame(flat, frame);
+    number
 }
 
 // Writes the frame of a flat record: the number, the octets, and their count.
@@ -59,7 +74,7 @@ pub extern "C" fn probe_encode(flat: &[u8], info: &[u8], out: &mut [u8], len: &m
     if len.len() < 1 {
         return NO_ROOM;
     }
-    let frame = given::frame_from(flat);
+    let frame = flat::given::frame_from(flat);
     let written = frame.to_bytes(info, out);
     let answer = written.answer;
     len[0] = written.length;
@@ -75,8 +90,8 @@ pub extern "C" fn probe_again(given: &[u8], flat: &mut [u8]) -> u32
     if flat.len() < FRAME {
         return NO_ROOM;
     }
-    let frame = given::frame_from(given);
-    flat::put_frame(flat, frame);
+    let frame = flat::given::frame_from(given);
+    flat::laid::put_frame(flat, frame);
     0
 }
 
@@ -84,32 +99,40 @@ pub extern "C" fn probe_again(given: &[u8], flat: &mut [u8]) -> u32
 #[no_mangle]
 pub extern "C" fn probe_from_parts(callsign: &[u8], ssid: u8, flat: &mut [u8]) -> u32
     ensures { λ r. ⌜ r ≡ answers (lacks (now (flat .entry)) 7) (addressNumberOf (readParts (now (callsign .entry)) ssid .answer)) ⌝ }
-    ensures { λ r. ⌜ now (flat .exit) ≡ leaves (lacks (now (flat .entry)) 7) (now (flat .entry)) (addressFlat (readParts (now (callsign .entry)) ssid .address)) ⌝ }
+    ensures { λ r. ⌜ now (flat .exit) ≡ leavesBy r (now (flat .entry)) (addressFlat (readParts (now (callsign .entry)) ssid .address)) ⌝ }
 {
     if flat.len() < ADDRESS {
         return NO_ROOM;
     }
     let read = text::from_parts(callsign, ssid);
     let answer = read.answer;
+    let number = answer.number();
+    if number != 0 {
+        return number;
+    }
     let address = read.address;
-    flat::put_address(flat, 0, address);
-    answer.number()
+    flat::laid::put_address(flat, 0, address);
+    number
 }
 
 // Reads a text: the number and the address.
 #[no_mangle]
 pub extern "C" fn probe_from_str(text: &[u8], flat: &mut [u8]) -> u32
     ensures { λ r. ⌜ r ≡ answers (lacks (now (flat .entry)) 7) (addressNumberOf (readText (now (text .entry)) .answer)) ⌝ }
-    ensures { λ r. ⌜ now (flat .exit) ≡ leaves (lacks (now (flat .entry)) 7) (now (flat .entry)) (addressFlat (readText (now (text .entry)) .address)) ⌝ }
+    ensures { λ r. ⌜ now (flat .exit) ≡ leavesBy r (now (flat .entry)) (addressFlat (readText (now (text .entry)) .address)) ⌝ }
 {
     if flat.len() < ADDRESS {
         return NO_ROOM;
     }
     let read = text::from_str(text);
     let answer = read.answer;
+    let number = answer.number();
+    if number != 0 {
+        return number;
+    }
     let address = read.address;
-    flat::put_address(flat, 0, address);
-    answer.number()
+    flat::laid::put_address(flat, 0, address);
+    number
 }
 
 // Prints a flat address: the number, the text, and how long it is.
@@ -122,7 +145,7 @@ pub extern "C" fn probe_print(flat: &[u8], out: &mut [u8], len: &mut [usize]) ->
     if len.len() < 1 {
         return NO_ROOM;
     }
-    let address = given::address_at(flat, 0);
+    let address = flat::given::address_from(flat);
     let printed = printing::print(address, out);
     let answer = printed.answer;
     len[0] = printed.length;
@@ -138,10 +161,10 @@ pub extern "C" fn probe_simple_ui(source: &[u8], destination: &[u8], flat: &mut 
     if flat.len() < FRAME {
         return NO_ROOM;
     }
-    let from = given::address_at(source, 0);
-    let to = given::address_at(destination, 0);
+    let from = flat::given::address_from(source);
+    let to = flat::given::address_from(destination);
     let frame = Ax25Frame::new_simple_ui_frame(from, to);
-    flat::put_frame(flat, frame);
+    flat::laid::put_frame(flat, frame);
     0
 }
 
@@ -155,6 +178,84 @@ pub extern "C" fn probe_default(flat: &mut [u8]) -> u32
         return NO_ROOM;
     }
     let frame = Ax25Frame::default();
-    flat::put_frame(flat, frame);
+    flat::laid::put_frame(flat, frame);
     0
+}
+
+// Content alone: the number, and the content that was read.
+#[no_mangle]
+pub extern "C" fn probe_content(input: &[u8], flat: &mut [u8]) -> u32
+    ensures { λ r. ⌜ r ≡ answers (lacks (now (flat .entry)) 12) (contentNumber (contentOf (now (input .entry)))) ⌝ }
+    ensures { λ r. ⌜ now (flat .exit) ≡ leaves (lacks (now (flat .entry)) 12) (now (flat .entry)) (readFlat (contentOf (now (input .entry)))) ⌝ }
+{
+    if flat.len() < CONTENT {
+        return NO_ROOM;
+    }
+    let answer = parse::parse_content(input);
+    put_read(flat, answer);
+    answer.number()
+}
+
+fn put_read(out: &mut [u8], answer: ContentAnswer)
+    ensures { λ r. ⌜ now (out .exit) ≡ splice (now (out .entry)) 0 (readFlat answer) ⌝ }
+{
+    match answer {
+        ContentAnswer::Accepted(content) => flat::laid::put_content(out, content),
+        ContentAnswer::ContentZeroLength => (),
+        ContentAnswer::MissingPidField => (),
+        ContentAnswer::UnrecognisedSFieldType => (),
+        ContentAnswer::UnrecognisedUFieldType => (),
+        ContentAnswer::WrongSizeFrmrInfo => (),
+    }
+}
+
+// Writes flat content alone: the number, the octets, and their count.
+#[no_mangle]
+pub extern "C" fn probe_content_encode(
+    content: &[u8],
+    info: &[u8],
+    out: &mut [u8],
+    len: &mut [usize],
+) -> u32
+    ensures { λ r. ⌜ r ≡ answers (lacks (now (len .entry)) 1) (encodeNumber (encodeOf (contentAt (now (content .entry)) 0) (length (now (info .entry))) (length (now (out .entry))) .answer)) ⌝ }
+    ensures { λ r. ⌜ now (out .exit) ≡ leaves (lacks (now (len .entry)) 1) (now (out .entry)) (encoded (contentAt (now (content .entry)) 0) (now (info .entry)) (length (now (out .entry)))) ⌝ }
+    ensures { λ r. ⌜ now (len .exit) ≡ leaves (lacks (now (len .entry)) 1) (now (len .entry)) (encodeOf (contentAt (now (content .entry)) 0) (length (now (info .entry))) (length (now (out .entry))) .length ∷ []) ⌝ }
+{
+    if len.len() < 1 {
+        return NO_ROOM;
+    }
+    let given = flat::given::content_from(content);
+    let written = given.encode(info, out);
+    let answer = written.answer;
+    len[0] = written.length;
+    answer.number()
+}
+
+// The hop set, the hops used and the due place of the frame of a flat record.
+#[no_mangle]
+pub extern "C" fn probe_hops(flat: &[u8], numbers: &mut [usize]) -> u32
+    ensures { λ r. ⌜ r ≡ answers (lacks (now (numbers .entry)) 3) 0 ⌝ }
+    ensures { λ r. ⌜ now (numbers .exit) ≡ leaves (lacks (now (numbers .entry)) 3) (now (numbers .entry)) (hopsOf (frameFrom (now (flat .entry)))) ⌝ }
+{
+    if numbers.len() < HOPS {
+        return NO_ROOM;
+    }
+    let frame = flat::given::frame_from(flat);
+    let set = hops::hop_set(frame);
+    let used = hops::hops_used(frame);
+    let due = hops::due_place(frame);
+    numbers[0] = set as usize;
+    numbers[1] = used as usize;
+    numbers[2] = due;
+    0
+}
+
+// 1 where two flat addresses are of the same station, else 0.
+#[no_mangle]
+pub extern "C" fn probe_same_station(one: &[u8], other: &[u8]) -> u32
+    ensures { λ r. ⌜ r ≡ cond (sameStation (addressAt (now (one .entry)) 0) (addressAt (now (other .entry)) 0)) 1 0 ⌝ }
+{
+    let a = flat::given::address_from(one);
+    let b = flat::given::address_from(other);
+    if hops::same_station(a, b) { 1 } else { 0 }
 }

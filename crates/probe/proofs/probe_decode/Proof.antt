@@ -1,7 +1,7 @@
--- Lent too little, either way; else the decoded frame and its places are written.
+-- Lent too little, either way; else the places are written, and the frame where there is one.
 use mathlib.Core.Path.{refl, _∙_}
 use native.Mathlib.Omega.{arith}
-use borrow.Author.Tests.{lt-ltb, le-ltb}
+use borrow.Author.Tests.{lt-ltb, le-ltb, eq-eqb, ne-eqb}
 use borrow.Author.Needs.{needs}
 use lib.ListN.{length}
 use Rattle.probe.proofs.probe_decode.Statement.{statement}
@@ -18,9 +18,6 @@ returns-2 c =
 from-bytes-requires : tie.Need-from-bytes-requires
 from-bytes-requires c κs = search needs
 
-put-frame-requires : tie.Need-put-frame-requires
-put-frame-requires c κs = search needs
-
 put-places-requires : tie.Need-put-places-requires
 put-places-requires c κs = search needs
 
@@ -30,18 +27,34 @@ number-requires c κs = search needs
 same-length : tie.Need-same-length
 same-length c = search needs
 
+returns-3 : tie.Need-returns-3
+returns-3 c =
+    let p = c .before .before .before .before in
+    let d = p .before .before in
+    rw (le-ltb _ _ (d .before .before .if1 .left), le-ltb _ _ (d .before .if2 .left)) (
+      rw (c .before .number .ensures, d .from-bytes .ensures) refl,
+      (rw (ne-eqb _ _ (c .if3 .taken)) refl, p .put-places .ensures ∙ rw (d .from-bytes .ensures) refl),
+    )
+
+put-frame-requires : tie.Need-put-frame-requires
+put-frame-requires c κs = search needs
+
 same-length-2 : tie.Need-same-length-2
 same-length-2 c = search needs
 
-returns-3 : tie.Need-returns-3
-returns-3 c =
-    let p = c .before .before .before in
-    let f = p .before .before .before .before in
-    let d = f .before .before .before in
+same-length-3 : tie.Need-same-length-3
+same-length-3 c = search needs
+
+returns-4 : tie.Need-returns-4
+returns-4 c =
+    let f = c .before .before in
+    let i = f .before .before .before in
+    let p = i .before .before .before .before in
+    let d = p .before .before in
     rw (le-ltb _ _ (d .before .before .if1 .left), le-ltb _ _ (d .before .if2 .left)) (
-      rw (c .number .ensures, d .from-bytes .ensures) refl,
+      rw (i .before .number .ensures, d .from-bytes .ensures) refl,
       (
-        f .put-frame .ensures ∙ rw (d .from-bytes .ensures) refl,
+        rw (eq-eqb _ _ (i .if3 .left)) (f .put-frame .ensures ∙ rw (d .from-bytes .ensures) refl),
         p .put-places .ensures ∙ rw (d .from-bytes .ensures) refl,
       ),
     )
@@ -53,9 +66,11 @@ probe-decode-spec =
     returns
     returns-2
     from-bytes-requires
-    put-frame-requires
     put-places-requires
     number-requires
     same-length
+    returns-3
+    put-frame-requires
     same-length-2
-    returns-3)
+    same-length-3
+    returns-4)

@@ -1,6 +1,6 @@
--- Lent too little; else what reading gives.
+-- Lent too little; refused; else the address that was read.
 use mathlib.Core.Path.{refl, _∙_}
-use borrow.Author.Tests.{lt-ltb, le-ltb}
+use borrow.Author.Tests.{lt-ltb, le-ltb, eq-eqb, ne-eqb}
 use borrow.Author.Needs.{needs}
 use Rattle.probe.proofs.probe_from_parts.Statement.{statement}
 use Rattle.probe.proofs.probe_from_parts.Tie as tie
@@ -11,22 +11,31 @@ returns c = rw (lt-ltb _ _ (c .if1 .taken)) (refl, refl)
 from-parts-requires : tie.Need-from-parts-requires
 from-parts-requires c κs = search needs
 
-put-address-requires : tie.Need-put-address-requires
-put-address-requires c κs = search needs
-
 number-requires : tie.Need-number-requires
 number-requires c κs = search needs
+
+returns-2 : tie.Need-returns-2
+returns-2 c =
+    let d = c .before .before in
+    rw (le-ltb _ _ (d .before .if1 .left)) (
+      rw (c .before .number .ensures, d .from-parts .ensures) refl,
+      rw (ne-eqb _ _ (c .if2 .taken)) refl,
+    )
+
+put-address-requires : tie.Need-put-address-requires
+put-address-requires c κs = search needs
 
 same-length : tie.Need-same-length
 same-length c = search needs
 
-returns-2 : tie.Need-returns-2
-returns-2 c =
-    let p = c .before .before .before in
-    let d = p .before .before .before in
+returns-3 : tie.Need-returns-3
+returns-3 c =
+    let p = c .before .before in
+    let i = p .before .before .before in
+    let d = i .before .before in
     rw (le-ltb _ _ (d .before .if1 .left)) (
-      rw (c .number .ensures, d .from-parts .ensures) refl,
-      p .put-address .ensures ∙ rw (d .from-parts .ensures) refl,
+      rw (i .before .number .ensures, d .from-parts .ensures) refl,
+      rw (eq-eqb _ _ (i .if2 .left)) (p .put-address .ensures ∙ rw (d .from-parts .ensures) refl),
     )
 
 pub probe-from-parts-spec : {M : Type 1} → statement M
@@ -35,7 +44,8 @@ probe-from-parts-spec =
     (tie.spec
     returns
     from-parts-requires
-    put-address-requires
     number-requires
+    returns-2
+    put-address-requires
     same-length
-    returns-2)
+    returns-3)

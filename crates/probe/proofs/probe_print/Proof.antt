@@ -10,8 +10,8 @@ use Rattle.probe.proofs.probe_print.Tie as tie
 returns : tie.Need-returns
 returns c = rw (lt-ltb _ _ (c .if1 .taken)) (refl, (refl, refl))
 
-address-at-requires : tie.Need-address-at-requires
-address-at-requires c κs = search needs
+address-from-requires : tie.Need-address-from-requires
+address-from-requires c κs = search needs
 
 print-requires : tie.Need-print-requires
 print-requires c κs = search needs
@@ -34,10 +34,10 @@ returns-2 c =
     let g = w .before .before in
     let a = g .before .before .before .before .before .args in
     rw (le-ltb _ _ (g .before .if1 .left)) (
-      rw (c .number .ensures, w .print .ensures .0, g .address-at .ensures) refl,
+      rw (c .number .ensures, w .print .ensures .0, g .address-from .ensures) refl,
       (
-        w .print .ensures .1 ∙ rw (g .address-at .ensures) refl,
-        rw (w .print .ensures .0, g .address-at .ensures) (sym (splice-one (a .len .now) 0 _ (omega arith))),
+        w .print .ensures .1 ∙ rw (g .address-from .ensures) refl,
+        rw (w .print .ensures .0, g .address-from .ensures) (sym (splice-one (a .len .now) 0 _ (omega arith))),
       ),
     )
 
@@ -46,7 +46,7 @@ probe-print-spec =
     tie.close
     (tie.spec
     returns
-    address-at-requires
+    address-from-requires
     print-requires
     slice-write-len
     number-requires

@@ -8,11 +8,11 @@ use Rattle.probe.proofs.probe_simple_ui.Tie as tie
 returns : tie.Need-returns
 returns c = rw (lt-ltb _ _ (c .if1 .taken)) (refl, refl)
 
-address-at-requires : tie.Need-address-at-requires
-address-at-requires c κs = search needs
+address-from-requires : tie.Need-address-from-requires
+address-from-requires c κs = search needs
 
-address-at-requires-2 : tie.Need-address-at-requires-2
-address-at-requires-2 c κs = search needs
+address-from-requires-2 : tie.Need-address-from-requires-2
+address-from-requires-2 c κs = search needs
 
 new-simple-ui-frame-requires : tie.Need-new-simple-ui-frame-requires
 new-simple-ui-frame-requires c κs = search needs
@@ -30,7 +30,7 @@ returns-2 c =
     rw (le-ltb _ _ (n .before .before .before .if1 .left)) (
       refl,
       p .put-frame .ensures
-          ∙ rw (n .new-simple-ui-frame .ensures, n .before .address-at2 .ensures, n .before .before .address-at .ensures) refl,
+          ∙ rw (n .new-simple-ui-frame .ensures, n .before .address-from2 .ensures, n .before .before .address-from .ensures) refl,
     )
 
 pub probe-simple-ui-spec : {M : Type 1} → statement M
@@ -38,8 +38,8 @@ probe-simple-ui-spec =
     tie.close
     (tie.spec
     returns
-    address-at-requires
-    address-at-requires-2
+    address-from-requires
+    address-from-requires-2
     new-simple-ui-frame-requires
     put-frame-requires
     same-length
