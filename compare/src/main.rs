@@ -6,6 +6,8 @@ mod capture_check;
 mod check;
 mod classes;
 mod domain;
+#[cfg(feature = "faults")]
+mod faults;
 mod flat;
 mod inputs;
 mod lent;
@@ -148,6 +150,8 @@ fn main() {
         ["content-record", content, info] => status(single::content_record(&octets(content), &octets(info))),
         ["hops", record] => status(single::hops(&octets(record))),
         ["same-station", one, other] => status(single::same_station(&octets(one), &octets(other))),
+        #[cfg(feature = "faults")]
+        ["faults"] => faults::list(),
         ["bench"] => leave(&bench::run(), &options.json),
         ["replay-list"] => replay::list(3000),
         ["replay-list", lines] => replay::list(number(lines) as usize),
