@@ -11,6 +11,7 @@ mod faults;
 mod flat;
 mod inputs;
 mod lent;
+mod lines;
 mod oracle;
 mod port;
 mod records;
@@ -153,7 +154,7 @@ fn main() {
         #[cfg(feature = "faults")]
         ["faults"] => faults::list(),
         ["bench"] => leave(&bench::run(), &options.json),
-        ["replay-list"] => replay::list(3000),
+        ["replay-list"] => replay::list(5000),
         ["replay-list", lines] => replay::list(number(lines) as usize),
         _ => refuse(&format!("usage:\n{}", USAGE)),
     }

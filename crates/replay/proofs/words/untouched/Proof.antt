@@ -1,15 +1,15 @@
--- `place` stays within its octets.
+-- The loop stays in the buffer.
 use Prim.Native.Nat.{_-_, _≤_}
 use lib.ListN.{length}
 use borrow.Author.Needs.{needs}
-use Rattle.show_frame.proofs.cutting.place.Statement.{statement}
-use Rattle.show_frame.proofs.cutting.place.Tie as tie
+use Rattle.replay.proofs.words.untouched.Statement.{statement}
+use Rattle.replay.proofs.words.untouched.Tie as tie
 
 abbrev Inv-loop : tie.InvT-loop
-Inv-loop s octet i₀ i = i ≤ length s
+Inv-loop s i₀ i = i ≤ length s
 
 abbrev μ-loop : tie.MeasureT-loop
-μ-loop s octet i₀ i = length s - i
+μ-loop s i₀ i = length s - i
 
 loop-holds : tie.Need-loop-holds Inv-loop μ-loop
 loop-holds c = search needs
@@ -32,8 +32,8 @@ loop-again c = search needs
 returns-2 : tie.Need-returns-2 Inv-loop μ-loop
 returns-2 c = search needs
 
-pub place-spec : {M : Type 1} → statement M
-place-spec =
+pub untouched-spec : {M : Type 1} → statement M
+untouched-spec =
     tie.close
     (tie.spec
     Inv-loop

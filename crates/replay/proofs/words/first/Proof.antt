@@ -2,8 +2,8 @@
 use mathlib.Core.Path.{sym}
 use lib.Seq.{length-take-le}
 use borrow.Author.Needs.{needs}
-use Rattle.show_frame.proofs.cutting.first.Statement.{statement}
-use Rattle.show_frame.proofs.cutting.first.Tie as tie
+use Rattle.replay.proofs.words.first.Statement.{statement}
+use Rattle.replay.proofs.words.first.Tie as tie
 
 returns : tie.Need-returns
 returns c = search needs
