@@ -5,9 +5,12 @@ mod capture;
 mod check;
 mod classes;
 mod domain;
+#[cfg(feature = "faults")]
+mod faults;
 mod flat;
 mod inputs;
 mod lent;
+mod lines;
 mod oracle;
 mod port;
 mod records;
@@ -142,8 +145,10 @@ fn main() {
         ["content-record", content, info] => status(single::content_record(&octets(content), &octets(info))),
         ["hops", record] => status(single::hops(&octets(record))),
         ["same-station", one, other] => status(single::same_station(&octets(one), &octets(other))),
+        #[cfg(feature = "faults")]
+        ["faults"] => faults::list(),
         ["bench"] => leave(&bench::run(), &options.json),
-        ["replay-list"] => replay::list(3000),
+        ["replay-list"] => replay::list(5000),
         ["replay-list", lines] => replay::list(number(lines) as usize),
         _ => refuse(&format!("usage:\n{}", USAGE)),
     }

@@ -1,133 +1,31 @@
-//! A sample of the Rust's answers as lines, for the program `replay`, which runs the port's proved code beside them.
+//! What stands on the list for the program `replay`, which runs the port's proved code beside it.
 
 use crate::check::padded;
 use crate::domain;
-use crate::flat::{self, Flat, FlatAddress, ADDRESS, COUNT, FLAT, KIND, MARK, NOCALL, POLL, RECEIVE, SEND};
+use crate::flat::{self, Flat, FlatAddress, ADDRESS, COUNT, ENTRY, KIND, MARK, NOCALL, PID, POLL, RECEIVE, ROUTE, SEND};
 use crate::inputs;
-use crate::oracle::{self, Refusal};
+use crate::lines::{List, HEADING};
 use crate::records;
 use crate::rng::Rng;
-use crate::show;
 use crate::texts;
-
-const HEADING: &str = "\
-# The answers of the Rust crate ax25 0.4.0, unchanged. Made by 'compare/build' and 'target/compare/compare replay-list'; never
-# edited by hand. Words are separated by one space; octets are hex digits, and - is none of them. Numbers are decimal.
-# D input number start end length info_start info_length mark kind repeaters canonical re-encoded
-#   decoding. mark: 0 Command, 1 Response, 2 absent. kind: 0 I, 1 RR, 2 RNR, 3 REJ, 4 SABM, 5 DISC, 6 DM, 7 UA, 8 FRMR, 9 UI.
-#   A refusal shows the default frame, and nothing re-encoded.
-# W record info room number octets
-#   writing a flat record of 92 octets, with info, into room for so many octets.
-# T text number address
-# P callsign ssid number address
-#   text, or a callsign and an SSID, to an address: six characters and the SSID.
-# S address room number text
-#   printing an address into room for so many octets.
-# Where a heading says 'document 01', the Rust has no such answer, and the line was worked out from that paper's rules.";
 
 /// Seeded inputs, info and texts are shorter than this, to keep the lines short.
 const LONGEST: usize = 120;
-
-struct List {
-    lines: usize,
-}
-
-impl List {
-    fn heading(&mut self, text: &str) {
-        println!("# {}", text);
-    }
-
-    fn line(&mut self, line: String) {
-        self.lines += 1;
-        println!("{}", line);
-    }
-
-    fn decode(&mut self, input: &[u8]) {
-        let rust = oracle::read(input);
-        let (owed, octets) = match rust {
-            _ if domain::repeaters(input) > flat::REPEATERS => (oracle::refused(nine()), Vec::new()),
-            Ok(frame) => (oracle::accepted(input, &frame), frame.to_bytes()),
-            Err(refusal) => (oracle::refused(refusal), Vec::new()),
-        };
-        let record = &owed.record;
-        let canonical = u8::from(owed.number == 0 && octets == input);
-        self.line(format!(
-            "D {} {} {} {} {} {} {} {} {} {} {} {}",
-            hex(input),
-            owed.number,
-            owed.start,
-            owed.end,
-            owed.length,
-            owed.info_start,
-            owed.info_len,
-            record[MARK],
-            record[KIND],
-            record[COUNT],
-            canonical,
-            hex(&octets)
-        ));
-    }
-
-    /// Writing into room exactly full; with `short`, one octet less.
-    fn write(&mut self, record: &Flat, info: &[u8], short: bool) {
-        let refused = domain::record_number(record, info);
-        let octets = if refused == 0 { flat::to_frame(record, info).to_bytes() } else { Vec::new() };
-        let (room, number, octets) = match (refused, short) {
-            (0, true) => (octets.len() - 1, 24, Vec::new()),
-            (0, false) => (octets.len(), 0, octets),
-            (number, _) => (FLAT + info.len(), number, Vec::new()),
-        };
-        self.line(format!("W {} {} {} {} {}", hex(record), hex(info), room, number, hex(&octets)));
-    }
-
-    fn text(&mut self, text: &[u8]) {
-        let (number, address) = read_text(text, oracle::from_str);
-        self.line(format!("T {} {} {}", hex(text), number, hex(&address)));
-    }
-
-    fn parts(&mut self, callsign: &[u8], ssid: u8) {
-        let (number, address) = read_text(callsign, |text| oracle::from_parts(text, ssid));
-        self.line(format!("P {} {} {} {}", hex(callsign), ssid, number, hex(&address)));
-    }
-
-    fn print(&mut self, address: &FlatAddress, short: bool) {
-        let refused = if domain::encodable(address) { 0 } else { 22 };
-        let text = if refused == 0 { flat::addresses(&[*address])[0].to_string() } else { String::new() };
-        let (room, number, text) = match (refused, text.len().checked_sub(1)) {
-            (0, Some(less)) if short => (less, 24, String::new()),
-            (0, _) => (text.len(), 0, text),
-            (number, _) => (ADDRESS + 3, number, String::new()),
-        };
-        self.line(format!("S {} {} {} {}", hex(address), room, number, hex(text.as_bytes())));
-    }
-}
-
-fn hex(octets: &[u8]) -> String {
-    if octets.is_empty() { "-".to_string() } else { show::hex(octets) }
-}
-
-fn nine() -> Refusal {
-    Refusal { number: 9, start: 0, end: 0, length: 0 }
-}
-
-fn read_text<F>(text: &[u8], ask: F) -> (u32, FlatAddress)
-where
-    F: Fn(&str) -> Result<ax25::frame::Address, u32>,
-{
-    match std::str::from_utf8(text) {
-        Ok(text) if text.is_ascii() => ask(text).map_or_else(|number| (number, NOCALL), |read| (0, flat::of_address(&read))),
-        _ => (35, NOCALL),
-    }
-}
 
 /// Prints about this many lines: what is always there, and seeded inputs up to the number.
 pub fn list(lines: usize) {
     println!("{}", HEADING);
     let mut list = List { lines: 0 };
+    examples(&mut list);
+    slips(&mut list);
     decoding(&mut list);
-    writing(&mut list);
-    text(&mut list);
     beyond(&mut list);
+    content(&mut list);
+    writing(&mut list);
+    refused_records(&mut list);
+    hops(&mut list);
+    text(&mut list);
+    printing(&mut list);
     list.heading("Seeded frames and damaged copies.");
     let left = lines.saturating_sub(list.lines);
     let mut keep = |input: &[u8]| {
@@ -139,20 +37,63 @@ pub fn list(lines: usize) {
     inputs::damaged(2, left / 2, &mut keep);
 }
 
-fn decoding(list: &mut List) {
-    list.heading("Document 01's examples: P1 to P13, then spans 76, and 15 to 20.");
+/// Document 01's examples, each under its name there.
+fn examples(list: &mut List) {
     let [short, field] = [[&inputs::FRAME[..12], &[0x41]].concat(), inputs::FRAME[..inputs::FIELD].to_vec()];
     let nulled = [&[0], &inputs::FRAME[..]].concat();
-    for input in [&[][..], &[0x8E, 0x82], &short, &field, &inputs::FRAME, &nulled] {
-        list.decode(input);
+    let frames = [&[][..], &[0x8E, 0x82], &short, &field, &inputs::FRAME, &nulled].map(<[u8]>::to_vec);
+    let contents = [&[0x03][..], &[0x0D], &[0x6F], &[0x87, 1, 2], &[0x87, 0xF1, 3, 0x44], &[0x01, 0xAA], &[0x03, 0x20]];
+    for (i, input) in frames.into_iter().chain(contents.map(inputs::with_content)).enumerate() {
+        list.heading(&format!("Example P{}.", i + 1));
+        list.decode(&input);
     }
-    for content in [&[0x03][..], &[0x0D], &[0x6F], &[0x87, 1, 2], &[0x87, 0xF1, 3, 0x44], &[0x01, 0xAA], &[0x03, 0x20]] {
-        list.decode(&inputs::with_content(content));
+    list.heading("Example span 76: eight repeaters.");
+    both(list, 76);
+    list.heading("Example span 77 with content: 9. By document 01: the Rust reads nine repeaters.");
+    both(list, 77);
+    for span in 15..=20 {
+        list.heading(&format!("Example span {}: no repeater.", span));
+        both(list, span);
     }
-    for span in std::iter::once(76).chain(15..=20) {
-        list.decode(&spanned(span, &[0x01]));
-        list.decode(&spanned(span, &[0x03, 0xF0, 0x41]));
+    for text in texts::DOCUMENT {
+        list.heading(&format!("Example text {}", text));
+        list.text(text.as_bytes());
     }
+    list.heading("Example hops, by document 01: of three places in use the first and the third are marked, and so is one not in use.");
+    list.hops(&route(0b1000_0101, 3));
+    list.heading("Example hops, by document 01: a route count over 8 is read as 8.");
+    list.hops(&route(0xFF, 9));
+}
+
+/// An RR and a UI frame behind an address field of this span.
+fn both(list: &mut List, span: usize) {
+    list.decode(&spanned(span, &[0x01]));
+    list.decode(&spanned(span, &[0x03, 0xF0, 0x41]));
+}
+
+/// Document 01's slips to exclude: an input for each, on which it shows.
+fn slips(list: &mut List) {
+    list.heading("Slip: searching for the end by groups of seven. The end is at octet 15, and octet 20 has its low bit set too.");
+    list.decode(&spanned(16, &[0x03, 0xF0, 0x41, 0x42, 0x43]));
+    list.heading("Slip: refusing an RR with a tail.");
+    list.decode(&inputs::with_content(&[0x01, 0xAA, 0x55]));
+    list.heading("Slip: testing the callsign before the SSID text: 33, and neither 31 nor 32.");
+    for text in ["TOOLONGX-300", "-300", "A_B-x"] {
+        list.text(text.as_bytes());
+    }
+    list.heading("Slip: treating equal marks as Command when reading: neither set, both set.");
+    list.decode(&with_ssids(0x60, 0x67, &[0x01]));
+    list.decode(&with_ssids(0xE0, 0xE7, &[0x01]));
+    list.heading("Slip: counting unused route places in an address check.");
+    for (callsign, count) in [(*b"\xFFOX   \x03", 1), (*b"BOX12 \xFF", 1)] {
+        let mut record = records::base(flat::UI);
+        record[COUNT] = count;
+        records::put(&mut record, ROUTE + ENTRY, callsign);
+        list.write(&record, b"OK");
+    }
+}
+
+fn decoding(list: &mut List) {
     list.heading("The smallest inputs of docs/DIFFERENCES.md, A1 to A15 without A13, which is a record and stands among those.");
     for input in departures() {
         list.decode(&input);
@@ -168,9 +109,9 @@ fn decoding(list: &mut List) {
         list.decode(&[&vec![0; nulls], &inputs::FRAME[..]].concat());
         list.decode(&vec![0x82; nulls]);
     }
-    list.heading("Every control octet, with content of 1, 2 and 4 octets.");
+    list.heading("Every control octet, with content of 1 and 4 octets.");
     for control in 0..=255 {
-        for content in [&[control][..], &[control, 0xF0], &[control, 0x5A, 0xB6, control]] {
+        for content in [&[control][..], &[control, 0x5A, 0xB6, control]] {
             list.decode(&inputs::with_content(content));
         }
     }
@@ -202,6 +143,17 @@ fn decoding(list: &mut List) {
     for count in 1..=8 {
         for content in inputs::contents().iter().step_by(3) {
             list.decode(&inputs::with_repeaters(count, content));
+        }
+    }
+    list.heading("Spans of a field of twelve stations, odd ones among them, behind nulls, with content and without.");
+    for span in [13, 14, 15, 18, 20, 21, 28, 69, 70, 71, 75, 76] {
+        for nulls in [0, 1, 3] {
+            for content in [&[0x13, 0x20, 0x41, 0x42, 0x43][..], &[]] {
+                let mut input = [&vec![0; nulls], &STATIONS[..span]].concat();
+                input[nulls + span - 1] |= 1;
+                input.extend(content);
+                list.decode(&input);
+            }
         }
     }
     list.heading("The example with each bit damaged.");
@@ -253,81 +205,217 @@ fn spanned(span: usize, content: &[u8]) -> Vec<u8> {
     input
 }
 
+/// GAUGE, BOX12-3 and eight repeaters: RELAY1-1*, HILL-15*, quay7-2, the empty callsign with SSID 4*, PIER-9 with its reserved bits
+/// clear, "A B"-5*, LOCK22-14, MAST-7*.
+const STATIONS: &[u8; 76] = b"\x8E\x82\xAA\x8E\x8A\x40\xE0\x84\x9E\xB0\x62\x64\x40\x66\xA4\x8A\x98\x82\xB2\x62\xE2\
+    \x90\x92\x98\x98\x40\x40\xFE\xE2\xEA\xC2\xF2\x6E\x40\x64\x40\x40\x40\x40\x40\x40\xE8\xA0\x92\x8A\xA4\x40\x40\x12\
+    \x82\x40\x84\x40\x40\x40\xEA\x98\x9E\x86\x96\x64\x64\x7C\x9A\x82\xA6\xA8\x40\x40\xEE\x88\xB2\x96\x8A\x62\x62";
+
+fn content(list: &mut List) {
+    list.heading("Content alone, by document 01 where there is none (4); the Rust's behind an address field: every control octet with");
+    list.heading("content of 0 to 5 octets, and what was read written again.");
+    list.content(&[]);
+    for control in 0..=255 {
+        for length in 1..=5 {
+            list.content(&[control, 0xA5, 0x3C, 0x5A, 0x0F][..length]);
+        }
+    }
+    list.heading("Content alone, written into rooms that are short, exactly full and longer; by document 01 where info is not allowed (23)");
+    list.heading("or the room is short (24).");
+    for (record, info, rooms) in contents() {
+        for &room in rooms {
+            list.write_content(&record, info, room);
+        }
+    }
+}
+
+/// A record's content, its info, and rooms for them.
+type Rooms = (Flat, &'static [u8], &'static [usize]);
+
+fn contents() -> Vec<Rooms> {
+    let ui = with(flat::UI, 0, 1, 0, 0);
+    let i = with(flat::I, 0, 1, 9, 255);
+    let rr = with(flat::RR, 0, 0, 3, 0);
+    let mut frmr = with(flat::FRMR, 0, 0, 5, 1);
+    frmr[flat::Y] = 1;
+    frmr[flat::X] = 1;
+    frmr[flat::REJECTED_RESPONSE] = 1;
+    frmr[flat::REJECTED_CONTROL] = 0x44;
+    let unknown = records::base(flat::UNKNOWN_CONTENT);
+    vec![
+        (ui, b"OK", &[3, 4, 6]),
+        (ui, b"", &[1, 2]),
+        (i, b"OK", &[0, 3, 4, 8]),
+        (rr, b"", &[0, 1, 2]),
+        (rr, b"OK", &[0, 8]),
+        (frmr, b"", &[3, 4, 5]),
+        (frmr, b"K", &[0, 5]),
+        (unknown, b"OK!", &[2, 3, 5]),
+        (unknown, b"", &[0, 2]),
+    ]
+}
+
+/// A plain record with these fields.
+fn with(kind: u8, mark: u8, poll: u8, receive: u8, send: u8) -> Flat {
+    let mut record = records::base(kind);
+    record[MARK] = mark;
+    record[POLL] = poll;
+    record[RECEIVE] = receive;
+    record[SEND] = send;
+    record
+}
+
 fn writing(list: &mut List) {
+    list.heading("The default frame, and new_simple_ui_frame.");
+    list.default_frame();
+    for (source, destination) in [(b"BOX12 \x03", b"GAUGE \x00"), (b"GAUGE \x00", b"BOX12 \x03"), (b"A B   \x0F", b"      \x01")] {
+        list.simple_ui(source, destination);
+    }
     list.heading("Records written: every kind, mark and P/F, sequence numbers over 7.");
     for kind in 0..=flat::UNKNOWN_CONTENT {
         for (mark, poll, receive, send) in [(0, 0, 1, 2), (1, 1, 9, 14), (2, 0, 255, 8), (2, 1, 7, 7)] {
-            let mut record = records::base(kind);
-            record[MARK] = mark;
-            record[POLL] = poll;
-            record[RECEIVE] = receive;
-            record[SEND] = send;
-            list.write(&record, b"", false);
+            list.write(&with(kind, mark, poll, receive, send), b"");
         }
+    }
+    list.heading("Into room exactly full; by document 01 one octet short and none (24), and longer.");
+    for kind in 0..=flat::UNKNOWN_CONTENT {
+        let info: &[u8] = if [flat::I, flat::UI, flat::UNKNOWN_CONTENT].contains(&kind) { b"OK" } else { b"" };
+        list.write_rooms(&with(kind, 1, 1, 3, 5), info);
+    }
+    list.heading("The frame of a record: a flag of 2 is set, a number past the last case is that case, a field that the kind lacks is 0.");
+    for kind in 0..=flat::UNKNOWN_CONTENT + 1 {
+        let mut record = [2; flat::FLAT];
+        record[KIND] = kind;
+        record[PID] = 13 + kind % 4;
+        list.again(&record);
     }
     list.heading("Seeded records.");
     records::holdable(3, 140, &mut |record, info| {
         if info.len() < LONGEST {
-            list.write(&padded(record), info, false);
+            list.write(&padded(record), info);
         }
     });
     list.heading("Writing, by document 01: one octet short (24).");
     records::holdable(4, 20, &mut |record, info| {
         if info.len() < LONGEST {
-            list.write(&padded(record), info, true);
+            list.write_short(&padded(record), info);
         }
     });
+}
+
+fn refused_records(list: &mut List) {
+    list.heading("Writing, by document 01, each refusal with those after it, into no room too: 21, 22, 23, 24, and 0.");
+    let mut odd = with(flat::RR, 0, 0, 0, 0);
+    records::put(&mut odd, ROUTE + ENTRY, *b"\xFFOX   \xFF");
+    for (count, info) in [(9, &b"OK"[..]), (2, b"OK"), (1, b"OK"), (1, b"")] {
+        odd[COUNT] = count;
+        list.write_rooms(&odd, info);
+    }
+    list.heading("Writing, by document 01 (22): the first character and SSID that are too high, and the last that are not, as destination,");
+    list.heading("source, a repeater in use, and in a place that is not.");
+    for address in [b"BOX12\x80\x03", b"BOX12 \x10", b"BOX12\x7F\x0F"] {
+        for (at, count) in [(flat::DESTINATION, 0), (flat::SOURCE, 0), (ROUTE + ENTRY, 2), (ROUTE + ENTRY, 1)] {
+            let mut record = records::base(flat::UI);
+            record[COUNT] = count;
+            records::put(&mut record, at, *address);
+            list.write_rooms(&record, b"");
+        }
+    }
     list.heading("Writing, by document 01: a route count over 8 (21), a character or SSID too high (22), info where there is none (23).");
     let mut every = 0;
     records::unholdable(&mut |record, info| {
         every += 1;
         if every % 41 == 0 && info.len() < LONGEST {
-            list.write(&padded(record), info, false);
+            list.write(&padded(record), info);
         }
     });
-    records::seeded_unholdable(5, 40, &mut |record, info| list.write(&padded(record), info, false));
+    records::seeded_unholdable(5, 40, &mut |record, info| list.write(&padded(record), info));
 }
 
-fn text(list: &mut List) {
-    list.heading("Document 01's texts, and those at the limits of each rule.");
-    for text in texts::DOCUMENT.iter().chain(&texts::LIMITS) {
-        list.text(text.as_bytes());
+/// A record with this many repeaters, place i marked where bit i is set.
+fn route(marks: u8, count: u8) -> Flat {
+    let mut record = records::base(flat::UI);
+    record[COUNT] = count;
+    for i in 0..flat::REPEATERS {
+        record[ROUTE + ENTRY * i + ADDRESS] = marks >> i & 1;
     }
+    record
+}
+
+fn hops(list: &mut List) {
+    list.heading("Hops, by document 01: counts of 0 to 8, and over 8, which are read as 8.");
+    for marks in [0x00, 0xFF, 0x01, 0x07, 0x80, 0xA5] {
+        for count in (0..=9).chain([255]) {
+            list.hops(&route(marks, count));
+        }
+    }
+    list.heading("Stations, by document 01: the same, another SSID, another last character, another first one, lower case; places not in use.");
+    for other in [b"BOX12 \x03", b"BOX12 \x04", b"BOX12A\x03", b"COX12 \x03", b"box12 \x03", &NOCALL] {
+        list.same_station(b"BOX12 \x03", other);
+    }
+    list.same_station(&NOCALL, &NOCALL);
+}
+
+/// Texts where two conditions hold at once, and characters beside the letters and digits.
+const ODD_TEXTS: [&[u8]; 42] = [
+    b"vk7ntk", b"vK7nTk-7", b"1234567", b" BOX", b"BO X", b"BOX ", b"BOX/", b"BOX:", b"BOX@", b"BOX[", b"BOX`", b"BOX{", b"BOX_", b"09AZaz",
+    b"BOX\x7f", b"BOX\x00", b"A-B-C", b"BOX-1-", b"-BOX", b"-BOX-1", b"+", b"++1", b"1+", b"BOX-+", b"BOX-5a", b"BOX-/", b"BOX-:", b"BOX-+0015",
+    b"BOX-000000000000000000000000000000000007", b"BOX-15", b"BOX-16", b"BOX-255", b"BOX-256", b"BOX-00256", b"BOX-18446744073709551621",
+    b"ABCDEFG-300", b"AB@-300", b"-16", b"ABCDEF@", b"AB@-16", b"ABCDEFG-16", b"BOX-+-1",
+];
+
+fn text(list: &mut List) {
+    list.heading("Texts at the limits of each rule, and with two conditions at once.");
+    texts::LIMITS.iter().for_each(|text| list.text(text.as_bytes()));
+    ODD_TEXTS.iter().for_each(|text| list.text(text));
     list.heading("Seeded texts, and callsigns with an SSID.");
     texts::seeded(6, 150, &mut |text| {
         if text.len() < LONGEST {
             list.text(text);
         }
     });
-    for callsign in ["", "A", "abcdef", "ABCDEFG", "A-1", "A B"] {
+    for callsign in ["", "A", "abcdef", "box12", "ABCDEFG", "ABCDEF@", "A-1", "A B"] {
         for ssid in [0, 15, 16, 255] {
             list.parts(callsign.as_bytes(), ssid);
         }
     }
-    list.heading("Text, by document 01: an octet of 128 or more (35).");
+    list.heading("Text, by document 01: an octet of 128 or more (35), before all else.");
     for text in texts::WIDE {
         list.text(text.as_bytes());
         list.parts(text.as_bytes(), 3);
     }
-    list.text(&[0x80]);
-    list.text(b"BOX-\xFF");
+    for text in [&b"\x80"[..], b"BOX-\xFF", b"BOX\x80", b"\x80--300", b"BOX-5\xC2\xB2"] {
+        list.text(text);
+    }
+    for callsign in [&b"BOX\x80"[..], b"\xFFABCDEFG"] {
+        list.parts(callsign, 16);
+    }
+}
+
+fn printing(list: &mut List) {
     list.heading("Addresses printed.");
     let mut rng = Rng::new(7);
     for known in [b"BOX12 \x03", b"BOX12 \x00", b"      \x00", b"      \x01", b"ABCDEF\x0f", b"\0\0\0\0\0\0\x0a", b" a B  \x09"] {
-        list.print(known, false);
+        list.print(known);
+    }
+    for known in [b"box   \x0a", b"A B   \x09", b" A    \x01", b"B\0X \0 \x00", b"B\x7f--  \x07"] {
+        list.print(known);
     }
     let seeded: Vec<FlatAddress> = (0..40).map(|_| records::any_address(&mut rng)).collect();
-    seeded.iter().for_each(|address| list.print(address, false));
-    list.heading("Printing, by document 01: one octet short (24), a character or SSID too high (22).");
-    seeded.iter().take(12).filter(|address| **address != *b"      \0").for_each(|address| list.print(address, true));
+    seeded.iter().for_each(|address| list.print(address));
+    list.heading("Printing, by document 01: one octet short and none (24), longer room; a character or SSID too high (22).");
+    for (known, rooms) in [(b"BOX12 \x03", [6, 0, 12]), (b"VK7NTK\x0F", [8, 0, 12]), (&NOCALL, [5, 0, 12]), (b"      \x00", [0, 1, 12])] {
+        rooms.iter().for_each(|&room| list.print_in(known, room));
+    }
     for known in [b"BOX12 \x10", b"BOX12 \xff", b"\x80OX12 \x00", b"BOX12\xff\x00"] {
-        list.print(known, false);
+        list.print(known);
+        list.print_in(known, 0);
     }
 }
 
 fn beyond(list: &mut List) {
-    list.heading("Decoding, by document 01: nine or more repeaters (9), the first at span 77; nothing after them is 4 still.");
-    for span in 77..=91 {
+    list.heading("Decoding, by document 01: nine or more repeaters (9); nothing after them is 4 still.");
+    for span in 78..=91 {
         list.decode(&spanned(span, &[0x01]));
         list.decode(&spanned(span, &[]));
     }

@@ -1,13 +1,19 @@
 // The dumper's text of one input after the other, and into buffers of several sizes. The stored output was typed out from
 // document 01's rules.
+use libc::STDOUT_FILENO;
+
 mod sizes; // sizes.rt: long inputs, and buffers that are short, exactly full and longer
+
+pub(crate) fn show(text: &[u8]) {
+    io::write_all(STDOUT_FILENO, text);
+}
 
 fn shown(input: &[u8]) {
     let mut text = [0u8; 512];
     let dumped = dump::dump(input, &mut text);
     let length = dumped.length;
-    show::text(&text[..length]);
-    show::text(b"\n");
+    show(&text[..length]);
+    show(b"\n");
 }
 
 // P1 to P4, P7 to P10 and nine repeaters: the number, and the details of 3 and 4.

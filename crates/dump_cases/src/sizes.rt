@@ -1,5 +1,12 @@
 // Long inputs, and buffers that are short, exactly full and longer.
+use super::show;
 use super::shown;
+use libc::STDOUT_FILENO;
+
+fn show_field(name: &[u8], n: usize) {
+    show(name);
+    io::print_decimal(STDOUT_FILENO, n as u64);
+}
 
 // The example frame, with as much info of nulls as the input has room for.
 fn frame_of(input: &mut [u8]) {
@@ -59,23 +66,22 @@ fn untouched(out: &[u8]) -> bool {
 fn told(dumped: dump::Dumped, out: &[u8]) {
     let answer = dumped.answer;
     let n = dumped.length;
-    show::field(b"answer", answer.number() as u64);
-    show::field(b"length", n as u64);
+    show_field(b" answer=", answer.number() as usize);
+    show_field(b" length=", n);
     if out.len() < n {
         return;
     }
     if untouched(&out[n..]) {
-        show::text(b" untouched");
+        show(b" untouched");
     }
     if 0 < n {
-        show::text(b" after it");
+        show(b" after it");
     }
-    show::text(b"\n");
+    show(b"\n");
 }
 
 fn into(input: &[u8], out: &mut [u8]) {
-    show::text(b"room=");
-    show::number(out.len() as u64);
+    show_field(b"room=", out.len());
     let dumped = dump::dump(input, out);
     told(dumped, out);
 }
@@ -92,10 +98,10 @@ fn rooms(frame: &[u8]) {
 }
 
 fn refusal_rooms() {
-    show::text(b"refusal ");
+    show(b"refusal ");
     let mut short = [0xAAu8; 8];
     into(b"", &mut short);
-    show::text(b"refusal ");
+    show(b"refusal ");
     let mut full = [0xAAu8; 9];
     into(b"", &mut full);
 }

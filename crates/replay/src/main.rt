@@ -1,7 +1,9 @@
-// The stored list of the Rust's answers, replayed: from each line's input the proved code makes the whole line again, which must be
-// the stored one. compare/README.md says how the list is made; its first lines say how to read it.
-use show_frame::cutting::first;
-use show_frame::cutting::place;
+// The stored list of answers, replayed: from each line's input the proved code makes the whole line again, which must be the stored
+// one. compare/README.md says how the list is made; its first lines say how to read it.
+use crate::words::first;
+use crate::words::place;
+use crate::words::show;
+use libc::STDIN_FILENO;
 
 mod words; // words.rt: the words of a line, hex and decimal
 mod answers; // answers.rt: the code's answer to one line
@@ -12,17 +14,24 @@ fn line(l: &[u8]) {
         return;
     }
     let letter = l[0];
-    show::text(l);
+    show(l);
     let input = words::after(l);
     match letter {
         b'D' => answers::decode(input),
-        b'W' => answers::write(input),
+        b'K' => answers::content(input),
+        b'W' => answers::write(letter, input),
+        b'E' => answers::write(letter, input),
+        b'S' => answers::write(letter, input),
         b'T' => answers::text(input),
         b'P' => answers::parts(input),
-        b'S' => answers::print(input),
+        b'A' => answers::again(input),
+        b'H' => answers::hops(input),
+        b'Q' => answers::stations(letter, input),
+        b'U' => answers::stations(letter, input),
+        b'Z' => answers::default(),
         _ => (),
     }
-    show::text(b"\n");
+    show(b"\n");
 }
 
 fn lines(list: &[u8]) {
@@ -37,6 +46,6 @@ fn lines(list: &[u8]) {
 
 fn main() {
     let mut list = [0u8; 524288];
-    let n = io::read_full(0, &mut list);
+    let n = io::read_full(STDIN_FILENO, &mut list);
     lines(first(&list, n));
 }

@@ -1,7 +1,29 @@
-// The words of a line, separated by single spaces; octets in hex, `-` for none; numbers in decimal.
+// The words of a line, separated by single spaces: octets in hex, `-` for none; numbers in decimal.
+use libc::STDOUT_FILENO;
 ghost use Prim.Native.Nat.{_≤_, _<_};
-use show_frame::cutting::first;
-use show_frame::cutting::place;
+ghost use lib.ListN.{length};
+
+// The first n octets; all where there are fewer.
+pub(crate) fn first(s: &[u8], n: usize) -> &[u8] {
+    if s.len() < n {
+        return s;
+    }
+    &s[..n]
+}
+
+// The place of the first such octet, or the length.
+pub(crate) fn place(s: &[u8], octet: u8) -> usize
+    ensures { λ r. ⌜ r ≤ length (now (s .entry)) ⌝ }
+{
+    let mut i = 0;
+    while i < s.len() {
+        if s[i] == octet {
+            return i;
+        }
+        i += 1;
+    }
+    i
+}
 
 // The first word.
 pub(crate) fn word(l: &[u8]) -> &[u8] {
@@ -73,32 +95,61 @@ fn digit(d: u8) -> u8
     if d < 10 { b'0' + d } else { b'A' - 10 + d }
 }
 
-fn show_octet(b: u8) {
-    let high = digit(b / 16);
-    let low = digit(b % 16);
-    show::text(&[high, low]);
+fn high(b: u8) -> u8 {
+    digit(b / 16)
 }
 
-// A space, then the octets.
-pub(crate) fn show_octets(s: &[u8]) {
-    show::text(b" ");
-    if s.len() == 0 {
-        show::text(b"-");
-    }
+fn low(b: u8) -> u8 {
+    digit(b % 16)
+}
+
+// The octets in hex, as many as there is room for, and how many digits they are.
+fn hex(s: &[u8], out: &mut [u8]) -> usize
+    ensures { λ r. ⌜ r ≤ length (now (out .exit)) ⌝ }
+{
+    let n = out.len() / 2;
     let mut i = 0;
     while i < s.len() {
-        show_octet(s[i]);
+        if n <= i {
+            return 2 * i;
+        }
+        out[2 * i] = high(s[i]);
+        out[2 * i + 1] = low(s[i]);
         i += 1;
     }
+    2 * i
+}
+
+pub(crate) fn show(text: &[u8]) {
+    io::write_all(STDOUT_FILENO, text);
 }
 
 // A space, then the number.
 pub(crate) fn show_number(n: usize) {
-    show::text(b" ");
-    show::number(n as u64);
+    show(b" ");
+    io::print_decimal(STDOUT_FILENO, n as u64);
 }
 
-// The same for a number that an octet holds.
-pub(crate) fn show_small(n: u8) {
-    show_number(n as usize);
+// Whether every octet is EE, which lent octets are before a call.
+fn untouched(s: &[u8]) -> bool {
+    let mut i = 0;
+    while i < s.len() {
+        if s[i] != 0xEE {
+            return false;
+        }
+        i += 1;
+    }
+    true
+}
+
+// A space, then octets that were lent: a dot where none of them was touched.
+pub(crate) fn show_lent(s: &[u8]) {
+    if untouched(s) {
+        show(b" .");
+        return;
+    }
+    let mut digits = [0u8; 1030];
+    let n = hex(s, &mut digits);
+    show(b" ");
+    show(first(&digits, n));
 }

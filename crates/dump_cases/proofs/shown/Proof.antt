@@ -14,17 +14,17 @@ dump-requires c κs = search needs
 array-share-prefix-text : tie.Need-array-share-prefix-text
 array-share-prefix-text c = search needs
 
-slice-aggregate-text : tie.Need-slice-aggregate-text
-slice-aggregate-text c = sym (length-take-le _ _ (search needs))
+slice-aggregate-show : tie.Need-slice-aggregate-show
+slice-aggregate-show c = sym (length-take-le _ _ (search needs))
 
-text-requires : tie.Need-text-requires
-text-requires c κs = search needs
+show-requires : tie.Need-show-requires
+show-requires c κs = search needs
 
-slice-aggregate-text-2 : tie.Need-slice-aggregate-text-2
-slice-aggregate-text-2 c = search needs
+slice-aggregate-show-2 : tie.Need-slice-aggregate-show-2
+slice-aggregate-show-2 c = search needs
 
-text-requires-2 : tie.Need-text-requires-2
-text-requires-2 c κs = search needs
+show-requires-2 : tie.Need-show-requires-2
+show-requires-2 c κs = search needs
 
 returns : tie.Need-returns
 returns c = search needs
@@ -36,8 +36,8 @@ shown-spec =
     slice-aggregate-dump
     dump-requires
     array-share-prefix-text
-    slice-aggregate-text
-    text-requires
-    slice-aggregate-text-2
-    text-requires-2
+    slice-aggregate-show
+    show-requires
+    slice-aggregate-show-2
+    show-requires-2
     returns)

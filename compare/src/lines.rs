@@ -1,0 +1,214 @@
+//! The lines of the list for `replay`: each an input with the answer that is owed to it. On document 01's domain of equality that is
+//! the Rust's; elsewhere it is worked out here from document 01's rules, and the port is not asked.
+
+use crate::domain;
+use crate::flat::{self, Flat, FlatAddress, ADDRESS, COUNT, ENTRY, FLAT, KIND, REPEATERS, ROUTE};
+use crate::inputs;
+use crate::oracle::{self, Refusal};
+use crate::records;
+use crate::show;
+use ax25::frame::Ax25Frame;
+
+pub const HEADING: &str = "\
+# Inputs and the answers that are owed to them, by the Rust crate ax25 0.4.0, unchanged. Made by 'compare/build' and
+# 'target/compare/compare replay-list'; never edited by hand. Where a heading says 'document 01', the Rust has no such answer, and
+# the lines under it were worked out from that paper's rules. So is what is left in lent octets, everywhere.
+# Words are separated by one space; octets are hex digits, and - is none of them; numbers are decimal. A record is 92 octets:
+# destination and source of 7 each (six characters and the SSID); eight places of 8 (an address and its mark); the route count; the
+# mark (0 Command, 1 Response, 2 absent); then the content's 12: kind (0 I, 1 RR, 2 RNR, 3 REJ, 4 SABM, 5 DISC, 6 DM, 7 UA, 8 FRMR,
+# 9 UI, 10 unknown), PID case and octet, P/F, N(R), N(S), Z, Y, X, W, FRMR's response, the rejected control octet.
+# Octets that are lent are EE before the call. Behind a number stands what it left there: a dot where it touched none, else all of
+# them, and three more after them, which have to stay.
+# D input: number start end length info_start info_length record; by the loader's calls: number canonical number length octets
+# K content: number flat_content                   content read alone
+# E flat_content info room: number length octets   content written alone, into room for so many octets
+# W record info room: number length octets         a frame written
+# S address - room: number length text             an address printed
+# T text: number address
+# P callsign ssid: number address
+# A record: number record                          the frame of a record, as a record again
+# H record: number hop_set hops_used due_place
+# Q address address: 1 where both are one station, else 0
+# U source destination: number record              new_simple_ui_frame
+# Z: number record                                 the default frame";
+
+/// A lent octet before the call, and how many of them are shown beyond the room.
+const LENT: u8 = 0xEE;
+const BEYOND: usize = 3;
+
+/// A number, and the octets that are written: none at a refusal.
+type Answer = (u32, Vec<u8>);
+
+pub struct List {
+    pub lines: usize,
+}
+
+impl List {
+    pub fn heading(&mut self, text: &str) {
+        println!("# {}", text);
+    }
+
+    fn line(&mut self, line: String) {
+        self.lines += 1;
+        println!("{}", line);
+    }
+
+    pub fn decode(&mut self, input: &[u8]) {
+        let (owed, octets) = match oracle::read(input) {
+            _ if domain::repeaters(input) > REPEATERS => (oracle::refused(nine()), Vec::new()),
+            Ok(frame) => (oracle::accepted(input, &frame), frame.to_bytes()),
+            Err(refusal) => (oracle::refused(refusal), Vec::new()),
+        };
+        let number = owed.number;
+        let record = if number == 0 { &owed.record[..] } else { &[] };
+        let canonical = u8::from(number == 0 && octets == input);
+        let places = [owed.start, owed.end, owed.length, owed.info_start, owed.info_len].map(|place| place.to_string()).join(" ");
+        let again = format!("{} {} {} {}", canonical, number, octets.len(), lent(&octets, octets.len()));
+        self.line(format!("D {} {} {} {} {} {}", hex(input), number, places, lent(record, FLAT), number, again));
+    }
+
+    /// Content alone, and what was read of it written again.
+    pub fn content(&mut self, content: &[u8]) {
+        let read = oracle::read(&inputs::with_content(content));
+        let record = read.as_ref().map(flat::of_frame);
+        let number = read.as_ref().map_or_else(|refusal| refusal.number, |_| 0);
+        let flat = record.as_ref().map_or(&[][..], |record| &record[KIND..]);
+        self.line(format!("K {} {} {}", hex(content), number, lent(flat, FLAT - KIND)));
+        if let Ok(frame) = read {
+            let info = flat::info_of(&frame).unwrap_or(&[]);
+            self.write_content(&flat::of_frame(&frame), info, frame.to_bytes().len() - inputs::FIELD);
+        }
+    }
+
+    /// The content of a record alone.
+    pub fn write_content(&mut self, record: &Flat, info: &[u8], room: usize) {
+        let mut with_plain_addresses = records::base(0);
+        with_plain_addresses[KIND..].copy_from_slice(&record[KIND..]);
+        let (number, octets) = written(&with_plain_addresses, info);
+        let content = octets.get(inputs::FIELD..).unwrap_or(&[]).to_vec();
+        self.written(format!("E {} {}", hex(&record[KIND..]), hex(info)), (number, content), room);
+    }
+
+    /// Writing into room exactly full, and for a refusal into much.
+    pub fn write(&mut self, record: &Flat, info: &[u8]) {
+        let (number, octets) = written(record, info);
+        self.write_in(record, info, if number == 0 { octets.len() } else { FLAT + info.len() });
+    }
+
+    /// Into room one octet short.
+    pub fn write_short(&mut self, record: &Flat, info: &[u8]) {
+        let needed = written(record, info).1.len();
+        self.write_in(record, info, needed - 1);
+    }
+
+    /// Into room exactly full, one octet short, none and longer; a refusal into none and much.
+    pub fn write_rooms(&mut self, record: &Flat, info: &[u8]) {
+        let (number, octets) = written(record, info);
+        let needed = octets.len();
+        let rooms = if number == 0 { vec![needed, needed - 1, 0, needed + 4] } else { vec![0, 90] };
+        rooms.into_iter().for_each(|room| self.write_in(record, info, room));
+    }
+
+    pub fn write_in(&mut self, record: &Flat, info: &[u8], room: usize) {
+        self.written(format!("W {} {}", hex(record), hex(info)), written(record, info), room);
+    }
+
+    /// Printing into room exactly full, and for a refusal into much.
+    pub fn print(&mut self, address: &FlatAddress) {
+        let (number, text) = printed(address);
+        self.print_in(address, if number == 0 { text.len() } else { ADDRESS + 3 });
+    }
+
+    pub fn print_in(&mut self, address: &FlatAddress, room: usize) {
+        self.written(format!("S {} -", hex(address)), printed(address), room);
+    }
+
+    /// 24, and nothing written, where the room is short.
+    fn written(&mut self, input: String, answer: Answer, room: usize) {
+        let (number, octets) = if room < answer.1.len() { (24, Vec::new()) } else { answer };
+        self.line(format!("{} {} {} {} {}", input, room, number, octets.len(), lent(&octets, room)));
+    }
+
+    pub fn text(&mut self, text: &[u8]) {
+        let (number, address) = read_text(text, oracle::from_str);
+        self.line(format!("T {} {} {}", hex(text), number, lent(&address, ADDRESS)));
+    }
+
+    pub fn parts(&mut self, callsign: &[u8], ssid: u8) {
+        let (number, address) = read_text(callsign, |text| oracle::from_parts(text, ssid));
+        self.line(format!("P {} {} {} {}", hex(callsign), ssid, number, lent(&address, ADDRESS)));
+    }
+
+    /// A record that the Rust can hold.
+    pub fn again(&mut self, record: &Flat) {
+        let settled = flat::settled(record, &flat::to_frame(record, &[]));
+        self.line(format!("A {} 0 {}", hex(record), lent(&settled, FLAT)));
+    }
+
+    /// Document 01's Hops: bit i for a marked place i below the count, a count over 8 read as 8; the hops used are the ones; the due
+    /// place equals them.
+    pub fn hops(&mut self, record: &Flat) {
+        let count = usize::from(record[COUNT]).min(REPEATERS);
+        let set: u32 = (0..count).filter(|i| record[ROUTE + ENTRY * i + ADDRESS] != 0).map(|i| 1 << i).sum();
+        let used = set.count_ones();
+        self.line(format!("H {} 0 {} {} {}", hex(record), set, used, used));
+    }
+
+    /// Document 01: two stations are equal when callsign and SSID are.
+    pub fn same_station(&mut self, one: &FlatAddress, other: &FlatAddress) {
+        self.line(format!("Q {} {} {}", hex(one), hex(other), u8::from(one == other)));
+    }
+
+    pub fn simple_ui(&mut self, source: &FlatAddress, destination: &FlatAddress) {
+        let [from, to] = [source, destination].map(|address| flat::addresses(&[*address]).remove(0));
+        let record = flat::of_frame(&Ax25Frame::new_simple_ui_frame(from, to, Vec::new()));
+        self.line(format!("U {} {} 0 {}", hex(source), hex(destination), lent(&record, FLAT)));
+    }
+
+    pub fn default_frame(&mut self) {
+        self.line(format!("Z 0 {}", lent(&flat::of_frame(&Ax25Frame::default()), FLAT)));
+    }
+}
+
+fn hex(octets: &[u8]) -> String {
+    if octets.is_empty() { "-".to_string() } else { show::hex(octets) }
+}
+
+/// What is shown of octets that were lent, with those beyond the room.
+fn lent(written: &[u8], room: usize) -> String {
+    let mut buffer = vec![LENT; room + BEYOND];
+    buffer[..written.len()].copy_from_slice(written);
+    if buffer.iter().all(|&octet| octet == LENT) { ".".to_string() } else { show::hex(&buffer) }
+}
+
+fn nine() -> Refusal {
+    Refusal { number: 9, start: 0, end: 0, length: 0 }
+}
+
+/// A record written where there is room.
+fn written(record: &Flat, info: &[u8]) -> Answer {
+    match domain::record_number(record, info) {
+        0 => (0, flat::to_frame(record, info).to_bytes()),
+        refused => (refused, Vec::new()),
+    }
+}
+
+/// An address printed where there is room.
+fn printed(address: &FlatAddress) -> Answer {
+    if domain::encodable(address) {
+        (0, flat::addresses(&[*address])[0].to_string().into_bytes())
+    } else {
+        (22, Vec::new())
+    }
+}
+
+/// The number and the address, which a refusal does not leave.
+fn read_text<F>(text: &[u8], ask: F) -> Answer
+where
+    F: Fn(&str) -> Result<ax25::frame::Address, u32>,
+{
+    match std::str::from_utf8(text) {
+        Ok(text) if text.is_ascii() => ask(text).map_or_else(|number| (number, Vec::new()), |read| (0, flat::of_address(&read).to_vec())),
+        _ => (35, Vec::new()),
+    }
+}
