@@ -155,9 +155,9 @@ pub fn test(scale: usize, seed: u64, only: Option<String>) -> Report {
     octets(&mut checker, &mut report, scale, &mut seeds);
     frame_records(&mut checker, &mut report, scale, &mut seeds);
     side_by_side(&mut checker, &mut report, scale, seeds.next());
-    address_texts(&mut checker, &mut report, scale, &mut seeds);
     contents(&mut checker, &mut report, scale, &mut seeds);
     hops_and_stations(&mut checker, &mut report, scale, &mut seeds);
+    address_texts(&mut checker, &mut report, scale, &mut seeds);
     class(&mut checker, &mut report, "captures: each format comes back, and what can't be read is refused", |c| {
         let frames: Vec<Vec<u8>> = inputs::good_frames().into_iter().chain([vec![0xC0, 0xDB, 0xDC, 0xDD, 0xC0]]).collect();
         c.other("captures of good frames", capture_check::faults(&frames));
