@@ -155,9 +155,9 @@ pub fn test(scale: usize, seed: u64, only: Option<String>) -> Report {
     octets(&mut checker, &mut report, scale, &mut seeds);
     frame_records(&mut checker, &mut report, scale, &mut seeds);
     side_by_side(&mut checker, &mut report, scale, seeds.next());
-    address_texts(&mut checker, &mut report, scale, &mut seeds);
     contents(&mut checker, &mut report, scale, &mut seeds);
     hops_and_stations(&mut checker, &mut report, scale, &mut seeds);
+    address_texts(&mut checker, &mut report, scale, &mut seeds);
     let missing = checker.seen.missing();
     class(&mut checker, &mut report, "met: every number, kind, mark, PID, route length, room, search and listed difference", |c| c.missing(missing));
     report::totals(&mut report, &checker.seen);

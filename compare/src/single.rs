@@ -188,7 +188,8 @@ pub fn hops(record: &[u8]) -> bool {
 }
 
 pub fn same_station(one: &[u8], other: &[u8]) -> bool {
+    println!("{} and {}", show::address(&padded::<ADDRESS>(one)), show::address(&padded::<ADDRESS>(other)));
     let mut checker = Checker::thorough();
-    println!("port: {} and {}: {}", show::address(&padded::<ADDRESS>(one)), show::address(&padded::<ADDRESS>(other)), checker.port.same_station(one, other));
+    println!("port: {}", checker.port.same_station(one, other));
     verdict(checker.same_station(one, other))
 }
