@@ -25,7 +25,7 @@ pub const HEADING: &str = "\
 # W record info room: number length octets         a frame written
 # S address - room: number length text             an address printed
 # T text: number address
-# P callsign ssid: number address
+# P callsign - ssid: number address
 # A record: number record                          the frame of a record, as a record again
 # H record: number hop_set hops_used due_place
 # Q address address: 1 where both are one station, else 0
@@ -136,7 +136,7 @@ impl List {
 
     pub fn parts(&mut self, callsign: &[u8], ssid: u8) {
         let (number, address) = read_text(callsign, |text| oracle::from_parts(text, ssid));
-        self.line(format!("P {} {} {} {}", hex(callsign), ssid, number, lent(&address, ADDRESS)));
+        self.line(format!("P {} - {} {} {}", hex(callsign), ssid, number, lent(&address, ADDRESS)));
     }
 
     /// A record that the Rust can hold.

@@ -23,9 +23,9 @@ answers short n = cond short 24 n
 abbrev pub leaves : Bool → List ℕ → List ℕ → List ℕ
 leaves short l part = cond short l (splice l 0 part)
 
--- what a call that answers n leaves of octets that are lent: a part at their start, and no refusal touches them
-abbrev pub leavesBy : ℕ → List ℕ → List ℕ → List ℕ
-leavesBy n l part = cond (eqb n 0) (splice l 0 part) l
+-- what it leaves of octets that are lent, where it answers n unless it is lent too little: no refusal touches them
+abbrev pub leavesBy : Bool → ℕ → List ℕ → List ℕ → List ℕ
+leavesBy short n l part = cond short l (cond (eqb n 0) (splice l 0 part) l)
 
 -- content that was read, flat; a refusal has none
 abbrev pub readFlat : ContentAnswer → List ℕ

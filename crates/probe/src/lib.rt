@@ -43,7 +43,7 @@ const NO_ROOM: u32 = 24;
 #[no_mangle]
 pub extern "C" fn probe_decode(input: &[u8], flat: &mut [u8], places: &mut [usize]) -> u32
     ensures { λ r. ⌜ r ≡ answers (lacks (now (flat .entry)) 92 || lacks (now (places .entry)) 5) (numberOf (decode (now (input .entry)) .answer)) ⌝ }
-    ensures { λ r. ⌜ now (flat .exit) ≡ leavesBy r (now (flat .entry)) (flatOf (decode (now (input .entry)) .frame)) ⌝ }
+    ensures { λ r. ⌜ now (flat .exit) ≡ leavesBy (lacks (now (flat .entry)) 92 || lacks (now (places .entry)) 5) (numberOf (decode (now (input .entry)) .answer)) (now (flat .entry)) (flatOf (decode (now (input .entry)) .frame)) ⌝ }
     ensures { λ r. ⌜ now (places .exit) ≡ leaves (lacks (now (flat .entry)) 92 || lacks (now (places .entry)) 5) (now (places .entry)) (placesOf (decode (now (input .entry)))) ⌝ }
 {
     if flat.len() < FRAME {
@@ -99,7 +99,7 @@ pub extern "C" fn probe_again(given: &[u8], flat: &mut [u8]) -> u32
 #[no_mangle]
 pub extern "C" fn probe_from_parts(callsign: &[u8], ssid: u8, flat: &mut [u8]) -> u32
     ensures { λ r. ⌜ r ≡ answers (lacks (now (flat .entry)) 7) (addressNumberOf (readParts (now (callsign .entry)) ssid .answer)) ⌝ }
-    ensures { λ r. ⌜ now (flat .exit) ≡ leavesBy r (now (flat .entry)) (addressFlat (readParts (now (callsign .entry)) ssid .address)) ⌝ }
+    ensures { λ r. ⌜ now (flat .exit) ≡ leavesBy (lacks (now (flat .entry)) 7) (addressNumberOf (readParts (now (callsign .entry)) ssid .answer)) (now (flat .entry)) (addressFlat (readParts (now (callsign .entry)) ssid .address)) ⌝ }
 {
     if flat.len() < ADDRESS {
         return NO_ROOM;
@@ -119,7 +119,7 @@ pub extern "C" fn probe_from_parts(callsign: &[u8], ssid: u8, flat: &mut [u8]) -
 #[no_mangle]
 pub extern "C" fn probe_from_str(text: &[u8], flat: &mut [u8]) -> u32
     ensures { λ r. ⌜ r ≡ answers (lacks (now (flat .entry)) 7) (addressNumberOf (readText (now (text .entry)) .answer)) ⌝ }
-    ensures { λ r. ⌜ now (flat .exit) ≡ leavesBy r (now (flat .entry)) (addressFlat (readText (now (text .entry)) .address)) ⌝ }
+    ensures { λ r. ⌜ now (flat .exit) ≡ leavesBy (lacks (now (flat .entry)) 7) (addressNumberOf (readText (now (text .entry)) .answer)) (now (flat .entry)) (addressFlat (readText (now (text .entry)) .address)) ⌝ }
 {
     if flat.len() < ADDRESS {
         return NO_ROOM;

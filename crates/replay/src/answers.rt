@@ -1,12 +1,8 @@
-// The code's answer to the input of one line, printed as the list has it. Lent octets are EE before a call; a call that is lent so
-// much room is lent that many of them, and three more are shown, which have to stay.
-use crate::words::after;
+// The code's answer to one line, printed as the list has it. Lent octets are EE before a call; what stands behind those that a call
+// may write is shown too, three octets of it.
 use crate::words::first;
-use crate::words::number;
-use crate::words::octets;
 use crate::words::show_lent;
 use crate::words::show_number;
-use crate::words::word;
 
 // Room and the three octets after it, within the buffers here.
 fn shown(room: usize) -> usize {
@@ -26,11 +22,10 @@ fn show_written(answer: u32, length: usize, lent: &[u8]) {
     show_lent(lent);
 }
 
-fn show_decoded(input: &[u8]) {
+fn decode(input: &[u8]) {
     let mut flat = [0xEEu8; 95];
     let mut places: [usize; 5] = [0, 0, 0, 0, 0];
-    let answer = probe::probe_decode(input, &mut flat, &mut places);
-    show_answer(answer);
+    show_answer(probe::probe_decode(input, &mut flat, &mut places));
     show_number(places[0]);
     show_number(places[1]);
     show_number(places[2]);
@@ -39,28 +34,13 @@ fn show_decoded(input: &[u8]) {
     show_lent(&flat);
 }
 
-fn show_again(input: &[u8]) {
+fn reencode(input: &[u8]) {
     let mut out = [0xEEu8; 515];
     show_answer(loader::ax25_decode(input));
     show_answer(loader::ax25_canonical(input));
     let length = loader::ax25_reencoded_length(input);
     let answer = loader::ax25_reencode(input, &mut out);
     show_written(answer, length, first(&out, shown(length)));
-}
-
-pub(crate) fn decode(l: &[u8]) {
-    let mut input = [0u8; 512];
-    let n = octets(word(l), &mut input);
-    show_decoded(first(&input, n));
-    show_again(first(&input, n));
-}
-
-pub(crate) fn content(l: &[u8]) {
-    let mut input = [0u8; 512];
-    let n = octets(word(l), &mut input);
-    let mut flat = [0xEEu8; 15];
-    show_answer(probe::probe_content(first(&input, n), &mut flat));
-    show_lent(&flat);
 }
 
 // A call that writes, by its letter: a frame, content, or an address as text.
@@ -81,74 +61,60 @@ fn write_into(letter: u8, given: &[u8], info: &[u8], out: &mut [u8], room: usize
     show_written(answer, length[0], first(out, shown(room)));
 }
 
-pub(crate) fn write(letter: u8, l: &[u8]) {
-    let mut given = [0u8; 92];
-    let n = octets(word(l), &mut given);
-    let mut info = [0u8; 512];
-    let rest = after(l);
-    let m = octets(word(rest), &mut info);
+fn write(letter: u8, given: &[u8], info: &[u8], room: usize) {
     let mut out = [0xEEu8; 515];
-    write_into(
-        letter,
-        first(&given, n),
-        first(&info, m),
-        &mut out,
-        number(word(after(rest))),
-    );
+    write_into(letter, given, info, &mut out, room);
 }
 
-pub(crate) fn text(l: &[u8]) {
-    let mut text = [0u8; 512];
-    let n = octets(word(l), &mut text);
-    let mut address = [0xEEu8; 10];
-    show_answer(probe::probe_from_str(first(&text, n), &mut address));
-    show_lent(&address);
+// A call that leaves a record, content or an address, by its letter.
+fn leave_by(letter: u8, one: &[u8], other: &[u8], ssid: u8, out: &mut [u8]) -> u32 {
+    match letter {
+        b'K' => probe::probe_content(one, out),
+        b'T' => probe::probe_from_str(one, out),
+        b'P' => probe::probe_from_parts(one, ssid, out),
+        b'A' => probe::probe_again(one, out),
+        b'U' => probe::probe_simple_ui(one, other, out),
+        _ => probe::probe_default(out),
+    }
 }
 
-pub(crate) fn parts(l: &[u8]) {
-    let mut callsign = [0u8; 512];
-    let n = octets(word(l), &mut callsign);
-    let ssid = (number(word(after(l))) % 256) as u8;
-    let mut address = [0xEEu8; 10];
-    show_answer(probe::probe_from_parts(first(&callsign, n), ssid, &mut address));
-    show_lent(&address);
+// How many octets it leaves.
+fn size(letter: u8) -> usize {
+    match letter {
+        b'K' => 12,
+        b'T' => 7,
+        b'P' => 7,
+        _ => 92,
+    }
 }
 
-pub(crate) fn again(l: &[u8]) {
-    let mut given = [0u8; 92];
-    let n = octets(word(l), &mut given);
-    let mut flat = [0xEEu8; 95];
-    show_answer(probe::probe_again(first(&given, n), &mut flat));
-    show_lent(&flat);
+fn leave(letter: u8, one: &[u8], other: &[u8], ssid: u8) {
+    let mut out = [0xEEu8; 95];
+    show_answer(leave_by(letter, one, other, ssid, &mut out));
+    show_lent(first(&out, shown(size(letter))));
 }
 
-pub(crate) fn hops(l: &[u8]) {
-    let mut given = [0u8; 92];
-    let n = octets(word(l), &mut given);
+fn hops(record: &[u8]) {
     let mut numbers: [usize; 3] = [0, 0, 0];
-    show_answer(probe::probe_hops(first(&given, n), &mut numbers));
+    show_answer(probe::probe_hops(record, &mut numbers));
     show_number(numbers[0]);
     show_number(numbers[1]);
     show_number(numbers[2]);
 }
 
-// Of two addresses: whether they are of one station, or the simple UI frame from the first to the second.
-pub(crate) fn stations(letter: u8, l: &[u8]) {
-    let mut one = [0u8; 7];
-    let n = octets(word(l), &mut one);
-    let mut other = [0u8; 7];
-    let m = octets(word(after(l)), &mut other);
-    if letter == b'Q' {
-        show_answer(probe::probe_same_station(first(&one, n), first(&other, m)));
-        return;
+// What a line has: its letter, two words of octets and a number, each none or 0 where it lacks it.
+pub(crate) fn answer(letter: u8, one: &[u8], other: &[u8], n: usize) {
+    match letter {
+        b'#' => (),
+        b'D' => {
+            decode(one);
+            reencode(one)
+        }
+        b'W' => write(letter, one, other, n),
+        b'E' => write(letter, one, other, n),
+        b'S' => write(letter, one, other, n),
+        b'H' => hops(one),
+        b'Q' => show_answer(probe::probe_same_station(one, other)),
+        _ => leave(letter, one, other, (n % 256) as u8),
     }
-    let mut flat = [0xEEu8; 95];
-    show_answer(probe::probe_simple_ui(first(&one, n), first(&other, m), &mut flat));
-    show_lent(&flat);
-}
-
-pub(crate) fn default() {
-    let mut flat = [0xEEu8; 95];
-    show_answer(probe::probe_default(&mut flat));
-    show_lent(&flat);
 }

@@ -1,36 +1,35 @@
 // The stored list of answers, replayed: from each line's input the proved code makes the whole line again, which must be the stored
 // one. compare/README.md says how the list is made; its first lines say how to read it.
+use crate::words::after;
 use crate::words::first;
+use crate::words::number;
+use crate::words::octets;
 use crate::words::place;
 use crate::words::show;
+use crate::words::word;
 use libc::STDIN_FILENO;
 
 mod words; // words.rt: the words of a line, hex and decimal
 mod answers; // answers.rt: the code's answer to one line
+
+// What stands after the letter: octets, octets and a number.
+fn input(letter: u8, l: &[u8]) {
+    let mut one = [0u8; 512];
+    let n = octets(word(l), &mut one);
+    let rest = after(l);
+    let mut other = [0u8; 512];
+    let m = octets(word(rest), &mut other);
+    let k = number(word(after(rest)));
+    answers::answer(letter, first(&one, n), first(&other, m), k);
+}
 
 // A line without its end: a heading stands as it is, any other is a letter and the input.
 fn line(l: &[u8]) {
     if l.len() == 0 {
         return;
     }
-    let letter = l[0];
     show(l);
-    let input = words::after(l);
-    match letter {
-        b'D' => answers::decode(input),
-        b'K' => answers::content(input),
-        b'W' => answers::write(letter, input),
-        b'E' => answers::write(letter, input),
-        b'S' => answers::write(letter, input),
-        b'T' => answers::text(input),
-        b'P' => answers::parts(input),
-        b'A' => answers::again(input),
-        b'H' => answers::hops(input),
-        b'Q' => answers::stations(letter, input),
-        b'U' => answers::stations(letter, input),
-        b'Z' => answers::default(),
-        _ => (),
-    }
+    input(l[0], after(l));
     show(b"\n");
 }
 

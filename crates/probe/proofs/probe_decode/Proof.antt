@@ -33,7 +33,10 @@ returns-3 c =
     let d = p .before .before in
     rw (le-ltb _ _ (d .before .before .if1 .left), le-ltb _ _ (d .before .if2 .left)) (
       rw (c .before .number .ensures, d .from-bytes .ensures) refl,
-      (rw (ne-eqb _ _ (c .if3 .taken)) refl, p .put-places .ensures ∙ rw (d .from-bytes .ensures) refl),
+      (
+        rw (← d .from-bytes .ensures, ← c .before .number .ensures, ne-eqb _ _ (c .if3 .taken)) refl,
+        p .put-places .ensures ∙ rw (d .from-bytes .ensures) refl,
+      ),
     )
 
 put-frame-requires : tie.Need-put-frame-requires
@@ -54,7 +57,7 @@ returns-4 c =
     rw (le-ltb _ _ (d .before .before .if1 .left), le-ltb _ _ (d .before .if2 .left)) (
       rw (i .before .number .ensures, d .from-bytes .ensures) refl,
       (
-        rw (eq-eqb _ _ (i .if3 .left)) (f .put-frame .ensures ∙ rw (d .from-bytes .ensures) refl),
+        rw (← d .from-bytes .ensures, ← i .before .number .ensures, eq-eqb _ _ (i .if3 .left)) (f .put-frame .ensures),
         p .put-places .ensures ∙ rw (d .from-bytes .ensures) refl,
       ),
     )

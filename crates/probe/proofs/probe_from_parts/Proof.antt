@@ -1,5 +1,5 @@
 -- Lent too little; refused; else the address that was read.
-use mathlib.Core.Path.{refl, _∙_}
+use mathlib.Core.Path.{refl}
 use borrow.Author.Tests.{lt-ltb, le-ltb, eq-eqb, ne-eqb}
 use borrow.Author.Needs.{needs}
 use Rattle.probe.proofs.probe_from_parts.Statement.{statement}
@@ -19,7 +19,7 @@ returns-2 c =
     let d = c .before .before in
     rw (le-ltb _ _ (d .before .if1 .left)) (
       rw (c .before .number .ensures, d .from-parts .ensures) refl,
-      rw (ne-eqb _ _ (c .if2 .taken)) refl,
+      rw (← d .from-parts .ensures, ← c .before .number .ensures, ne-eqb _ _ (c .if2 .taken)) refl,
     )
 
 put-address-requires : tie.Need-put-address-requires
@@ -35,7 +35,7 @@ returns-3 c =
     let d = i .before .before in
     rw (le-ltb _ _ (d .before .if1 .left)) (
       rw (i .before .number .ensures, d .from-parts .ensures) refl,
-      rw (eq-eqb _ _ (i .if2 .left)) (p .put-address .ensures ∙ rw (d .from-parts .ensures) refl),
+      rw (← d .from-parts .ensures, ← i .before .number .ensures, eq-eqb _ _ (i .if2 .left)) (p .put-address .ensures),
     )
 
 pub probe-from-parts-spec : {M : Type 1} → statement M
