@@ -2,7 +2,7 @@
 """Puts together the laboratory's report from what ./lab left in a folder: report.md and report.json there.
 
 usage: report.py FOLDER KIT CAPTURES_STATUS
-Exit status: 0 where everything holds, 1 where something does not, 2 where a capture could not be read.
+Exit status: 0 where everything holds, 1 where something does not, 2 where the captures could not be compared.
 """
 import hashlib
 import json
@@ -103,6 +103,10 @@ def listed(part):
     return "Listed differences met (docs/DIFFERENCES.md): " + ", ".join(f"{n} {k} times" for n, k in part["listed"].items()) + "."
 
 
+def rooms(part):
+    return "Room lent to writers: " + ", ".join(f"{name} {count} times" for name, count in part["rooms"].items()) + "."
+
+
 def markdown(report):
     count = report["checks"]
     out = ["# ax25: the laboratory's run", ""]
@@ -124,14 +128,13 @@ def markdown(report):
     if report["captures"]:
         part = report["captures"]
         out += table(["file", "format", "frames", "passed over"], [(c["file"], c["format"], c["frames"], len(c["passed_over"])) for c in part["captures"]])
-        out += [""] + [f"- refused: {refused}" for refused in part["refused_captures"]]
-        out += [f"{part['decodes']} decodes and {part['writes']} writes compared; {part['accepted']} accepted, {part['canonical']} of them canonical. " + listed(part), ""]
+        out += ["", f"{part['decodes']} decodes and {part['writes']} writes compared; {part['accepted']} accepted, {part['canonical']} of them canonical. " + listed(part), ""]
     else:
         out += ["Not compared.", ""]
     out += ["## The Rust beside the port", ""]
     if report["compared"]:
         out += classes(report["compared"])
-        out += ["", f"{report['compared']['decodes']} decodes and {report['compared']['writes']} writes compared. " + listed(report["compared"]), ""]
+        out += ["", f"{report['compared']['decodes']} decodes and {report['compared']['writes']} writes compared. " + rooms(report["compared"]) + " " + listed(report["compared"]), ""]
     else:
         out += ["Not compared.", ""]
     if report["ratios"]:

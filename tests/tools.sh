@@ -259,7 +259,7 @@ need_rustc() {
 # PYTHON: Python 3.
 need_python() {
     PYTHON=$(tools_path python3 python3) && return
-    tools_fetch python3 python3-minimal || return 1
+    tools_fetch python3 python3 || return 1
     [ ! -d "$tools_dir/python3" ] || tools_wrap python3 python3
     PYTHON=$(tools_path python3 python3)
 }
@@ -286,5 +286,5 @@ tools_need_programs() { # PACKAGE VARIABLE=PROGRAM..
 # DECODE_APRS, GEN_PACKETS, KISSUTIL: direwolf's programs of those names; DIREWOLF itself.
 need_direwolf() { tools_need_programs direwolf DECODE_APRS=decode_aprs GEN_PACKETS=gen_packets KISSUTIL=kissutil DIREWOLF=direwolf ATEST=atest; }
 
-# TSHARK, TEXT2PCAP: Wireshark's programs for the terminal.
-need_tshark() { tools_need_programs tshark TSHARK=tshark TEXT2PCAP=text2pcap; }
+# TSHARK, TEXT2PCAP, EDITCAP: Wireshark's programs for the terminal.
+need_tshark() { tools_need_programs tshark TSHARK=tshark TEXT2PCAP=text2pcap EDITCAP=editcap; }

@@ -2,10 +2,14 @@
 //! does on document 01's domain of equality, and as docs/DIFFERENCES.md lists outside it.
 
 use crate::domain::{self, Listed};
-use crate::flat::{self, Decode, Flat, FlatAddress, ADDRESS, FLAT, NOCALL};
+use crate::flat::{self, Decode, Flat, FlatAddress, ADDRESS, FLAT, KIND};
+use crate::inputs::{self, FIELD};
+use crate::lent::{rooms, Room, Tried, LONGER};
 use crate::oracle::{self, Refusal};
-use crate::port::{Beside, Port, PLACES};
-use crate::seen::Seen;
+use crate::port::{Beside, Port, HOPS, PLACES};
+use crate::records;
+use crate::rng::Rng;
+use crate::seen::{Seen, Writer};
 use crate::show;
 use ax25::frame::Ax25Frame;
 
@@ -22,17 +26,29 @@ pub struct Checker {
     pub seen: Seen,
     /// Differences are only counted, and not described.
     pub quiet: bool,
+    /// Every room is tried, and not only some.
+    thorough: bool,
     found: Vec<Difference>,
-    /// Counts the inputs.
-    turn: u64,
+    /// Draws the rooms.
+    draw: Rng,
 }
 
-/// How much longer than needed the longer buffers are.
-const LONGER: usize = 9;
+/// The octets of a flat record's content.
+const CONTENT: usize = FLAT - KIND;
 
 impl Checker {
     pub fn new() -> Checker {
-        Checker { port: Port::new(), seen: Seen::new(), quiet: false, found: Vec::new(), turn: 0 }
+        Checker { port: Port::new(), seen: Seen::new(), quiet: false, thorough: false, found: Vec::new(), draw: Rng::new(0) }
+    }
+
+    /// For one input at a time: whatever room showed a difference is among those that are tried.
+    pub fn thorough() -> Checker {
+        Checker { thorough: true, ..Checker::new() }
+    }
+
+    /// The rooms to write this many octets into.
+    fn rooms(&mut self, tried: Tried, needed: usize) -> impl Iterator<Item = usize> {
+        rooms(if self.thorough { Tried::All } else { tried }, needed, &mut self.draw)
     }
 
     fn differ(&mut self, what: &str, owed: impl FnOnce() -> String, port: impl FnOnce(&Checker) -> String) {
@@ -45,7 +61,6 @@ impl Checker {
     }
 
     fn finish(&mut self) -> Vec<Difference> {
-        self.turn += 1;
         if let Some(fault) = self.port.fault() {
             self.differ("lent storage", || "nothing else is written".to_string(), |_| fault.to_string());
         }
@@ -59,13 +74,16 @@ impl Checker {
         }
         let (owed, rest) = self.port.output().split_at(owed.min(self.port.output().len()));
         let touched = if self.port.rest_is_as_it_was(owed.len()) { "as it was" } else { "NOT as it was" };
-        format!("{} and then, {}, {}", show::hex(owed), touched, show::hex(rest))
+        format!("{} and then, {}, {}", show::left(owed), touched, show::hex(rest))
     }
 
     /// Octets off the air: decoded, written again, and by the loader's four calls.
     pub fn octets(&mut self, input: &[u8]) -> Vec<Difference> {
         let rust = oracle::read(input);
         self.seen.decodes += 1;
+        if let Some((start, end)) = domain::field(input) {
+            self.seen.searched(input, start, end);
+        }
         if domain::repeaters(input) > flat::REPEATERS {
             self.beyond(input, &rust);
         } else {
@@ -92,13 +110,36 @@ impl Checker {
         self.seen.frame(&owed.record, octets == input);
         self.decode(input, &owed);
         self.loader(input, 0, &octets);
-        self.write(&owed.record, info, &octets);
+        for room in self.rooms(Tried::Some, octets.len()) {
+            self.seen.written(Writer::Reencode, &owed.record, Room::of(room, octets.len()));
+            self.reencode(input, 0, &octets, room);
+        }
+        self.seen.writes += 1;
+        for room in self.rooms(Tried::Some, octets.len()) {
+            self.seen.written(Writer::Read, &owed.record, Room::of(room, octets.len()));
+            self.write_in(Writer::Read, &owed.record, info, 0, &octets, room);
+        }
     }
 
     fn refused(&mut self, input: &[u8], refusal: Refusal) {
         self.seen.refusal(refusal.number);
         self.decode(input, &oracle::refused(refusal));
         self.loader(input, refusal.number, &[]);
+        for room in self.refused_rooms(input) {
+            self.seen.refused_room(refusal.number, room, input.len());
+            self.reencode(input, refusal.number, &[], room);
+        }
+    }
+
+    /// A room to re-encode a refused input into: most of the time one that a frame of its length would fit in.
+    fn refused_rooms(&mut self, input: &[u8]) -> std::ops::Range<usize> {
+        let enough = input.len() + LONGER;
+        let room = match self.draw.below(6) {
+            0 => 0,
+            1 => self.draw.within(0, input.len()),
+            _ => enough,
+        };
+        if self.thorough { 0..enough + 1 } else { room..room + 1 }
     }
 
     /// Nine or more repeaters: the port answers 9; the Rust reads them all and then looks at the content.
@@ -115,14 +156,18 @@ impl Checker {
         self.refused(input, Refusal { number: 9, start: 0, end: 0, length: 0 });
     }
 
+    /// The number, the places, and the record, which a refusal leaves alone.
     fn decode(&mut self, input: &[u8], owed: &Decode) {
-        let port = self.port.decode(input);
-        if port != *owed {
-            self.differ("decode", || show::decode(owed), |_| show::decode(&port));
+        let record = if owed.number == 0 { &owed.record[..] } else { &[] };
+        let places = [owed.start, owed.end, owed.length, owed.info_start, owed.info_len];
+        let number = self.port.decode(input, FLAT, PLACES);
+        if number != owed.number || !self.port.output_is(record) || !self.port.sizes_are(&places) {
+            let owes = || show::decode(owed.number, &places, &show::left(record));
+            self.differ("decode", owes, |me| show::decode(number, me.port.sizes(), &me.output(FLAT)));
         }
     }
 
-    /// The loader's four calls. `octets` is the re-encoding, empty for a refusal.
+    /// The loader's calls without an output. `octets` is the re-encoding, empty for a refusal.
     fn loader(&mut self, input: &[u8], number: u32, octets: &[u8]) {
         let canonical = u32::from(number == 0 && octets == input);
         let owed = (number, canonical, octets.len());
@@ -133,13 +178,10 @@ impl Checker {
             };
             self.differ("the loader's calls", || say(owed), |_| say(port));
         }
-        for room in rooms(octets.len(), self.turn) {
-            self.reencode(input, number, octets, room);
-        }
     }
 
     fn reencode(&mut self, input: &[u8], number: u32, octets: &[u8], room: usize) {
-        let (owed, octets) = self.owed_in(room, number, octets);
+        let (owed, octets) = self.owed_in(Writer::Reencode, room, number, octets);
         let port = self.port.reencode(input, room);
         if port != owed || !self.port.output_is(octets) {
             let says = |me: &Checker| format!("number {} written {}", port, me.output(octets.len()));
@@ -148,10 +190,12 @@ impl Checker {
     }
 
     /// What is owed in a room of this size: 24 where an accepted write doesn't fit, and a refusal writes nothing.
-    fn owed_in<'a>(&mut self, room: usize, number: u32, octets: &'a [u8]) -> (u32, &'a [u8]) {
+    fn owed_in<'a>(&mut self, writer: Writer, room: usize, number: u32, octets: &'a [u8]) -> (u32, &'a [u8]) {
         if number != 0 {
-            (number, &[])
-        } else if room < octets.len() {
+            return (number, &[]);
+        }
+        self.seen.room(writer, Room::of(room, octets.len()));
+        if room < octets.len() {
             self.seen.listed(Listed::B4);
             (24, &[])
         } else {
@@ -173,16 +217,17 @@ impl Checker {
         }
     }
 
-    /// Writing a record, into room that suffices exactly, is one short, or more than is needed.
-    fn write(&mut self, record: &[u8], info: &[u8], octets: &[u8]) {
+    /// Writing a record that was made up, in each kind of room. `settled` is how the record is read.
+    fn write(&mut self, record: &[u8], settled: &Flat, info: &[u8], octets: &[u8]) {
         self.seen.writes += 1;
-        for room in rooms(octets.len(), self.turn) {
-            self.write_in(record, info, 0, octets, room);
+        for room in self.rooms(Tried::Each, octets.len()) {
+            self.seen.written(Writer::MadeUp, settled, Room::of(room, octets.len()));
+            self.write_in(Writer::MadeUp, record, info, 0, octets, room);
         }
     }
 
-    fn write_in(&mut self, record: &[u8], info: &[u8], number: u32, octets: &[u8], room: usize) {
-        let (number, octets) = self.owed_in(room, number, octets);
+    fn write_in(&mut self, writer: Writer, record: &[u8], info: &[u8], number: u32, octets: &[u8], room: usize) {
+        let (number, octets) = self.owed_in(writer, room, number, octets);
         let port = self.port.encode(record, info, room);
         if port != (number, octets.len()) || !self.port.output_is(octets) {
             let says = |me: &Checker| format!("number {} length {} written {}", port.0, port.1, me.output(octets.len()));
@@ -190,25 +235,52 @@ impl Checker {
         }
     }
 
-    /// Writing an accepted input again with the input, or its info, close to the output.
+    /// Writing an input again with the input, or its info, close to the output; or refusing to, and leaving all as it was.
     pub fn beside(&mut self, input: &[u8], beside: &Beside) -> Vec<Difference> {
-        if let Ok(frame) = oracle::read(input) {
-            let octets = frame.to_bytes();
-            if domain::repeaters(input) <= flat::REPEATERS {
-                let whole = self.port.reencode_beside(input, &octets, beside);
-                self.placed("re-encoding beside the input", whole, &octets);
-                let info = flat::info_of(&frame).unwrap_or(&[]);
-                let written = self.port.encode_beside(&flat::of_frame(&frame), info, &octets, beside);
-                self.placed("writing beside the info", written, &octets);
-            }
+        match oracle::read(input) {
+            _ if domain::repeaters(input) > flat::REPEATERS => self.refused_beside(input, 9, beside),
+            Ok(frame) => self.accepted_beside(input, &frame, beside),
+            Err(refusal) => self.refused_beside(input, refusal.number, beside),
         }
         self.finish()
     }
 
-    fn placed(&mut self, what: &str, port: (u32, bool), octets: &[u8]) {
-        if port != (0, true) {
+    fn accepted_beside(&mut self, input: &[u8], frame: &Ax25Frame, beside: &Beside) {
+        let octets = frame.to_bytes();
+        let (record, info) = (flat::of_frame(frame), flat::info_of(frame).unwrap_or(&[]));
+        for room in self.rooms(Tried::Some, octets.len()) {
+            let (number, owed) = self.owed_in(Writer::Beside, room, 0, &octets);
+            self.seen.beside(number);
+            let port = self.port.reencode_beside(input, room, owed, beside);
+            self.placed("re-encoding beside the input", port, number, owed);
+            let port = self.port.encode_beside(&record, info, room, owed, beside);
+            self.placed("writing beside the info", port, number, owed);
+        }
+    }
+
+    fn refused_beside(&mut self, input: &[u8], number: u32, beside: &Beside) {
+        self.seen.beside(number);
+        for room in self.refused_rooms(input) {
+            let port = self.port.reencode_beside(input, room, &[], beside);
+            self.placed("re-encoding beside the input", port, number, &[]);
+        }
+    }
+
+    /// Refusing to write a record that the Rust can't hold, its info close to the output.
+    pub fn record_beside(&mut self, record: &[u8], info: &[u8], beside: &Beside) -> Vec<Difference> {
+        let number = domain::record_number(&padded::<FLAT>(record), info);
+        for room in [0, FLAT + info.len() + LONGER] {
+            let port = self.port.encode_beside(record, info, room, &[], beside);
+            self.placed("writing beside the info", port, number, &[]);
+        }
+        self.finish()
+    }
+
+    /// Whether the last call gave this number, left these octets, and all else in the storage is as it was.
+    fn placed(&mut self, what: &str, port: (u32, bool), number: u32, octets: &[u8]) {
+        if port != (number, true) {
             let says = |me: &Checker| format!("number {}, all the storage {}", port.0, show::hex(me.port.output()));
-            self.differ(what, || show::written(0, octets.len(), octets), says);
+            self.differ(what, || show::written(number, octets.len(), octets), says);
         }
     }
 
@@ -225,9 +297,8 @@ impl Checker {
         let frame = flat::to_frame(whole, info);
         let octets = frame.to_bytes();
         let settled = flat::settled(whole, &frame);
-        self.seen.written(&settled);
         self.again(record, &settled);
-        self.write(record, info, &octets);
+        self.write(record, &settled, info, &octets);
         let mut found = self.finish();
         found.extend(self.octets(&octets));
         found
@@ -237,16 +308,19 @@ impl Checker {
         self.seen.listed(Listed::B3);
         self.seen.write_refusal(number);
         for room in [0, 14, FLAT + info.len() + LONGER] {
-            self.write_in(record, info, number, &[], room);
+            self.write_in(Writer::MadeUp, record, info, number, &[], room);
         }
         self.finish()
     }
 
-    fn address(&mut self, what: &str, owed: (u32, FlatAddress), port: (u32, FlatAddress)) {
-        self.seen.text(owed.0);
-        if owed != port {
-            let say = |(number, read): (u32, FlatAddress)| format!("number {} {}", show::number(number), show::address(&read));
-            self.differ(what, || say(owed), |_| say(port));
+    /// Whether the last call read this address, or refused by this number and left the octets alone.
+    fn address(&mut self, what: &str, owed: Result<FlatAddress, u32>, number: u32) {
+        let owed_number = owed.err().unwrap_or(0);
+        let octets = owed.as_ref().map_or(&[][..], |address| &address[..]);
+        self.seen.text(owed_number);
+        if number != owed_number || !self.port.output_is(octets) {
+            let owes = || format!("number {} address {}", show::number(owed_number), show::left(octets));
+            self.differ(what, owes, |me| format!("number {} address {}", number, me.output(ADDRESS)));
         }
     }
 
@@ -254,21 +328,21 @@ impl Checker {
     pub fn text(&mut self, text: &[u8]) -> Vec<Difference> {
         let callsign = text.split(|&octet| octet == b'-').next().unwrap_or(&[]);
         let owed = self.owed_of_text(text, callsign, oracle::from_str);
-        let port = self.port.from_str(text);
-        self.address("text", owed, port);
+        let number = self.port.from_str(text, ADDRESS);
+        self.address("text", owed, number);
         self.finish()
     }
 
     /// A callsign and an SSID to an address.
     pub fn parts(&mut self, callsign: &[u8], ssid: u8) -> Vec<Difference> {
         let owed = self.owed_of_text(callsign, callsign, |text| oracle::from_parts(text, ssid));
-        let port = self.port.from_parts(callsign, ssid);
-        self.address("from_parts", owed, port);
+        let number = self.port.from_parts(callsign, ssid, ADDRESS);
+        self.address("from_parts", owed, number);
         self.finish()
     }
 
     /// The Rust's answer for ASCII text. Else 35, and the Rust takes letters of any script, where it has a text at all.
-    fn owed_of_text<F>(&mut self, text: &[u8], callsign: &[u8], ask: F) -> (u32, FlatAddress)
+    fn owed_of_text<F>(&mut self, text: &[u8], callsign: &[u8], ask: F) -> Result<FlatAddress, u32>
     where
         F: Fn(&str) -> Result<ax25::frame::Address, u32>,
     {
@@ -278,12 +352,9 @@ impl Checker {
             if let Ok(rust) = rust {
                 self.wide(text, callsign, rust);
             }
-            return (35, NOCALL);
+            return Err(35);
         }
-        match rust.expect("ASCII is UTF-8") {
-            Ok(address) => (0, flat::of_address(&address)),
-            Err(number) => (number, NOCALL),
-        }
+        rust.expect("ASCII is UTF-8").map(|address| flat::of_address(&address))
     }
 
     fn wide(&mut self, text: &[u8], callsign: &[u8], rust: Result<ax25::frame::Address, u32>) {
@@ -307,7 +378,7 @@ impl Checker {
         if domain::encodable(&whole) {
             let text = flat::addresses(&[whole])[0].to_string();
             self.seen.print(0);
-            for room in rooms(text.len(), self.turn) {
+            for room in self.rooms(Tried::Each, text.len()) {
                 self.print_in(address, 0, text.as_bytes(), room);
             }
         } else {
@@ -321,7 +392,7 @@ impl Checker {
     }
 
     fn print_in(&mut self, address: &[u8], number: u32, text: &[u8], room: usize) {
-        let (number, text) = self.owed_in(room, number, text);
+        let (number, text) = self.owed_in(Writer::Print, room, number, text);
         let port = self.port.print(address, room);
         if port != (number, text.len()) || !self.port.output_is(text) {
             let says = |me: &Checker| format!("number {} length {} written {}", port.0, port.1, me.output(text.len()));
@@ -350,15 +421,113 @@ impl Checker {
         let owed = flat::of_frame(frame);
         self.left(what, number, &owed);
         self.again(&owed, &owed);
-        self.write(&owed, info, &frame.to_bytes());
+        self.write(&owed, &owed, info, &frame.to_bytes());
+    }
+
+    /// Content alone, from its control octet on: read, and written again. The Rust's reader of content can be asked only by way of
+    /// a frame.
+    pub fn content(&mut self, content: &[u8]) -> Vec<Difference> {
+        match oracle::read(&inputs::with_content(content)) {
+            Ok(frame) => {
+                let record = flat::of_frame(&frame);
+                self.read_content(content, 0, &record[KIND..]);
+                self.seen.writes += 1;
+                let octets = &frame.to_bytes()[FIELD..];
+                for room in self.rooms(Tried::Some, octets.len()) {
+                    self.seen.written(Writer::Content, &record, Room::of(room, octets.len()));
+                    self.write_content(&record[KIND..], flat::info_of(&frame).unwrap_or(&[]), 0, octets, room);
+                }
+            }
+            Err(_) if content.is_empty() => {
+                self.seen.listed(Listed::B5);
+                self.read_content(content, 4, &[]);
+            }
+            Err(refusal) => self.read_content(content, refusal.number, &[]),
+        }
+        self.finish()
+    }
+
+    fn read_content(&mut self, content: &[u8], owed: u32, octets: &[u8]) {
+        self.seen.content(owed);
+        let number = self.port.content(content, CONTENT + LONGER);
+        if number != owed || !self.port.output_is(octets) {
+            let says = |me: &Checker| format!("number {} content {}", number, me.output(CONTENT));
+            self.differ("content alone", || format!("number {} content {}", show::number(owed), show::left(octets)), says);
+        }
+    }
+
+    /// Content that was made up, octets past its end being 0, and info: written alone.
+    pub fn content_record(&mut self, content: &[u8], info: &[u8]) -> Vec<Difference> {
+        let mut whole = records::base(flat::I);
+        whole[KIND..].copy_from_slice(&padded::<CONTENT>(content));
+        match domain::record_number(&whole, info) {
+            0 => {
+                let frame = flat::to_frame(&whole, info);
+                let octets = &frame.to_bytes()[FIELD..];
+                self.seen.writes += 1;
+                for room in self.rooms(Tried::Each, octets.len()) {
+                    self.seen.written(Writer::Content, &flat::of_frame(&frame), Room::of(room, octets.len()));
+                    self.write_content(content, info, 0, octets, room);
+                }
+            }
+            number => {
+                self.seen.listed(Listed::B3);
+                self.seen.content(number);
+                for room in [0, 1, info.len() + LONGER] {
+                    self.write_content(content, info, number, &[], room);
+                }
+            }
+        }
+        self.finish()
+    }
+
+    fn write_content(&mut self, content: &[u8], info: &[u8], number: u32, octets: &[u8], room: usize) {
+        let (number, octets) = self.owed_in(Writer::Content, room, number, octets);
+        let port = self.port.encode_content(content, info, room);
+        if port != (number, octets.len()) || !self.port.output_is(octets) {
+            let says = |me: &Checker| format!("number {} length {} written {}", port.0, port.1, me.output(octets.len()));
+            self.differ(&format!("writing content into {} octets", room), || show::written(number, octets.len(), octets), says);
+        }
+    }
+
+    /// The hops of a record, octets past its end being 0. The Rust has none: the model is document 01's words.
+    pub fn hops(&mut self, record: &[u8]) -> Vec<Difference> {
+        let whole = padded::<FLAT>(record);
+        let owed = domain::hops(&whole);
+        self.seen.hops(&whole, owed[1]);
+        let number = self.port.hops(record, HOPS);
+        if number != 0 || !self.port.sizes_are(&owed) {
+            let says = |me: &Checker| format!("number {} hop set, hops used, due place {:?}", number, me.port.sizes());
+            self.differ("hops", || format!("number 0 hop set, hops used, due place {:?}", owed), says);
+        }
+        self.finish()
+    }
+
+    /// Whether two flat addresses, octets past their ends being 0, are of the same station: as the Rust says where it can hold both,
+    /// else by callsign and SSID, which are all the octets.
+    pub fn same_station(&mut self, one: &[u8], other: &[u8]) -> Vec<Difference> {
+        let pair = [padded::<ADDRESS>(one), padded(other)];
+        let held = pair.iter().all(domain::encodable);
+        let same = if held {
+            let known = flat::addresses(&pair);
+            known[0] == known[1]
+        } else {
+            pair[0] == pair[1]
+        };
+        self.seen.stations(held, same);
+        let port = self.port.same_station(one, other);
+        if port != u32::from(same) {
+            self.differ("same station", || u32::from(same).to_string(), |_| port.to_string());
+        }
+        self.finish()
     }
 
     /// The refusals that are `probe`'s own: a lent buffer shorter than what is to be left there.
     pub fn short_buffers(&mut self, input: &[u8], short: usize) -> Vec<Difference> {
         let record = short % FLAT;
-        let number = self.port.decode_into(input, record, PLACES);
+        let number = self.port.decode(input, record, PLACES);
         self.untouched("probe_decode, short record", number);
-        let number = self.port.decode_into(input, FLAT, short % PLACES);
+        let number = self.port.decode(input, FLAT, short % PLACES);
         self.untouched("probe_decode, short places", number);
         let number = self.port.encode_into(input, input, FLAT, 0);
         self.untouched("probe_encode, no length", number);
@@ -366,14 +535,20 @@ impl Checker {
         self.untouched("probe_again, short record", number);
         let number = self.port.print_into(input, FLAT, 0);
         self.untouched("probe_print, no length", number);
-        let number = self.port.from_str_into(input, short % ADDRESS);
+        let number = self.port.from_str(input, short % ADDRESS);
         self.untouched("probe_from_str, short address", number);
-        let number = self.port.from_parts_into(input, 0, short % ADDRESS);
+        let number = self.port.from_parts(input, 0, short % ADDRESS);
         self.untouched("probe_from_parts, short address", number);
         let number = self.port.simple_ui(input, input, record);
         self.untouched("probe_simple_ui, short record", number);
         let number = self.port.default(record);
         self.untouched("probe_default, short record", number);
+        let number = self.port.content(input, short % CONTENT);
+        self.untouched("probe_content, short content", number);
+        let number = self.port.encode_content_into(input, input, FLAT, 0);
+        self.untouched("probe_content_encode, no length", number);
+        let number = self.port.hops(input, short % HOPS);
+        self.untouched("probe_hops, short numbers", number);
         self.finish()
     }
 
@@ -383,16 +558,6 @@ impl Checker {
             self.differ(what, || "number 24, nothing touched".to_string(), says);
         }
     }
-}
-
-/// Room exactly full, and in turns, on every second input, longer, or one short where that can be.
-fn rooms(len: usize, turn: u64) -> impl Iterator<Item = usize> {
-    let other = match turn % 4 {
-        0 => Some(len + LONGER),
-        2 => len.checked_sub(1),
-        _ => None,
-    };
-    [Some(len), other].into_iter().flatten()
 }
 
 /// The octets, and 0 past their end.

@@ -5,7 +5,7 @@ use crate::port::Beside;
 use crate::report::{self, Line, Report};
 use crate::rng::Rng;
 use crate::show;
-use crate::{capture_check, inputs, records, texts};
+use crate::{inputs, records, texts};
 
 /// A class under way.
 pub struct Class<'a> {
@@ -19,6 +19,7 @@ pub fn class(checker: &mut Checker, report: &mut Report, name: &str, body: impl 
     if report.only.as_ref().map_or(false, |only| !name.contains(only.as_str())) {
         return;
     }
+    checker.seen.class(name);
     let line = Line { name: name.to_string(), inputs: 0, mismatches: 0 };
     let mut class = Class { checker, report, line };
     body(&mut class);
@@ -52,9 +53,18 @@ impl Class<'_> {
 
     fn beside(&mut self, input: &[u8], beside: &Beside) {
         let found = self.checker.beside(input, beside);
+        self.done_beside(found, beside, || show::hex(input));
+    }
+
+    fn record_beside(&mut self, record: &[u8], info: &[u8], beside: &Beside) {
+        let found = self.checker.record_beside(record, info, beside);
+        self.done_beside(found, beside, || format!("record {} info {}", show::hex(record), show::hex(info)));
+    }
+
+    fn done_beside(&mut self, found: Vec<Difference>, beside: &Beside, input: impl FnOnce() -> String) {
         self.done(found, || {
             let order = if beside.output_first { "output, gap, input" } else { "input, gap, output" };
-            let input = format!("{} with a gap of {} ({})", show::hex(input), beside.gap, order);
+            let input = format!("{} with a gap of {} ({})", input(), beside.gap, order);
             (input, "compare test --only 'side by side'".to_string())
         });
     }
@@ -94,6 +104,32 @@ impl Class<'_> {
         });
     }
 
+    fn content(&mut self, content: &[u8]) {
+        let found = self.checker.content(content);
+        self.done(found, || (format!("content {}", show::hex(content)), format!("compare content '{}'", show::hex(content))));
+    }
+
+    fn content_record(&mut self, content: &[u8], info: &[u8]) {
+        let found = self.checker.content_record(content, info);
+        self.done(found, || {
+            let (content, info) = (show::hex(content), show::hex(info));
+            (format!("flat content {} info {}", content, info), format!("compare content-record '{}' '{}'", content, info))
+        });
+    }
+
+    fn hops(&mut self, record: &[u8]) {
+        let found = self.checker.hops(record);
+        self.done(found, || (format!("record {}", show::hex(record)), format!("compare hops '{}'", show::hex(record))));
+    }
+
+    fn same_station(&mut self, one: &[u8], other: &[u8]) {
+        let found = self.checker.same_station(one, other);
+        self.done(found, || {
+            let (one, other) = (show::hex(one), show::hex(other));
+            (format!("addresses {} and {}", one, other), format!("compare same-station '{}' '{}'", one, other))
+        });
+    }
+
     fn other(&mut self, name: &str, found: Vec<Difference>) {
         self.done(found, || (name.to_string(), "compare test".to_string()));
     }
@@ -119,13 +155,11 @@ pub fn test(scale: usize, seed: u64, only: Option<String>) -> Report {
     octets(&mut checker, &mut report, scale, &mut seeds);
     frame_records(&mut checker, &mut report, scale, &mut seeds);
     side_by_side(&mut checker, &mut report, scale, seeds.next());
+    contents(&mut checker, &mut report, scale, &mut seeds);
+    hops_and_stations(&mut checker, &mut report, scale, &mut seeds);
     address_texts(&mut checker, &mut report, scale, &mut seeds);
-    class(&mut checker, &mut report, "captures: each format comes back, and what can't be read is refused", |c| {
-        let frames: Vec<Vec<u8>> = inputs::good_frames().into_iter().chain([vec![0xC0, 0xDB, 0xDC, 0xDD, 0xC0]]).collect();
-        c.other("captures of good frames", capture_check::faults(&frames));
-    });
     let missing = checker.seen.missing();
-    class(&mut checker, &mut report, "met: every number, kind, mark, PID, route length and listed difference", |c| c.missing(missing));
+    class(&mut checker, &mut report, "met: every number, kind, mark, PID, route length, room, search and listed difference", |c| c.missing(missing));
     report::totals(&mut report, &checker.seen);
     report.extra("seed", seed.to_string());
     report.extra("scale", scale.to_string());
@@ -138,12 +172,13 @@ fn octets(checker: &mut Checker, report: &mut Report, scale: usize, seeds: &mut 
     };
     let [a, b, c, d, e, f] = [0; 6].map(|_: u64| seeds.next());
     run("octets: every string of 0 to 2", &mut |each| inputs::short(each));
-    run("octets: the example's addresses with every content of 2", &mut |each| inputs::two_octet_contents(each));
-    run("octets: every control octet, content of 0 to 6", &mut |each| inputs::controls(a, each));
-    run("octets: FRMR, every flag, number and rejected control", &mut |each| inputs::frmr(each));
+    run("octets: the example's addresses with every content of 2", &mut |each| inputs::framed(|each| inputs::pairs(each), each));
+    run("octets: every control octet, content of 0 to 6", &mut |each| inputs::framed(|each| inputs::controls(a, each), each));
+    run("octets: FRMR, every flag, number and rejected control", &mut |each| inputs::framed(|each| inputs::frmr(each), each));
     run("octets: every pair of the first two SSID octets", &mut |each| inputs::ssid_pairs(each));
     run("octets: every octet at every address place, 0 to 9 repeaters", &mut |each| inputs::address_places(each));
     run("octets: leading nulls", &mut |each| inputs::leading_nulls(each));
+    run("octets: first nonzero and first odd octet at each place of a search by eights", &mut |each| inputs::searches(each));
     run("octets: every prefix of good frames", &mut |each| inputs::prefixes(each));
     run("octets: every bit of good frames damaged", &mut |each| inputs::single_bits(each));
     run("octets: every two bits of good frames damaged", &mut |each| inputs::double_bits(each));
@@ -154,7 +189,7 @@ fn octets(checker: &mut Checker, report: &mut Report, scale: usize, seeds: &mut 
     run("octets: long inputs, to 131,074", &mut |each| inputs::long(f, each));
 }
 
-/// Every length of info to 100 with every gap to 40, and seeded frames.
+/// Every length of info to 100 with every gap to 40; then seeded frames, damaged ones, and inputs that each search refuses.
 fn side_by_side(checker: &mut Checker, report: &mut Report, scale: usize, seed: u64) {
     class(checker, report, "octets: input and output side by side", |class| {
         for length in 0..=100 {
@@ -167,8 +202,16 @@ fn side_by_side(checker: &mut Checker, report: &mut Report, scale: usize, seed: 
             }
         }
         let mut gaps = Rng::new(seed);
-        inputs::frames(seed, 20_000 * scale, &mut |input| {
-            class.beside(input, &Beside { gap: gaps.within(0, 40), output_first: gaps.chance(2) });
+        let mut each = |input: &[u8]| class.beside(input, &Beside { gap: gaps.within(0, 40), output_first: gaps.chance(2) });
+        inputs::frames(seed, 20_000 * scale, &mut each);
+        inputs::damaged(seed, 10_000 * scale, &mut each);
+        inputs::prefixes(&mut each);
+        (0..=100).for_each(|length| each(&vec![0; length]));
+    });
+    class(checker, report, "records: those that the Rust can't hold, info and output side by side", |class| {
+        let mut gaps = Rng::new(seed);
+        records::seeded_unholdable(seed, 5_000 * scale, &mut |record, info| {
+            class.record_beside(record, info, &Beside { gap: gaps.within(0, 40), output_first: gaps.chance(2) });
         });
     });
 }
@@ -236,4 +279,30 @@ fn address_texts(checker: &mut Checker, report: &mut Report, scale: usize, seeds
         texts::wide_parts(d, 50_000 * scale, &mut |callsign, ssid| class.parts(callsign, ssid));
     });
     class(checker, report, "printing", |class| texts::addresses(e, 200_000 * scale, &mut |address| class.print(address)));
+}
+
+fn contents(checker: &mut Checker, report: &mut Report, scale: usize, seeds: &mut Rng) {
+    let [a, b, c] = [0; 3].map(|_: u64| seeds.next());
+    let mut run = |name: &str, body: &mut dyn FnMut(inputs::Each)| {
+        class(checker, report, name, |c| body(&mut |content| c.content(content)));
+    };
+    run("content alone: every content of 2", &mut |each| inputs::pairs(each));
+    run("content alone: every control octet, content of 0 to 6", &mut |each| inputs::controls(a, each));
+    run("content alone: seeded", &mut |each| inputs::seeded_contents(b, 60_000 * scale, each));
+    class(checker, report, "content written alone: each kind, its fields, cut short, info where there is none", |class| {
+        records::contents(c, 20_000 * scale, &mut |content, info| class.content_record(content, info));
+    });
+}
+
+fn hops_and_stations(checker: &mut Checker, report: &mut Report, scale: usize, seeds: &mut Rng) {
+    let [a, b] = [0; 2].map(|_: u64| seeds.next());
+    class(checker, report, "hops: every way to mark eight places with every count, seeded, cut short", |class| {
+        let mut each = |record: &[u8], _: &[u8]| class.hops(record);
+        records::marks(&mut each);
+        records::holdable(a, 5_000 * scale, &mut each);
+        records::cut(a, &mut each);
+    });
+    class(checker, report, "same station: each octet changed, every two SSIDs, seeded", |class| {
+        texts::stations(b, 30_000 * scale, &mut |one, other| class.same_station(one, other));
+    });
 }

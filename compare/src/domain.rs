@@ -1,7 +1,7 @@
 //! Document 01's domain of equality, and what the port owes outside it (docs/DIFFERENCES.md, B). Written from document 01's
 //! words; neither the Rust nor the port is asked.
 
-use crate::flat::{self, Flat, FlatAddress, COUNT, FRMR, KIND, REPEATERS, RR};
+use crate::flat::{self, Flat, FlatAddress, ADDRESS, COUNT, ENTRY, FRMR, KIND, REPEATERS, ROUTE, RR};
 
 /// A difference that docs/DIFFERENCES.md lists.
 #[derive(Clone, Copy, PartialEq, Debug)]
@@ -14,21 +14,29 @@ pub enum Listed {
     B3,
     /// Too little room.
     B4,
+    /// Content alone, empty.
+    B5,
 }
 
-pub const LISTED: [(Listed, &str); 4] = [
+pub const LISTED: [(Listed, &str); 5] = [
     (Listed::B1, "nine or more repeaters"),
     (Listed::B2, "text with an octet of 128 or more"),
     (Listed::B3, "a record that the Rust can't hold"),
     (Listed::B4, "too little room, lent on purpose"),
+    (Listed::B5, "content alone, empty"),
 ];
+
+/// Where the address field starts and ends.
+pub fn field(input: &[u8]) -> Option<(usize, usize)> {
+    let start = input.iter().position(|&octet| octet != 0)?;
+    let end = input.iter().position(|&octet| octet % 2 == 1)?;
+    Some((start, end))
+}
 
 /// The repeaters of an input that has an address field and something after it.
 pub fn repeaters(input: &[u8]) -> usize {
-    let start = input.iter().position(|&octet| octet != 0);
-    let end = input.iter().position(|&octet| octet % 2 == 1);
-    match (start, end) {
-        (Some(start), Some(end)) if end + 1 < input.len() => (end - start + 1).saturating_sub(14) / 7,
+    match field(input) {
+        Some((start, end)) if end + 1 < input.len() => (end - start + 1).saturating_sub(14) / 7,
         _ => 0,
     }
 }
@@ -53,4 +61,13 @@ pub fn record_number(record: &Flat, info: &[u8]) -> u32 {
     } else {
         0
     }
+}
+
+/// The hop set, with bit i for a marked place i below the route count, a count over 8 being read as 8; the hops used, the number of
+/// its ones; and the due place, which equals them.
+pub fn hops(record: &Flat) -> [usize; 3] {
+    let count = usize::from(record[COUNT]).min(REPEATERS);
+    let marked = (0..count).filter(|i| record[ROUTE + ENTRY * i + ADDRESS] != 0);
+    let (set, used) = marked.fold((0, 0), |(set, used), i| (set | 1 << i, used + 1));
+    [set, used, used]
 }

@@ -59,16 +59,30 @@ pub fn short(each: Each) {
     }
 }
 
-pub fn two_octet_contents(each: Each) {
+/// Every content of two octets.
+pub fn pairs(each: Each) {
     for pair in 0..=0xFFFF_u16 {
-        each(&with_content(&pair.to_be_bytes()));
+        each(&pair.to_be_bytes());
     }
+}
+
+pub fn seeded_contents(seed: u64, count: usize, each: Each) {
+    let mut rng = Rng::new(seed);
+    for _ in 0..count {
+        let length = if rng.chance(20) { rng.within(0, 300) } else { rng.within(0, 12) };
+        each(&seeded_content(&mut rng, length));
+    }
+}
+
+/// The same contents, each behind document 01's address field.
+pub fn framed(contents: impl FnOnce(Each), each: Each) {
+    contents(&mut |content| each(&with_content(content)));
 }
 
 /// Every control octet with content of 0 to 6 octets, the others 0, all ones, and seeded.
 pub fn controls(seed: u64, each: Each) {
     let mut rng = Rng::new(seed);
-    each(&with_content(&[]));
+    each(&[]);
     for control in 0..=255 {
         for length in 1..=6 {
             for fill in 0..8 {
@@ -78,7 +92,7 @@ pub fn controls(seed: u64, each: Each) {
                     1 => 0xFF,
                     _ => rng.octet(),
                 }));
-                each(&with_content(&content));
+                each(&content);
             }
         }
     }
@@ -89,11 +103,11 @@ pub fn frmr(each: Each) {
     for control in [0x87, 0x97] {
         for pair in 0..=0xFFFF_u16 {
             let [flags, numbers] = pair.to_be_bytes();
-            each(&with_content(&[control, flags, numbers, 0x44]));
+            each(&[control, flags, numbers, 0x44]);
         }
         for rejected in 0..=255 {
             for (flags, numbers) in [(0x00, 0x00), (0xFF, 0xFF), (0x0A, 0x5A), (0xF5, 0xA5)] {
-                each(&with_content(&[control, flags, numbers, rejected]));
+                each(&[control, flags, numbers, rejected]);
             }
         }
     }
@@ -136,6 +150,28 @@ pub fn leading_nulls(each: Each) {
     }
     for nulls in 0..=600 {
         each(&vec![0; nulls]);
+    }
+}
+
+/// The first nonzero octet, each of its bits alone and all of them, at each place of a search by eights, and the first odd octet there
+/// or at each place after it. What follows lets the last eight be whole, or leaves the found octet to the rest.
+pub fn searches(each: Each) {
+    let tails = [&[][..], &[0x00], &[0x01], &[0x03, 0xF0, 0x41], &[0x00; 8], &[0xFF; 9], &FRAME];
+    for nulls in 0..=25 {
+        for first in [0x01, 0xFF, 0x02, 0x04, 0x08, 0x10, 0x20, 0x40, 0x80, 0xFE] {
+            let mut input = vec![0; nulls];
+            input.push(first);
+            if first % 2 == 1 {
+                tails.iter().for_each(|tail| each(&[&input[..], tail].concat()));
+                continue;
+            }
+            for between in 0..=24 {
+                for (even, odd) in [(0x00, 0x01), (0xFE, 0xFF)] {
+                    let field = [&input[..], &vec![even; between], &[odd]].concat();
+                    tails[..5].iter().for_each(|tail| each(&[&field[..], tail].concat()));
+                }
+            }
+        }
     }
 }
 

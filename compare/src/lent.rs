@@ -1,8 +1,69 @@
 //! Buffers to lend: between guards, and holding a pattern beforehand, so that anything written where nothing should be
-//! is seen.
+//! is seen. And the sizes of those that a writer is lent.
+
+use crate::rng::Rng;
 
 /// Items of guard on each side.
 const GUARD: usize = 8;
+
+/// How much longer than needed the longer buffers are.
+pub const LONGER: usize = 9;
+
+/// A room beside the octets that are to be written into it.
+#[derive(Clone, Copy, PartialEq, Debug)]
+pub enum Room {
+    Full,
+    OneShort,
+    Shorter,
+    Longer,
+}
+
+pub const ROOMS: [(Room, &str); 4] = [
+    (Room::Full, "exactly full"),
+    (Room::OneShort, "one octet short"),
+    (Room::Shorter, "shorter"),
+    (Room::Longer, "longer"),
+];
+
+impl Room {
+    pub fn of(room: usize, needed: usize) -> Room {
+        if room > needed {
+            Room::Longer
+        } else {
+            match needed - room {
+                0 => Room::Full,
+                1 => Room::OneShort,
+                _ => Room::Shorter,
+            }
+        }
+    }
+}
+
+/// Which rooms a writer is tried in.
+#[derive(Clone, Copy, PartialEq)]
+pub enum Tried {
+    /// One of each kind.
+    Each,
+    /// Exactly full, and half of the time one of another kind.
+    Some,
+    /// Every size up to the longer ones.
+    All,
+}
+
+/// Rooms for this many octets. Which one is drawn does not follow the order of the inputs, so that no kind of input meets one kind
+/// of room alone. A room that is shorter by more than one octet is now and then none at all.
+pub fn rooms(tried: Tried, needed: usize, draw: &mut Rng) -> impl Iterator<Item = usize> {
+    let one_short = needed.checked_sub(1);
+    let shorter = one_short.filter(|&most| most > 0).map(|most| if draw.chance(4) { 0 } else { draw.below(most) });
+    let longer = Some(needed + LONGER);
+    let others = match tried {
+        Tried::Each => [one_short, shorter, longer],
+        Tried::All => [None; 3],
+        Tried::Some => [[one_short, shorter, longer, None, None, None][draw.below(6)], None, None],
+    };
+    let all = if tried == Tried::All { 0..needed + LONGER + 1 } else { needed..needed + 1 };
+    all.chain(others.into_iter().flatten())
+}
 
 /// The pattern alternates from call to call: what happens to equal one pattern differs from the next.
 pub struct Lent<T> {

@@ -2,7 +2,7 @@
 //! the Rust's; elsewhere it is worked out here from document 01's rules, and the port is not asked.
 
 use crate::domain;
-use crate::flat::{self, Flat, FlatAddress, ADDRESS, COUNT, ENTRY, FLAT, KIND, REPEATERS, ROUTE};
+use crate::flat::{self, Flat, FlatAddress, ADDRESS, FLAT, KIND, REPEATERS};
 use crate::inputs;
 use crate::oracle::{self, Refusal};
 use crate::records;
@@ -145,13 +145,9 @@ impl List {
         self.line(format!("A {} 0 {}", hex(record), lent(&settled, FLAT)));
     }
 
-    /// Document 01's Hops: bit i for a marked place i below the count, a count over 8 read as 8; the hops used are the ones; the due
-    /// place equals them.
     pub fn hops(&mut self, record: &Flat) {
-        let count = usize::from(record[COUNT]).min(REPEATERS);
-        let set: u32 = (0..count).filter(|i| record[ROUTE + ENTRY * i + ADDRESS] != 0).map(|i| 1 << i).sum();
-        let used = set.count_ones();
-        self.line(format!("H {} 0 {} {} {}", hex(record), set, used, used));
+        let [set, used, due] = domain::hops(record);
+        self.line(format!("H {} 0 {} {} {}", hex(record), set, used, due));
     }
 
     /// Document 01: two stations are equal when callsign and SSID are.

@@ -2,10 +2,11 @@
 
 mod bench;
 mod capture;
-mod capture_check;
 mod check;
 mod classes;
 mod domain;
+#[cfg(feature = "faults")]
+mod faults;
 mod flat;
 mod inputs;
 mod lent;
@@ -34,18 +35,23 @@ extern "C" fn pthread_getattr_np(_thread: usize, _attributes: *mut u8) -> i32 {
 
 const USAGE: &str = "\
 compare test [SCALE]               every class of inputs; the seeded ones SCALE times as large (1)
-compare captures [--format F] FILE..
-                                   every frame of captures: pcap (link types 3 and 202), KISS logs,
-                                   hex lines, or one raw frame; F: pcap, kiss, hex, raw (else by content)
+compare captures [--raw FILE | FILE]..
+                                   every frame of captures: pcap and pcapng (link types 3 and 202), KISS logs,
+                                   hex lines; --raw, or a file named .raw, .bin or .ax25: one raw frame
+compare frames                     what captures.py, which reads the captures, prints, on standard input
 compare one HEX                    one input: both answers in full ('-': hex on standard input)
 compare text TEXT..                texts to addresses (text-hex HEX..: the text's octets)
 compare parts-hex HEX SSID         a callsign and an SSID to an address
 compare print HEX                  an address of seven flat octets, printed
 compare record HEX INFO            a flat record and info (hex), written
 compare simple-ui HEX HEX INFO     source, destination, info (hex): new_simple_ui_frame
+compare content HEX                content alone, from its control octet on
+compare content-record HEX INFO    flat content (a record's last twelve octets) and info (hex), written alone
+compare hops HEX                   the hops of a flat record
+compare same-station HEX HEX       two addresses of seven flat octets
 compare bench                      times of both, and their ratios
 compare replay-list [N]            about N (3000) lines of the Rust's answers, for the program replay
-  --json FILE    leave counts, mismatches and ratios there (test, captures, bench)
+  --json FILE    leave counts, mismatches and ratios there (test, captures, frames, bench)
   --seed N       another seed for test
   --only WORDS   only the classes of test with these words in their name
 Exit status: 0 no difference but listed ones, 1 some other difference, 2 something could not be read.";
@@ -55,7 +61,6 @@ struct Options {
     json: Option<String>,
     seed: u64,
     only: Option<String>,
-    format: Option<String>,
 }
 
 fn refuse(message: &str) -> ! {
@@ -64,7 +69,7 @@ fn refuse(message: &str) -> ! {
 }
 
 fn options() -> Options {
-    let mut options = Options { words: Vec::new(), json: None, seed: 25, only: None, format: None };
+    let mut options = Options { words: Vec::new(), json: None, seed: 25, only: None };
     let mut args = std::env::args_os().skip(1).map(word);
     while let Some(arg) = args.next() {
         let mut value = || args.next().unwrap_or_else(|| refuse(&format!("{} wants a value", arg)));
@@ -72,7 +77,6 @@ fn options() -> Options {
             "--json" => options.json = Some(value()),
             "--seed" => options.seed = number(&value()),
             "--only" => options.only = Some(value()),
-            "--format" => options.format = Some(value()),
             _ => options.words.push(arg),
         }
     }
@@ -95,11 +99,15 @@ fn hex_argument(word: &str) -> Vec<u8> {
     if word != "-" {
         return octets(word);
     }
+    octets(&standard_input())
+}
+
+fn standard_input() -> String {
     let mut text = String::new();
     if let Err(problem) = std::io::stdin().read_to_string(&mut text) {
         refuse(&format!("standard input: {}", problem));
     }
-    octets(&text)
+    text
 }
 
 fn leave(report: &Report, path: &Option<String>) {
@@ -120,15 +128,7 @@ fn main() {
     match words[..] {
         ["test"] => test("1", &options),
         ["test", scale] => test(scale, &options),
-        ["captures", ref files @ ..] if !files.is_empty() => {
-            let (report, unread) = capture::compare(files, options.format.as_deref());
-            leave(&report, &options.json);
-            let holds = report.finish();
-            if unread > 0 {
-                refuse(&format!("{} of {} captures could not be read", unread, files.len()));
-            }
-            status(holds)
-        }
+        ["frames"] => frames(&options),
         ["one", hex] => status(single::one(&hex_argument(hex))),
         ["text", ref texts @ ..] if !texts.is_empty() => status(single::each(texts, |t| single::text(t.as_bytes()))),
         ["text-hex", ref texts @ ..] if !texts.is_empty() => status(single::each(texts, |t| single::text(&octets(t)))),
@@ -141,11 +141,27 @@ fn main() {
         ["simple-ui", source, destination, info] => {
             status(single::simple_ui(&octets(source), &octets(destination), &octets(info)))
         }
+        ["content", content] => status(single::content(&octets(content))),
+        ["content-record", content, info] => status(single::content_record(&octets(content), &octets(info))),
+        ["hops", record] => status(single::hops(&octets(record))),
+        ["same-station", one, other] => status(single::same_station(&octets(one), &octets(other))),
+        #[cfg(feature = "faults")]
+        ["faults"] => faults::list(),
         ["bench"] => leave(&bench::run(), &options.json),
         ["replay-list"] => replay::list(5000),
         ["replay-list", lines] => replay::list(number(lines) as usize),
         _ => refuse(&format!("usage:\n{}", USAGE)),
     }
+}
+
+fn frames(options: &Options) -> ! {
+    let (report, unread) = capture::compare(&standard_input()).unwrap_or_else(|problem| refuse(&problem));
+    leave(&report, &options.json);
+    let holds = report.finish();
+    if unread > 0 {
+        refuse(&format!("{} captures could not be read", unread));
+    }
+    status(holds)
 }
 
 fn test(scale: &str, options: &Options) -> ! {

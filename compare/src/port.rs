@@ -1,8 +1,6 @@
 //! The port's calls, by the two archives: `loader` is the product, `probe` shows what the product's calls leave inside.
 
-use crate::flat::{self, Decode, Flat, ADDRESS, FLAT, NOCALL};
 use crate::lent::{self, Lent};
-use ax25::frame::Ax25Frame;
 
 #[link(name = "loader", kind = "static")]
 extern "C" {
@@ -77,20 +75,12 @@ pub struct Port {
     second: Lent<u8>,
     output: Lent<u8>,
     sizes: Lent<usize>,
-    default_record: Flat,
     fault: Option<&'static str>,
 }
 
 impl Port {
     pub fn new() -> Port {
-        Port {
-            input: lent::octets(),
-            second: lent::octets(),
-            output: lent::octets(),
-            sizes: lent::sizes(),
-            default_record: flat::of_frame(&Ax25Frame::default()),
-            fault: None,
-        }
+        Port { input: lent::octets(), second: lent::octets(), output: lent::octets(), sizes: lent::sizes(), fault: None }
     }
 
     /// The first fault since this was last asked: something was written that should not have been.
@@ -115,6 +105,10 @@ impl Port {
     /// The same of the lent sizes of the last call.
     pub fn sizes_are(&self, sizes: &[usize]) -> bool {
         self.sizes.is(sizes)
+    }
+
+    pub fn sizes(&self) -> &[usize] {
+        self.sizes.items()
     }
 
     fn see(&mut self, holds: bool, fault: &'static str) {
@@ -164,7 +158,7 @@ impl Port {
     }
 
     /// Leaves the record in the output and the places in the sizes.
-    pub fn decode_into(&mut self, input: &[u8], room: usize, places: usize) -> u32 {
+    pub fn decode(&mut self, input: &[u8], room: usize, places: usize) -> u32 {
         self.input.hold(input);
         self.output.room(room);
         self.sizes.room(places);
@@ -173,21 +167,6 @@ impl Port {
         };
         self.see_input(input);
         number
-    }
-
-    /// A refusal leaves no record: its record here is the default frame's, as document 01 has it.
-    pub fn decode(&mut self, input: &[u8]) -> Decode {
-        let number = self.decode_into(input, FLAT, PLACES);
-        let holds = self.output.written_only(left(number, FLAT)) && self.sizes.written_only(PLACES);
-        self.see(holds, "something beside the record or the places was written, or a refusal touched the record");
-        let mut record = self.default_record;
-        if number == 0 {
-            record.copy_from_slice(self.output.items());
-        }
-        let places = self.sizes.items();
-        let (start, end, length) = (places[0], places[1], places[2]);
-        let (info_start, info_len) = (places[3], places[4]);
-        Decode { number, start, end, length, info_start, info_len, record }
     }
 
     /// Leaves its octets in the output and their length in the sizes.
@@ -235,7 +214,7 @@ impl Port {
     }
 
     /// Leaves the address in the output.
-    pub fn from_parts_into(&mut self, callsign: &[u8], ssid: u8, room: usize) -> u32 {
+    pub fn from_parts(&mut self, callsign: &[u8], ssid: u8, room: usize) -> u32 {
         self.input.hold(callsign);
         self.output.room(room);
         let number =
@@ -245,33 +224,12 @@ impl Port {
     }
 
     /// Leaves the address in the output.
-    pub fn from_str_into(&mut self, text: &[u8], room: usize) -> u32 {
+    pub fn from_str(&mut self, text: &[u8], room: usize) -> u32 {
         self.input.hold(text);
         self.output.room(room);
         let number = unsafe { probe_from_str(self.input.ptr(), self.input.len(), self.output.mut_ptr(), room) };
         self.see_input(text);
         number
-    }
-
-    pub fn from_parts(&mut self, callsign: &[u8], ssid: u8) -> (u32, [u8; ADDRESS]) {
-        let number = self.from_parts_into(callsign, ssid, ADDRESS);
-        (number, self.one_address(number))
-    }
-
-    pub fn from_str(&mut self, text: &[u8]) -> (u32, [u8; ADDRESS]) {
-        let number = self.from_str_into(text, ADDRESS);
-        (number, self.one_address(number))
-    }
-
-    /// The address of a refusal is NOCALL, because the call leaves none.
-    fn one_address(&mut self, number: u32) -> [u8; ADDRESS] {
-        let holds = self.output.written_only(left(number, ADDRESS));
-        self.see(holds, "something beside the address was written, or a refusal touched it");
-        let mut address = NOCALL;
-        if number == 0 {
-            address.copy_from_slice(self.output.items());
-        }
-        address
     }
 
     /// Leaves the text in the output and its length in the sizes.
@@ -320,22 +278,12 @@ impl Port {
     }
 
     /// Leaves the hop set, the hops used and the due place in the sizes.
-    pub fn hops_into(&mut self, record: &[u8], sizes: usize) -> u32 {
+    pub fn hops(&mut self, record: &[u8], sizes: usize) -> u32 {
         self.input.hold(record);
         self.sizes.room(sizes);
         let number = unsafe { probe_hops(self.input.ptr(), self.input.len(), self.sizes.mut_ptr(), sizes) };
         self.see_input(record);
         number
-    }
-
-    /// The number, and the hop set, the hops used and the due place.
-    pub fn hops(&mut self, record: &[u8]) -> (u32, [usize; HOPS]) {
-        let number = self.hops_into(record, HOPS);
-        let holds = self.sizes.written_only(HOPS);
-        self.see(holds, "something beside the hops was written");
-        let mut hops = [0; HOPS];
-        hops.copy_from_slice(self.sizes.items());
-        (number, hops)
     }
 
     pub fn same_station(&mut self, one: &[u8], other: &[u8]) -> u32 {
@@ -387,11 +335,6 @@ impl Port {
     }
 }
 
-/// How much a call with this number leaves in lent octets: no refusal touches them.
-fn left(number: u32, accepted: usize) -> usize {
-    if number == 0 { accepted } else { 0 }
-}
-
 /// Two buffers in one piece of storage, so that one ends where the other starts, or a few octets before: where a compiler
 /// copies many octets at a time it looks at the distance, and takes another way for buffers that are close.
 pub struct Beside {
@@ -411,11 +354,18 @@ impl Beside {
 }
 
 impl Port {
-    /// Runs a call on an input and an output side by side, the output with room just for `octets`; whether these are then
-    /// there, and all else is as it was.
-    fn side_by_side(&mut self, input: &[u8], octets: &[u8], beside: &Beside, call: impl FnOnce(*const u8, *mut u8) -> u32) -> (u32, bool) {
-        let (input_at, output_at) = beside.places(input.len(), octets.len());
-        let mut image = vec![0x5A; input.len() + octets.len() + beside.gap];
+    /// Runs a call on an input and an output of this room side by side; whether `octets` are then at the output's start, and
+    /// all else is as it was.
+    fn side_by_side(
+        &mut self,
+        input: &[u8],
+        room: usize,
+        octets: &[u8],
+        beside: &Beside,
+        call: impl FnOnce(*const u8, *mut u8) -> u32,
+    ) -> (u32, bool) {
+        let (input_at, output_at) = beside.places(input.len(), room);
+        let mut image = vec![0x5A; input.len() + room + beside.gap];
         image[input_at..input_at + input.len()].copy_from_slice(input);
         self.output.hold(&image);
         let storage = self.output.mut_ptr();
@@ -425,14 +375,14 @@ impl Port {
         (number, self.output.is(&image))
     }
 
-    pub fn reencode_beside(&mut self, input: &[u8], octets: &[u8], beside: &Beside) -> (u32, bool) {
-        self.side_by_side(input, octets, beside, |from, to| unsafe { ax25_reencode(from, input.len(), to, octets.len()) })
+    pub fn reencode_beside(&mut self, input: &[u8], room: usize, octets: &[u8], beside: &Beside) -> (u32, bool) {
+        self.side_by_side(input, room, octets, beside, |from, to| unsafe { ax25_reencode(from, input.len(), to, room) })
     }
 
-    pub fn encode_beside(&mut self, record: &[u8], info: &[u8], octets: &[u8], beside: &Beside) -> (u32, bool) {
-        let mut length = [0];
-        let (number, holds) = self.side_by_side(info, octets, beside, |from, to| unsafe {
-            probe_encode(record.as_ptr(), record.len(), from, info.len(), to, octets.len(), length.as_mut_ptr(), 1)
+    pub fn encode_beside(&mut self, record: &[u8], info: &[u8], room: usize, octets: &[u8], beside: &Beside) -> (u32, bool) {
+        let mut length = [usize::MAX];
+        let (number, holds) = self.side_by_side(info, room, octets, beside, |from, to| unsafe {
+            probe_encode(record.as_ptr(), record.len(), from, info.len(), to, room, length.as_mut_ptr(), 1)
         });
         (number, holds && length[0] == octets.len())
     }

@@ -96,6 +96,36 @@ pub fn routes(each: Each) {
     }
 }
 
+/// Every way to mark the eight places, in use or not, with every count.
+pub fn marks(each: Each) {
+    for count in 0..=255 {
+        for marks in 0..=255_u8 {
+            let mut record = base(UI);
+            record[COUNT] = count;
+            for i in 0..REPEATERS {
+                record[ROUTE + ENTRY * i + ADDRESS] = marks >> i & 1;
+            }
+            each(&record, b"");
+        }
+    }
+}
+
+/// The twelve octets of content alone: every sequence number and PID, FRMR's fields, records cut short, seeded ones, and info beside a
+/// kind that has none.
+pub fn contents(seed: u64, count: usize, each: Each) {
+    let mut cut_out = |record: &[u8], info: &[u8]| each(&record[KIND.min(record.len())..], info);
+    sequence_numbers(&mut |record, info| {
+        if record[MARK] == COMMAND {
+            cut_out(record, info);
+        }
+    });
+    pids(&mut cut_out);
+    frmr_fields(&mut cut_out);
+    cut(seed, &mut cut_out);
+    holdable(seed, count, &mut cut_out);
+    needless_info(&mut cut_out);
+}
+
 /// Every seven-bit character at each place of each address in use, and every SSID.
 pub fn characters(each: Each) {
     for count in [0, 1, REPEATERS] {
@@ -148,13 +178,18 @@ pub fn holdable(seed: u64, count: usize, each: Each) {
     }
 }
 
-/// Records that break one rule: info where there is none, every count over 8, every octet that an address can't hold.
-pub fn unholdable(each: Each) {
+/// Info beside a kind that has none.
+fn needless_info(each: Each) {
     for kind in RR..=FRMR {
         for length in [1, 2, 300] {
             each(&base(kind), &vec![0x55; length]);
         }
     }
+}
+
+/// Records that break one rule: info where there is none, every count over 8, every octet that an address can't hold.
+pub fn unholdable(each: Each) {
+    needless_info(each);
     for repeaters in REPEATERS + 1..=255 {
         let mut record = base(UI);
         record[COUNT] = repeaters as u8;

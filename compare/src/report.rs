@@ -116,6 +116,9 @@ pub fn totals(report: &mut Report, seen: &Seen) {
     let kinds = seen.kind_counts();
     let said: Vec<String> = kinds.iter().map(|(kind, count)| format!("{}: {}", kind, count)).collect();
     println!("kinds accepted: {}; canonical: {} of {}", said.join(", "), seen.canonical[1], seen.canonical[0] + seen.canonical[1]);
+    let rooms = seen.room_counts();
+    let said: Vec<String> = rooms.iter().map(|(room, count)| format!("{}: {}", room, count)).collect();
+    println!("room lent to writers: {}", said.join(", "));
     for (number, what, count) in seen.listed_counts() {
         println!("listed difference {} ({}): {}", number, what, count);
     }
@@ -125,6 +128,7 @@ pub fn totals(report: &mut Report, seen: &Seen) {
     report.extra("accepted", (seen.canonical[0] + seen.canonical[1]).to_string());
     report.extra("decode_numbers", counts(numbers.iter().map(|(number, count)| (number.to_string(), *count))));
     report.extra("kinds", counts(kinds.iter().map(|(kind, count)| (kind.to_string(), *count))));
+    report.extra("rooms", counts(rooms.iter().map(|(room, count)| (room.to_string(), *count))));
     report.extra("listed", counts(seen.listed_counts().into_iter().map(|(number, _, count)| (number, count))));
 }
 

@@ -2,13 +2,62 @@
 
 use crate::domain::{Listed, LISTED};
 use crate::flat::*;
+use crate::lent::{Room, ROOMS};
 
 /// The numbers of document 01 that each kind of input can give.
 const DECODE_NUMBERS: [u32; 10] = [0, 1, 2, 3, 4, 5, 6, 7, 8, 9];
 const WRITE_NUMBERS: [u32; 3] = [21, 22, 23];
 const TEXT_NUMBERS: [u32; 6] = [0, 31, 32, 33, 34, 35];
 const PRINT_NUMBERS: [u32; 2] = [0, 22];
+/// The numbers of content alone, read and written.
+const CONTENT_NUMBERS: [u32; 7] = [0, 4, 5, 6, 7, 8, 23];
+/// The numbers that writing an input again, side by side with it, can give.
+const BESIDE_NUMBERS: [u32; 11] = [0, 1, 2, 3, 4, 5, 6, 7, 8, 9, 24];
 const TABLE: usize = 64;
+/// The places of a search by eights that are looked at: three turns.
+const SEARCHED: usize = 24;
+
+/// The rooms that can be lent for one octet.
+const ROOMS_OF_ONE: &[(Room, &str)] = &[ROOMS[0], ROOMS[1], ROOMS[3]];
+
+/// A count for each kind of room.
+type Rooms = [u64; ROOMS.len()];
+
+/// What writes.
+#[derive(Clone, Copy)]
+pub enum Writer {
+    /// The loader, from octets off the air.
+    Reencode,
+    /// `probe`, from the record that was read of them.
+    Read,
+    /// `probe`, from a record that was made up.
+    MadeUp,
+    /// `probe`, content alone.
+    Content,
+    /// Either, with the output close to the input.
+    Beside,
+    Print,
+}
+
+const WRITERS: [(Writer, &str); 6] = [
+    (Writer::Reencode, "re-encoding"),
+    (Writer::Read, "writing a record that was read"),
+    (Writer::MadeUp, "writing a record that was made up"),
+    (Writer::Content, "writing content alone"),
+    (Writer::Beside, "writing side by side"),
+    (Writer::Print, "printing"),
+];
+
+/// How often each case of a record was written, by the kind of room.
+#[derive(Default)]
+struct Written {
+    kinds: [Rooms; 11],
+    marks: [Rooms; 3],
+    pids: [Rooms; 16],
+    routes: [Rooms; REPEATERS + 1],
+    /// By kind, a sequence number of 8 or more.
+    large: [Rooms; 11],
+}
 
 pub struct Seen {
     pub decodes: u64,
@@ -18,16 +67,30 @@ pub struct Seen {
     write_numbers: [u64; TABLE],
     text_numbers: [u64; TABLE],
     print_numbers: [u64; TABLE],
+    content_numbers: [u64; TABLE],
+    beside_numbers: [u64; TABLE],
+    /// By decode number, a refused input re-encoded into no room, into less than the input and into more.
+    refused_rooms: [[u64; 3]; 10],
     read_kinds: [u64; 11],
-    written_kinds: [u64; 11],
     marks: [u64; 3],
-    written_marks: [u64; 3],
     pids: [u64; 16],
-    written_pids: [u64; 16],
     routes: [u64; REPEATERS + 1],
-    written_routes: [u64; REPEATERS + 1],
-    listed: [u64; 4],
+    /// By writer; those of records, and of content, are counted.
+    written: [Written; 4],
+    /// Each class with the rooms that each writer was lent in it.
+    classes: Vec<(String, [Rooms; WRITERS.len()])>,
+    /// By place, a first nonzero octet 01; and the first odd octet. Both apart for a place in a whole eight and one in the rest.
+    first_ones: [[u64; 2]; SEARCHED],
+    ends: [[u64; 2]; SEARCHED],
+    /// By place modulo 8, an even first nonzero octet and the first odd octet after it.
+    fields: [[u64; 8]; 8],
+    listed: [u64; LISTED.len()],
     wide: [u64; 2],
+    hops_used: [u64; REPEATERS + 1],
+    /// A route count to 8, and one over it.
+    hop_counts: [u64; 2],
+    /// Pairs that the Rust can't hold, and those that it can; other stations, and the same.
+    stations: [[u64; 2]; 2],
 }
 
 fn count(table: &mut [u64], at: usize) {
@@ -40,6 +103,31 @@ fn has_pid(record: &Flat) -> bool {
     record[KIND] == I || record[KIND] == UI
 }
 
+/// Whether a sequence number that the kind has is 8 or more. A record as the port lays it out has 0 where the kind lacks it.
+fn is_large(record: &Flat) -> bool {
+    record[RECEIVE] >= 8 || record[SEND] >= 8
+}
+
+fn count_room(table: &mut [Rooms], at: u8, room: Room) {
+    if let Some(rooms) = table.get_mut(usize::from(at)) {
+        rooms[room as usize] += 1;
+    }
+}
+
+impl Written {
+    fn count(&mut self, record: &Flat, room: Room) {
+        count_room(&mut self.kinds, record[KIND], room);
+        count_room(&mut self.marks, record[MARK], room);
+        count_room(&mut self.routes, record[COUNT], room);
+        if has_pid(record) {
+            count_room(&mut self.pids, record[PID], room);
+        }
+        if is_large(record) {
+            count_room(&mut self.large, record[KIND], room);
+        }
+    }
+}
+
 impl Seen {
     pub fn new() -> Seen {
         Seen {
@@ -50,16 +138,23 @@ impl Seen {
             write_numbers: [0; TABLE],
             text_numbers: [0; TABLE],
             print_numbers: [0; TABLE],
+            content_numbers: [0; TABLE],
+            beside_numbers: [0; TABLE],
+            refused_rooms: [[0; 3]; 10],
             read_kinds: [0; 11],
-            written_kinds: [0; 11],
             marks: [0; 3],
-            written_marks: [0; 3],
             pids: [0; 16],
-            written_pids: [0; 16],
             routes: [0; REPEATERS + 1],
-            written_routes: [0; REPEATERS + 1],
-            listed: [0; 4],
+            written: Default::default(),
+            classes: Vec::new(),
+            first_ones: [[0; 2]; SEARCHED],
+            ends: [[0; 2]; SEARCHED],
+            fields: [[0; 8]; 8],
+            listed: [0; LISTED.len()],
             wide: [0; 2],
+            hops_used: [0; REPEATERS + 1],
+            hop_counts: [0; 2],
+            stations: [[0; 2]; 2],
         }
     }
 
@@ -79,14 +174,45 @@ impl Seen {
         count(&mut self.decode_numbers, number as usize);
     }
 
-    /// A record made up and written.
-    pub fn written(&mut self, record: &Flat) {
-        count(&mut self.written_kinds, record[KIND].into());
-        count(&mut self.written_marks, record[MARK].into());
-        count(&mut self.written_routes, record[COUNT].into());
-        if has_pid(record) {
-            count(&mut self.written_pids, record[PID].into());
+    /// Where a search for the first nonzero octet and one for the first odd octet of the input come to their ends.
+    pub fn searched(&mut self, input: &[u8], start: usize, end: usize) {
+        let rest = |place: usize| usize::from(place >= input.len() / 8 * 8);
+        if let Some(cell) = self.ends.get_mut(end) {
+            cell[rest(end)] += 1;
         }
+        if start < end {
+            self.fields[start % 8][end % 8] += 1;
+        } else if let (1, Some(cell)) = (input[start], self.first_ones.get_mut(start)) {
+            cell[rest(start)] += 1;
+        }
+    }
+
+    /// A class starts.
+    pub fn class(&mut self, name: &str) {
+        self.classes.push((name.to_string(), Default::default()));
+    }
+
+    /// Something was written, or did not fit, in a room of this kind.
+    pub fn room(&mut self, writer: Writer, room: Room) {
+        if let Some((_, writers)) = self.classes.last_mut() {
+            writers[writer as usize][room as usize] += 1;
+        }
+    }
+
+    /// The record that it was; fields that its kind lacks are 0.
+    pub fn written(&mut self, writer: Writer, record: &Flat, room: Room) {
+        self.written[writer as usize].count(record, room);
+    }
+
+    /// A refused input of this length was to be re-encoded.
+    pub fn refused_room(&mut self, number: u32, room: usize, length: usize) {
+        if let Some(rooms) = self.refused_rooms.get_mut(number as usize) {
+            rooms[if room == 0 { 0 } else { 1 + usize::from(room > length) }] += 1;
+        }
+    }
+
+    pub fn beside(&mut self, number: u32) {
+        count(&mut self.beside_numbers, number as usize);
     }
 
     pub fn write_refusal(&mut self, number: u32) {
@@ -99,6 +225,20 @@ impl Seen {
 
     pub fn print(&mut self, number: u32) {
         count(&mut self.print_numbers, number as usize);
+    }
+
+    pub fn content(&mut self, number: u32) {
+        count(&mut self.content_numbers, number as usize);
+    }
+
+    pub fn hops(&mut self, record: &Flat, used: usize) {
+        count(&mut self.hops_used, used);
+        self.hop_counts[usize::from(usize::from(record[COUNT]) > REPEATERS)] += 1;
+    }
+
+    /// Two stations, whether the Rust can hold both, and whether they are the same.
+    pub fn stations(&mut self, held: bool, same: bool) {
+        self.stations[usize::from(held)][usize::from(same)] += 1;
     }
 
     pub fn listed(&mut self, which: Listed) {
@@ -124,32 +264,102 @@ impl Seen {
         KINDS.iter().copied().zip(self.read_kinds).collect()
     }
 
-    /// The cases that were never met. `UnknownContent` is never read.
+    /// How often each kind of room was lent to a writer.
+    pub fn room_counts(&self) -> Vec<(&'static str, u64)> {
+        let of = |room: Room| self.classes.iter().flat_map(|(_, writers)| writers).map(|rooms| rooms[room as usize]).sum();
+        ROOMS.iter().map(|&(room, name)| (name, of(room))).collect()
+    }
+
+    /// The cases that were never met.
     pub fn missing(&self) -> Vec<String> {
-        let mut missing = Vec::new();
-        let mut numbers = |what: &str, numbers: &[u32], table: &[u64]| {
-            let absent = numbers.iter().filter(|&&number| table[number as usize] == 0);
-            missing.extend(absent.map(|number| format!("{} {}", what, number)));
-        };
-        numbers("decode number", &DECODE_NUMBERS, &self.decode_numbers);
-        numbers("write number", &WRITE_NUMBERS, &self.write_numbers);
-        numbers("text number", &TEXT_NUMBERS, &self.text_numbers);
-        numbers("print number", &PRINT_NUMBERS, &self.print_numbers);
-        let mut tables = |what: &str, table: &[u64]| {
-            let absent = table.iter().enumerate().filter(|(_, &count)| count == 0);
-            missing.extend(absent.map(|(case, _)| format!("{} {}", what, case)));
-        };
-        tables("kind read, case", &self.read_kinds[..10]);
-        tables("kind written, case", &self.written_kinds);
-        tables("mark read, case", &self.marks);
-        tables("mark written, case", &self.written_marks);
-        tables("PID read, case", &self.pids);
-        tables("PID written, case", &self.written_pids);
-        tables("repeaters read,", &self.routes);
-        tables("repeaters written,", &self.written_routes);
-        tables("canonical, case", &self.canonical);
-        tables("listed difference, case", &self.listed);
-        tables("text outside ASCII that the Rust refuses or accepts, case", &self.wide);
-        missing
+        let mut missing = Missing(Vec::new());
+        missing.numbers("decode number", &DECODE_NUMBERS, &self.decode_numbers);
+        missing.numbers("write number", &WRITE_NUMBERS, &self.write_numbers);
+        missing.numbers("text number", &TEXT_NUMBERS, &self.text_numbers);
+        missing.numbers("print number", &PRINT_NUMBERS, &self.print_numbers);
+        missing.numbers("content alone, number", &CONTENT_NUMBERS, &self.content_numbers);
+        missing.numbers("side by side, number", &BESIDE_NUMBERS, &self.beside_numbers);
+        // `UnknownContent`, the last kind, is never read.
+        missing.cases("kind read, case", &self.read_kinds[..usize::from(UNKNOWN_CONTENT)]);
+        missing.cases("mark read, case", &self.marks);
+        missing.cases("PID read, case", &self.pids);
+        missing.cases("repeaters read,", &self.routes);
+        missing.cases("canonical, case", &self.canonical);
+        missing.cases("listed difference, case", &self.listed);
+        missing.cases("text outside ASCII that the Rust refuses or accepts, case", &self.wide);
+        missing.cases("hops used,", &self.hops_used);
+        missing.cases("hops of a count to 8 and over it, case", &self.hop_counts);
+        missing.cases("stations that the Rust can't hold, other or same: case", &self.stations[0]);
+        missing.cases("stations that the Rust can hold, other or same: case", &self.stations[1]);
+        for number in 1..self.refused_rooms.len() {
+            missing.cases(&format!("re-encoding refused by {} with no room, less than the input, more: case", number), &self.refused_rooms[number]);
+        }
+        for place in 0..SEARCHED {
+            // The last place of an eight is never in the rest.
+            let parts = if place % 8 == 7 { 1 } else { 2 };
+            missing.cases(&format!("first nonzero octet 01 at {}, in an eight or the rest: case", place), &self.first_ones[place][..parts]);
+            missing.cases(&format!("first odd octet at {}, in an eight or the rest: case", place), &self.ends[place][..parts]);
+        }
+        for start in 0..8 {
+            missing.cases(&format!("start even at {} modulo 8, end modulo 8 at", start), &self.fields[start]);
+        }
+        self.missing_writes(&mut missing);
+        missing.0
+    }
+
+    /// The same of what was written: no case, and no writer of a class, lacks a kind of room.
+    fn missing_writes(&self, missing: &mut Missing) {
+        for ((writer, who), written) in WRITERS.into_iter().zip(&self.written) {
+            let read = matches!(writer, Writer::Reencode | Writer::Read);
+            let alone = matches!(writer, Writer::Content);
+            for kind in (0..=UNKNOWN_CONTENT).filter(|&kind| !read || kind < UNKNOWN_CONTENT) {
+                let (at, name) = (usize::from(kind), KINDS[usize::from(kind)]);
+                // No room lacks two octets of content that is one.
+                let rooms = if alone && (RR..=UA).contains(&kind) { ROOMS_OF_ONE } else { &ROOMS };
+                missing.rooms(&format!("{}, {}", who, name), rooms, written.kinds[at]);
+                if !read && [I, RR, RNR, REJ, FRMR].contains(&kind) {
+                    missing.rooms(&format!("{}, {} with a number of 8 or more", who, name), rooms, written.large[at]);
+                }
+            }
+            missing.rooms_by_case(&format!("{}, PID", who), &written.pids);
+            if !alone {
+                missing.rooms_by_case(&format!("{}, mark", who), &written.marks);
+                missing.rooms_by_case(&format!("{}, repeaters", who), &written.routes);
+            }
+        }
+        for (name, writers) in &self.classes {
+            for (writer, who) in WRITERS {
+                let rooms = writers[writer as usize];
+                if rooms != Rooms::default() {
+                    missing.rooms(&format!("{} in the class '{}'", who, name), &ROOMS, rooms);
+                }
+            }
+        }
+    }
+}
+
+/// The names of what was never met.
+struct Missing(Vec<String>);
+
+impl Missing {
+    fn numbers(&mut self, what: &str, numbers: &[u32], table: &[u64]) {
+        let absent = numbers.iter().filter(|&&number| table[number as usize] == 0);
+        self.0.extend(absent.map(|number| format!("{} {}", what, number)));
+    }
+
+    fn cases(&mut self, what: &str, table: &[u64]) {
+        let absent = table.iter().enumerate().filter(|(_, &count)| count == 0);
+        self.0.extend(absent.map(|(case, _)| format!("{} {}", what, case)));
+    }
+
+    fn rooms(&mut self, what: &str, needed: &[(Room, &str)], rooms: Rooms) {
+        let absent = needed.iter().filter(|&&(room, _)| rooms[room as usize] == 0);
+        self.0.extend(absent.map(|(_, name)| format!("{}: room that is {}", what, name)));
+    }
+
+    fn rooms_by_case(&mut self, what: &str, table: &[Rooms]) {
+        for (case, &rooms) in table.iter().enumerate() {
+            self.rooms(&format!("{} {}", what, case), &ROOMS, rooms);
+        }
     }
 }

@@ -69,17 +69,21 @@ pub fn number(number: u32) -> String {
     format!("{}{}", number, oracle::meaning(number))
 }
 
-pub fn decode(decode: &Decode) -> String {
-    format!(
-        "number {} start {} end {} length {} info at {} of {} octets; {}",
-        number(decode.number),
-        decode.start,
-        decode.end,
-        decode.length,
-        decode.info_start,
-        decode.info_len,
-        record(&decode.record)
-    )
+/// A decode's number and places; its record, if it leaves one, is said behind them.
+pub fn decode(number: u32, places: &[usize], record: &str) -> String {
+    const NAMES: [&str; 5] = ["start", "end", "length", "info at", "info's length"];
+    let places: Vec<String> = NAMES.iter().zip(places).map(|(name, place)| format!("{} {}", name, place)).collect();
+    format!("number {} {}; {}", self::number(number), places.join(" "), record)
+}
+
+/// Octets that a call leaves in a lent buffer: a record and an address by name.
+pub fn left(octets: &[u8]) -> String {
+    match octets.len() {
+        0 => "nothing".to_string(),
+        ADDRESS => address(octets),
+        FLAT => record(octets.try_into().expect("a record's octets")),
+        _ => hex(octets),
+    }
 }
 
 /// A written output: its number, length and octets.

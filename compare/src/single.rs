@@ -3,7 +3,9 @@
 use crate::check::{padded, Checker, Difference};
 use crate::domain;
 use crate::flat::{self, ADDRESS, FLAT};
+use crate::inputs;
 use crate::oracle;
+use crate::port::{Port, HOPS, PLACES};
 use crate::show;
 use ax25::frame::{Address, Ax25Frame};
 
@@ -26,7 +28,7 @@ pub fn each(words: &[&str], mut check: impl FnMut(&str) -> bool) -> bool {
 }
 
 pub fn one(input: &[u8]) -> bool {
-    let mut checker = Checker::new();
+    let mut checker = Checker::thorough();
     println!("input: {} octets: {}", input.len(), show::hex(input));
     if domain::repeaters(input) > flat::REPEATERS {
         println!("outside the domain of equality (B1): {} repeaters, the port owes 9", domain::repeaters(input));
@@ -41,7 +43,9 @@ fn show_rust(input: &[u8]) {
         Ok(frame) => {
             println!("Rust: {:?}", frame);
             if frame.route.len() <= flat::REPEATERS {
-                println!("Rust: {}", show::decode(&oracle::accepted(input, &frame)));
+                let owed = oracle::accepted(input, &frame);
+                let places = [owed.start, owed.end, owed.length, owed.info_start, owed.info_len];
+                println!("Rust: {}", show::decode(0, &places, &show::record(&owed.record)));
             }
             let octets = frame.to_bytes();
             println!("Rust: re-encoded {} octets {}, canonical {}", octets.len(), show::hex(&octets), u8::from(octets == input));
@@ -52,7 +56,8 @@ fn show_rust(input: &[u8]) {
 
 fn show_port(checker: &mut Checker, input: &[u8]) {
     let port = &mut checker.port;
-    println!("port: {}", show::decode(&port.decode(input)));
+    let number = port.decode(input, FLAT, PLACES);
+    println!("port: {}", show::decode(number, port.sizes(), &left(port)));
     let (number, canonical, length) = (port.number(input), port.canonical(input), port.reencoded_length(input));
     // A length that is out of all reason is not lent.
     let room = length.min(input.len() + FLAT);
@@ -61,8 +66,9 @@ fn show_port(checker: &mut Checker, input: &[u8]) {
     println!("port: decode {} canonical {} re-encoded length {}; re-encode into {}: {} octets {}", number, canonical, length, room, answer, octets);
 }
 
-fn show_address(side: &str, number: u32, address: &[u8]) {
-    println!("{}: number {} {}", side, show::number(number), show::address(address));
+/// What the last call left in the output.
+fn left(port: &Port) -> String {
+    show::left(if port.rest_is_as_it_was(0) { &[] } else { port.output() })
 }
 
 fn show_wide(text: &[u8]) {
@@ -80,34 +86,34 @@ fn show_rust_address(read: Result<Address, u32>) {
 
 pub fn text(text: &[u8]) -> bool {
     println!("text: {} ({})", show::text(text), show::hex(text));
-    let mut checker = Checker::new();
+    let mut checker = Checker::thorough();
     match std::str::from_utf8(text) {
         Ok(text) => show_rust_address(oracle::from_str(text)),
         Err(_) => println!("Rust: can't be asked, the octets are no UTF-8"),
     }
     show_wide(text);
-    let (number, address) = checker.port.from_str(text);
-    show_address("port", number, &address);
+    let number = checker.port.from_str(text, ADDRESS);
+    println!("port: number {} {}", number, left(&checker.port));
     verdict(checker.text(text))
 }
 
 pub fn parts(callsign: &[u8], ssid: u8) -> bool {
     println!("callsign: {} ({}) SSID {}", show::text(callsign), show::hex(callsign), ssid);
-    let mut checker = Checker::new();
+    let mut checker = Checker::thorough();
     match std::str::from_utf8(callsign) {
         Ok(callsign) => show_rust_address(oracle::from_parts(callsign, ssid)),
         Err(_) => println!("Rust: can't be asked, the octets are no UTF-8"),
     }
     show_wide(callsign);
-    let (number, address) = checker.port.from_parts(callsign, ssid);
-    show_address("port", number, &address);
+    let number = checker.port.from_parts(callsign, ssid, ADDRESS);
+    println!("port: number {} {}", number, left(&checker.port));
     verdict(checker.parts(callsign, ssid))
 }
 
 pub fn print(address: &[u8]) -> bool {
     let whole = padded::<ADDRESS>(address);
     println!("address: {}", show::address(&whole));
-    let mut checker = Checker::new();
+    let mut checker = Checker::thorough();
     if domain::encodable(&whole) {
         println!("Rust: {:?}", flat::addresses(&[whole])[0].to_string());
     } else {
@@ -122,7 +128,7 @@ pub fn print(address: &[u8]) -> bool {
 pub fn record(record: &[u8], info: &[u8]) -> bool {
     let whole = padded::<FLAT>(record);
     println!("record: {} info {}", show::record(&whole), show::hex(info));
-    let mut checker = Checker::new();
+    let mut checker = Checker::thorough();
     match domain::record_number(&whole, info) {
         0 => println!("Rust: writes {}", show::hex(&flat::to_frame(&whole, info).to_bytes())),
         number => println!("outside the domain of equality (B3): the port owes {}", number),
@@ -143,8 +149,47 @@ pub fn simple_ui(source: &[u8], destination: &[u8], info: &[u8]) -> bool {
     }
     let known = flat::addresses(&[from, to]);
     println!("Rust: {:?}", Ax25Frame::new_simple_ui_frame(known[0].clone(), known[1].clone(), info.to_vec()));
-    let mut checker = Checker::new();
+    let mut checker = Checker::thorough();
     let number = checker.port.simple_ui(source, destination, FLAT);
     println!("port: number {} {}", number, show::record(&padded(checker.port.output())));
     verdict(checker.simple_ui(source, destination, info))
+}
+
+pub fn content(content: &[u8]) -> bool {
+    println!("content: {} octets: {}", content.len(), show::hex(content));
+    if content.is_empty() {
+        println!("outside the domain of equality (B5): the port owes 4");
+    } else {
+        match oracle::read(&inputs::with_content(content)) {
+            Ok(frame) => println!("Rust: {:?}", frame.content),
+            Err(refusal) => println!("Rust: refused {}", show::number(refusal.number)),
+        }
+    }
+    let mut checker = Checker::thorough();
+    let number = checker.port.content(content, FLAT - flat::KIND);
+    println!("port: number {} {}", number, left(&checker.port));
+    verdict(checker.content(content))
+}
+
+pub fn content_record(content: &[u8], info: &[u8]) -> bool {
+    println!("flat content: {} info {}", show::hex(content), show::hex(info));
+    let mut checker = Checker::thorough();
+    let (number, length) = checker.port.encode_content(content, info, info.len() + FLAT);
+    println!("port: number {} length {} octets {}", number, length, show::hex(&checker.port.output()[..length.min(info.len() + FLAT)]));
+    verdict(checker.content_record(content, info))
+}
+
+pub fn hops(record: &[u8]) -> bool {
+    println!("record: {}", show::record(&padded(record)));
+    let mut checker = Checker::thorough();
+    let number = checker.port.hops(record, HOPS);
+    println!("port: number {} hop set, hops used, due place {:?}", number, checker.port.sizes());
+    verdict(checker.hops(record))
+}
+
+pub fn same_station(one: &[u8], other: &[u8]) -> bool {
+    println!("{} and {}", show::address(&padded::<ADDRESS>(one)), show::address(&padded::<ADDRESS>(other)));
+    let mut checker = Checker::thorough();
+    println!("port: {}", checker.port.same_station(one, other));
+    verdict(checker.same_station(one, other))
 }

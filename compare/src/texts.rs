@@ -6,6 +6,7 @@ use crate::rng::Rng;
 
 pub type Each<'a> = &'a mut dyn FnMut(&[u8]);
 pub type EachParts<'a> = &'a mut dyn FnMut(&[u8], u8);
+pub type EachPair<'a> = &'a mut dyn FnMut(&[u8], &[u8]);
 
 /// Document 01's texts.
 pub const DOCUMENT: [&str; 9] =
@@ -151,6 +152,37 @@ pub fn addresses(seed: u64, count: usize, each: Each) {
     let mut rng = Rng::new(seed);
     for _ in 0..count {
         each(&any_address(&mut rng));
+    }
+}
+
+/// Pairs of addresses: equal, one octet changed to each other (case and padding among them), every two SSIDs, cut short, and seeded.
+pub fn stations(seed: u64, count: usize, each: EachPair) {
+    let known: [&FlatAddress; 4] = [b"BOX12 \x03", b"abcDEF\x00", b"      \x0F", b"\0\0\0\0\0\0\x00"];
+    for address in known {
+        for at in 0..ADDRESS {
+            for octet in 0..=255 {
+                let mut other = *address;
+                other[at] = octet;
+                each(address, &other);
+                each(&other, address);
+            }
+        }
+        for length in 0..=ADDRESS + 2 {
+            each(&[&address[..], b"zz"].concat()[..length], address);
+        }
+    }
+    for pair in 0..=0xFFFF_u16 {
+        let [one, other] = pair.to_be_bytes().map(|ssid| [b'B', b'O', b'X', b'1', b'2', b' ', ssid]);
+        each(&one, &other);
+    }
+    let mut rng = Rng::new(seed);
+    for _ in 0..count {
+        let one = any_address(&mut rng);
+        let mut other = if rng.chance(2) { one } else { any_address(&mut rng) };
+        if rng.chance(3) {
+            other[rng.below(ADDRESS)] ^= 1 << rng.below(8);
+        }
+        each(&one, &other);
     }
 }
 

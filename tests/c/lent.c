@@ -47,11 +47,9 @@ struct lent lend(const struct arena *arena, enum place place, size_t len) {
     l.arena = arena;
     l.len = len;
     l.paint = fresh_paint();
-    switch (place) {
-    case LOW: l.at = arena->base; break;
-    case HIGH: l.at = arena->base + arena->size - len; break;
-    case MIDDLE: l.at = arena->base + GUARD + turn++ % 16; break;
-    }
+    l.at = arena->base;
+    if (place == HIGH) l.at += arena->size - len;
+    if (place == MIDDLE) l.at += GUARD + turn++ % 16;
     uint8_t *low, *high;
     guard_bounds(&l, &low, &high);
     for (uint8_t *p = low; p < l.at; p++) *p = guard_octet(&l, p);

@@ -16,7 +16,7 @@ low c = ltb c 128
 unfoldable pub noCall : Address
 noCall = record { callsign = 78 ∷ 79 ∷ 67 ∷ 65 ∷ 76 ∷ 76 ∷ []; ssid = 0 }
 
--- what writing and printing take (number 22 otherwise): no character of 128 or more, and an SSID of at most 15
+-- what writing and printing take (number 22 otherwise; docs/DIFFERENCES.md, B3): no character of 128 or more, and an SSID of at most 15
 unfoldable pub encodable : Address → Bool
 encodable a = leb (a .ssid) 15 && all low (a .callsign)
 

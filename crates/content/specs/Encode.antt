@@ -10,11 +10,11 @@ use Rattle.content.specs.declared.EncodeAnswer.{EncodeAnswer}
 use Rattle.content.specs.declared.EncodeAnswer.the-variants.{Written, InfoNotAllowed, NoRoom}
 use Rattle.content.specs.declared.ContentWritten.{ContentWritten}
 
--- 23: info not empty for a kind that has none
+-- 23: info not empty for a kind that has none (docs/DIFFERENCES.md, B3)
 abbrev pub strayInfo : FrameContent → ℕ → Bool
 strayInfo k info = not (hasInfo k) && not (eqb info 0)
 
--- 24: the room is shorter than needed
+-- 24: the room is shorter than needed (docs/DIFFERENCES.md, B4)
 abbrev pub lacksRoom : FrameContent → ℕ → ℕ → Bool
 lacksRoom k info room = ltb room (length (front k) + info)
 

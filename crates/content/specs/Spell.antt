@@ -12,7 +12,7 @@ use Rattle.content.specs.declared.FrameReject.{FrameReject}
 use Rattle.content.specs.declared.FrameContent.{FrameContent}
 use Rattle.content.specs.declared.FrameContent.the-variants as kind
 
--- N(R) modulo 8 in bits 5 to 7, the poll, final or response bit in bit 4, and the low four bits
+-- N(R) modulo 8 (docs/DIFFERENCES.md, A13) in bits 5 to 7, the poll, final or response bit in bit 4, and the low four bits
 abbrev pub numbered : ℕ → Bool → ℕ → ℕ
 numbered receive on low = receive % 8 * 32 + flag 4 on + low
 
@@ -32,8 +32,8 @@ abbrev pub isResponse : CommandResponse → Bool
 isResponse Command = false
 isResponse Response = true
 
--- the octets before the info: the control octet, then the PID of I and UI, or FRMR's three octets, their unnamed bits zero and in
--- the order of reading; of `UnknownContent` none
+-- the octets before the info: the control octet, then the PID of I and UI, or FRMR's three octets, their unnamed bits zero
+-- (docs/DIFFERENCES.md, A10) and in the order of reading; of `UnknownContent` none
 abbrev pub front : FrameContent → List ℕ
 front (kind.Information k) = numbered (k .«receive_sequence») (k .poll) (sent (k .«send_sequence»)) ∷ octetOf (k .pid) ∷ []
 front (kind.ReceiveReady k) = numbered (k .«receive_sequence») (k .«poll_or_final») rr ∷ []

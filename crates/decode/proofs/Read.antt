@@ -17,6 +17,10 @@ use Rattle.octets.specs.Octet.{Octets, bit}
 use Rattle.octets.specs.First.{first}
 use Rattle.octets.proofs.Bits.{bit-test}
 use Rattle.octets.proofs.First.{first-le, first-sooner, first-same}
+use Rattle.content.specs.Spell.{hasInfo}
+use Rattle.content.specs.declared.FrameContent.{FrameContent}
+use Rattle.content.specs.declared.FrameContent.the-variants as kind
+use Rattle.content.proofs.FrameContent.{the-type as content-type}
 use Rattle.parse.proofs.ContentAnswer.{the-type}
 use Rattle.parse.specs.declared.ContentAnswer.{ContentAnswer}
 use Rattle.parse.specs.declared.ContentAnswer.the-variants as content
@@ -90,3 +94,18 @@ told-content content.MissingPidField h = refl
 told-content content.UnrecognisedSFieldType h = refl
 told-content content.UnrecognisedUFieldType h = refl
 told-content content.WrongSizeFrmrInfo h = refl
+
+-- and of the content, that it is neither I nor UI
+pub told-bare : (k : FrameContent) → OneOf (1 ∷ 2 ∷ 3 ∷ 4 ∷ 5 ∷ 6 ∷ 7 ∷ 8 ∷ 9 ∷ 10 ∷ []) (tagOf content-type k)
+    → OneOf (0 ∷ 1 ∷ 2 ∷ 3 ∷ 4 ∷ 5 ∷ 6 ∷ 7 ∷ 8 ∷ 10 ∷ []) (tagOf content-type k) → (k ≡ kind.UnknownContent → ⊥) → hasInfo k ≡ false
+told-bare (kind.Information k) h g n = absurd (miss (1 ∷ 2 ∷ 3 ∷ 4 ∷ 5 ∷ 6 ∷ 7 ∷ 8 ∷ 9 ∷ 10 ∷ []) 0 tt h)
+told-bare (kind.ReceiveReady k) h g n = refl
+told-bare (kind.ReceiveNotReady k) h g n = refl
+told-bare (kind.Reject k) h g n = refl
+told-bare (kind.SetAsynchronousBalancedMode k) h g n = refl
+told-bare (kind.Disconnect k) h g n = refl
+told-bare (kind.DisconnectedMode k) h g n = refl
+told-bare (kind.UnnumberedAcknowledge k) h g n = refl
+told-bare (kind.FrameReject k) h g n = refl
+told-bare (kind.UnnumberedInformation k) h g n = absurd (miss (0 ∷ 1 ∷ 2 ∷ 3 ∷ 4 ∷ 5 ∷ 6 ∷ 7 ∷ 8 ∷ 10 ∷ []) 9 tt g)
+told-bare kind.UnknownContent h g n = absurd (n refl)

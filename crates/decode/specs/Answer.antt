@@ -1,18 +1,9 @@
--- The answers of decoding: document 01's numbers for them.
+-- The answers of decoding: document 01's numbers for them, with the details that they give.
 use Prim.Native.Nat.{ℕ}
 use mathlib.Core.Bool.{Bool, true, false}
+pub use Rattle.parse.specs.Report.{Report, number}
 use Rattle.decode.specs.declared.DecodeAnswer.{DecodeAnswer}
 use Rattle.decode.specs.declared.DecodeAnswer.the-variants as read
-
--- what document 01's table gives for an answer of decoding: its number, and the details that the number gives, else 0
-pub record Report : Type 0 where
-  pub number : ℕ
-  pub start : ℕ
-  pub end : ℕ
-  pub len : ℕ
-
-abbrev pub number : ℕ → Report
-number n = record { number = n; start = 0; end = 0; len = 0 }
 
 abbrev pub reportOf : DecodeAnswer → Report
 reportOf read.Accepted = number 0

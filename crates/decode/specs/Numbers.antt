@@ -26,7 +26,7 @@ shortField s = ltb (endOf s + 1 - startOf s) 14
 abbrev pub noContent : List ℕ → Bool
 noContent s = eqb (endOf s + 1) (length s)
 
--- 9: nine or more repeaters
+-- 9: nine or more repeaters. AX.25 has two (docs/DIFFERENCES.md, A7), the Rust any number (B1)
 abbrev pub manyRepeaters : List ℕ → Bool
 manyRepeaters s = leb 9 (repeatersOf (startOf s) (endOf s))
 

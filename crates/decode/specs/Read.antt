@@ -52,7 +52,7 @@ routeAt s at n =
     placeAt s at n 0 ∷ placeAt s at n 1 ∷ placeAt s at n 2 ∷ placeAt s at n 3
     ∷ placeAt s at n 4 ∷ placeAt s at n 5 ∷ placeAt s at n 6 ∷ placeAt s at n 7 ∷ []
 
--- rule 4: by the marks of destination and source
+-- rule 4: by the marks of destination and source, whatever the kind is (docs/DIFFERENCES.md, A15)
 abbrev pub commandOf : Bool → Bool → Mark
 commandOf true false = Command
 commandOf false true = Response
@@ -74,7 +74,8 @@ frameAt s start n k = record {
 unfoldable pub refusedWith : DecodeAnswer → Decoded
 refusedWith a = record { answer = a; frame = defaultFrame; «info_start» = 0; «info_len» = 0 }
 
--- a frame whose control octet is at `control`: info follows control and PID, in a kind that has it
+-- a frame whose control octet is at `control`: info, of any length (docs/DIFFERENCES.md, A14), follows control and PID in a kind that
+-- has it
 unfoldable pub acceptedWith : Ax25Frame → ℕ → ℕ → Decoded
 acceptedWith f control len = record {
   answer = answer.Accepted;

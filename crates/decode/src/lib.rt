@@ -11,8 +11,9 @@ ghost use Prim.Native.Nat.{_+_, _*_, _≤_, _<_};
 ghost use lib.ListN.{length, drop};
 ghost use Rattle.parse.specs.Content.{contentOf};
 ghost use Rattle.content.specs.Spell.{hasInfo};
-ghost use Rattle.decode.specs.Answer.{numberOf};
-ghost use Rattle.decode.specs.Outline.{refusalBy, outlineBy, outlineOf};
+ghost use Rattle.content.specs.declared.FrameContent.the-variants.{UnknownContent};
+ghost use Rattle.decode.specs.Answer.{reportOf};
+ghost use Rattle.decode.specs.Outline.{refusalBy, outlineBy, outlineOf, holds, decodeBy};
 ghost use Rattle.decode.specs.Read.{parsedAt, routeAt, commandOf, frameAt, refusedWith, acceptedWith, refusalOf, withContent, decodeField, decode};
 
 pub enum DecodeAnswer {
@@ -48,7 +49,7 @@ pub struct Outline {
 
 impl DecodeAnswer {
     pub fn number(self) -> u32
-        ensures { λ r. ⌜ r ≡ numberOf self ⌝ }
+        ensures { λ r. ⌜ r ≡ reportOf self .number ⌝ }
     {
         match self {
             DecodeAnswer::Accepted => 0,
@@ -137,12 +138,12 @@ fn content_answer(bytes: &[u8], control: usize) -> DecodeAnswer
 fn refused_outline(answer: DecodeAnswer, start: usize, end: usize) -> Outline
     ensures { λ r. ⌜ r ≡ outlineBy start end (refusedWith answer) ⌝ }
 {
-    let frame = Ax25Frame::default();
+    let nothing = Ax25Frame::default();
     Outline {
         answer,
         start,
         end,
-        route_count: frame.route_count,
+        route_count: nothing.route_count,
     }
 }
 
@@ -226,26 +227,38 @@ fn parse_frame(bytes: &[u8], start: usize, count: usize, content: FrameContent) 
     }
 }
 
-fn accepted(frame: Ax25Frame, control: usize, len: usize) -> Decoded
-    requires { ⌜ (hasInfo (frame .content) ≡ true → control + 2 ≤ len) ⌝ }
+// A frame of a kind that carries a PID: info follows the PID.
+fn with_info(frame: Ax25Frame, control: usize, len: usize) -> Decoded
+    requires { ⌜ (hasInfo (frame .content) ≡ true) × (control + 2 ≤ len) ⌝ }
     ensures { λ r. ⌜ r ≡ acceptedWith frame control len ⌝ }
 {
-    let content = frame.content;
-    if content.has_info() {
-        let info_start = control + 2;
-        return Decoded {
-            answer: DecodeAnswer::Accepted,
-            frame,
-            info_start,
-            info_len: len - info_start,
-        };
-    }
+    let info_start = control + 2;
     Decoded {
         answer: DecodeAnswer::Accepted,
         frame,
-        info_start: 0,
-        info_len: 0,
+        info_start,
+        info_len: len - info_start,
     }
+}
+
+// I and UI carry a PID. No other kind that is read has info.
+fn accepted(frame: Ax25Frame, control: usize, len: usize) -> Decoded
+    requires { ⌜ (hasInfo (frame .content) ≡ true → control + 2 ≤ len) × (frame .content ≡ UnknownContent → ⊥) ⌝ }
+    ensures { λ r. ⌜ r ≡ acceptedWith frame control len ⌝ }
+{
+    let content = frame.content;
+    let FrameContent::Information(_) = content else {
+        let FrameContent::UnnumberedInformation(_) = content else {
+            return Decoded {
+                answer: DecodeAnswer::Accepted,
+                frame,
+                info_start: 0,
+                info_len: 0,
+            };
+        };
+        return with_info(frame, control, len);
+    };
+    with_info(frame, control, len)
 }
 
 // The content, from the control octet on, and the frame around it.
@@ -261,14 +274,39 @@ fn decode_content(bytes: &[u8], start: usize, count: usize, control: usize) -> D
     accepted(frame, control, bytes.len())
 }
 
-// Parse raw bytes into an Ax25Frame if possible.
-pub fn from_bytes(bytes: &[u8]) -> Decoded
-    ensures { λ r. ⌜ r ≡ decode (now (bytes .entry)) ⌝ }
+// Whether `len` octets hold an address field from `start` to `end` with so many repeaters.
+fn holds(len: usize, start: usize, end: usize, count: usize) -> bool
+    ensures { λ r. ⌜ r ≡ holds len start end count ⌝ }
 {
-    let outline = outline_of(bytes);
+    if len <= end {
+        return false;
+    }
+    if count > 8 {
+        return false;
+    }
+    if end < start {
+        return false;
+    }
+    14 + 7 * count <= end + 1 - start
+}
+
+// The frame that an outline tells of. An outline of other octets, which tells of more than these hold, is refused with 4.
+pub fn from_outline(bytes: &[u8], outline: Outline) -> Decoded
+    ensures { λ r. ⌜ r ≡ decodeBy (now (bytes .entry)) outline ⌝ }
+{
     let answer = outline.answer;
     let DecodeAnswer::Accepted = answer else {
         return refused(answer);
     };
+    if !holds(bytes.len(), outline.start, outline.end, outline.route_count) {
+        return refused(DecodeAnswer::FrameTooShort { len: bytes.len() });
+    }
     decode_content(bytes, outline.start, outline.route_count, outline.end + 1)
+}
+
+// Parse raw bytes into an Ax25Frame if possible.
+pub fn from_bytes(bytes: &[u8]) -> Decoded
+    ensures { λ r. ⌜ r ≡ decode (now (bytes .entry)) ⌝ }
+{
+    from_outline(bytes, outline_of(bytes))
 }

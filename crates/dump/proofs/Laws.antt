@@ -5,19 +5,19 @@ use mathlib.Core.Bool.{Bool, true, false, cond, not}
 use mathlib.Core.List.{List, [], _∷_, _++_, append-assoc, append-nil}
 use native.Mathlib.Numerals.{add-one}
 use native.Mathlib.Omega.{arith}
-use borrow.Author.Tests.{leb-true, leb-false}
+use borrow.Author.Tests.{eq-eqb, ne-eqb, leb-true, leb-false}
 use lib.Dec.{leb, eqb}
 use lib.ListN.{length, getD, take, drop, length-append, take-append-drop}
 use lib.Seq.{take-suc, take-at}
 use Rattle.octets.proofs.Choice.{by}
 use Rattle.octets.proofs.Splice.{splice-in, splice-length, splice-none, splice-more}
-use Rattle.printing.specs.Print.{trimmed, ssidSuffix}
+use Rattle.printing.specs.Print.{trimmed}
 use Rattle.address.specs.declared.Address.{Address}
 use Rattle.frame.specs.Spell.{repeaterAt}
 use Rattle.frame.specs.declared.RouteEntry.{RouteEntry}
 use Rattle.dump.specs.Ascii.{ascii}
 use Rattle.dump.specs.declared.words.Word.{Word}
-use Rattle.dump.specs.Text.{character, characters, addressText, entryText, routeText, wordOf, textIn, Put}
+use Rattle.dump.specs.Text.{decimal, character, characters, ssidText, addressText, entryText, routeText, wordOf, textIn, Put}
 
 pub put-none : (l : List ℕ) (at : ℕ) → Put l l at at []
 put-none l at = (sym (splice-none l at), omega arith)
@@ -77,8 +77,16 @@ word-text (a ∷ b ∷ c ∷ d ∷ e ∷ f ∷ g ∷ i ∷ j ∷ s) h = absurd (
 pub word-is : (w : Word) (t : List ℕ) → w ≡ wordOf t → length t ≤ 8 → (w .length ≤ 8) × (textIn w ≡ t)
 word-is w t e h = rw e (h, word-text t h)
 
+pub ssid-none : (s : ℕ) → s ≡ 0 → ssidText s ≡ []
+unfolding ssidText
+ssid-none s e = simp (eq-eqb s 0 e)
+
 -- the parts of the texts that have more than one
-pub address-text : (a : Address) → addressText a ≡ characters (trimmed (a .callsign)) ++ ssidSuffix (a .ssid)
+pub ssid-some : (s : ℕ) → (s ≡ 0 → ⊥) → ssidText s ≡ ascii "-" ++ decimal s
+unfolding ssidText
+ssid-some s n = simp (ne-eqb s 0 n)
+
+pub address-text : (a : Address) → addressText a ≡ characters (trimmed (a .callsign)) ++ ssidText (a .ssid)
 unfolding addressText
 address-text a = refl
 

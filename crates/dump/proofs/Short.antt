@@ -10,9 +10,9 @@ use Rattle.octets.specs.Octet.{Octets}
 use Rattle.octets.proofs.Choice.{either}
 use Rattle.address.specs.Address.{PlainAddress}
 use Rattle.text.specs.Text.{alphanumeric}
-use Rattle.printing.specs.Print.{trimmed, ssidSuffix}
+use Rattle.printing.specs.Print.{trimmed}
 use Rattle.address.specs.declared.Address.{Address}
-use Rattle.printing.proofs.Laws.{used-le, trimmed-length, suffix-short}
+use Rattle.printing.proofs.Laws.{used-le, trimmed-length}
 use Rattle.content.specs.Spell.{hasInfo}
 use Rattle.content.specs.declared.FrameContent.{FrameContent}
 use Rattle.content.specs.declared.FrameContent.the-variants as kind
@@ -29,7 +29,7 @@ use Rattle.frame.specs.declared.RouteEntry.{RouteEntry}
 use Rattle.grammar.proofs.Plain.{Stations, stations, inside}
 use Rattle.spelling.specs.Canonical.{canonical}
 use Rattle.dump.specs.Ascii.{ascii}
-use Rattle.dump.specs.Text.{fourDigits, leading, decimal, character, characters, addressText, entryText, routeText}
+use Rattle.dump.specs.Text.{fourDigits, leading, decimal, character, characters, ssidText, addressText, entryText, routeText}
 use Rattle.dump.specs.Dump.{markText, kindText, controlText, pidText, yesNo, stationLines, contentLines, frameText, detailText, refusalText, decodedText, dumpText}
 
 pub decimal-short : (n : ℕ) → length (decimal n) ≤ 4
@@ -44,19 +44,24 @@ unfolding characters
 characters-short [] = omega arith
 characters-short (c ∷ s) = omega (arith, length-append (character c) (characters s), character-short c, characters-short s)
 
-address-short : (a : Address) → PlainAddress a → length (addressText a) ≤ 21
+ssid-short : (s : ℕ) → length (ssidText s) ≤ 5
+unfolding ssidText
+ssid-short s =
+    either (λ (t : List ℕ). length t ≤ 5) (eqb s 0) (λ e. omega arith) (λ e. omega (arith, length-append (ascii "-") (decimal s), decimal-short s))
+
+address-short : (a : Address) → PlainAddress a → length (addressText a) ≤ 23
 unfolding addressText
 address-short a p =
-    omega (arith, p .six, length-append (characters (trimmed (a .callsign))) (ssidSuffix (a .ssid)), characters-short (trimmed (a .callsign)), trimmed-length (a .callsign), used-le (a .callsign), suffix-short (a .ssid))
+    omega (arith, p .six, length-append (characters (trimmed (a .callsign))) (ssidText (a .ssid)), characters-short (trimmed (a .callsign)), trimmed-length (a .callsign), used-le (a .callsign), ssid-short (a .ssid))
 
-entry-short : (e : RouteEntry) → PlainAddress (e .repeater) → length (entryText e) ≤ 22
+entry-short : (e : RouteEntry) → PlainAddress (e .repeater) → length (entryText e) ≤ 24
 unfolding entryText
 entry-short e p =
     let star : length (cond (e .«has_repeated») (ascii "*") []) ≤ 1 =
     either (λ (t : List ℕ). length t ≤ 1) (e .«has_repeated») (λ q. omega arith) (λ q. omega arith) in
     omega (arith, length-append (addressText (e .repeater)) (cond (e .«has_repeated») (ascii "*") []), address-short (e .repeater) p, star)
 
-route-short : (route : List RouteEntry) (n : ℕ) → ((i : ℕ) → i < n → PlainAddress (repeaterAt route i .repeater)) → length (routeText route n) ≤ 23 * n
+route-short : (route : List RouteEntry) (n : ℕ) → ((i : ℕ) → i < n → PlainAddress (repeaterAt route i .repeater)) → length (routeText route n) ≤ 25 * n
 unfolding routeText
 route-short route zero p = omega arith
 route-short route (suc n) p =
@@ -102,7 +107,7 @@ contents-short k =
     let c : List ℕ = ascii "pid=" ++ (pidText k ++ ascii "\n") in
     omega (arith, length-append a (b ++ c), length-append b c, line-long (ascii "kind=") (kindText k), line-long (ascii "control=") (controlText k), line-long (ascii "pid=") (pidText k), kind-short k, pid-short k)
 
-stations-short : (f : Ax25Frame) → Stations f → f .«route_count» ≤ 8 → length (stationLines f) ≤ 275
+stations-short : (f : Ax25Frame) → Stations f → f .«route_count» ≤ 8 → length (stationLines f) ≤ 295
 unfolding stationLines
 stations-short f p h =
     let a : List ℕ = ascii "destination=" ++ (addressText (f .destination) ++ ascii "\n") in

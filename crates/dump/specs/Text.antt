@@ -7,7 +7,7 @@ use lib.Dec.{eqb, ltb}
 use lib.ListN.{length, getD, take, drop}
 use Rattle.octets.specs.Splice.{splice}
 use Rattle.text.specs.Text.{alphanumeric}
-use Rattle.printing.specs.Print.{trimmed, ssidSuffix}
+use Rattle.printing.specs.Print.{trimmed}
 use Rattle.address.specs.declared.Address.{Address}
 use Rattle.frame.specs.Spell.{repeaterAt}
 use Rattle.frame.specs.declared.RouteEntry.{RouteEntry}
@@ -41,9 +41,13 @@ unfoldable pub characters : List ℕ → List ℕ
 characters [] = []
 characters (c ∷ s) = character c ++ characters s
 
--- an address: its callsign without the padding, then - and the SSID unless it is 0
+-- - and the SSID, unless it is 0
+unfoldable pub ssidText : ℕ → List ℕ
+ssidText s = cond (eqb s 0) [] (ascii "-" ++ decimal s)
+
+-- an address: its callsign without the padding, then its SSID
 unfoldable pub addressText : Address → List ℕ
-addressText a = characters (trimmed (a .callsign)) ++ ssidSuffix (a .ssid)
+addressText a = characters (trimmed (a .callsign)) ++ ssidText (a .ssid)
 
 -- a route entry, a marked one followed by *
 unfoldable pub entryText : RouteEntry → List ℕ

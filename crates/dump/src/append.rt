@@ -8,7 +8,7 @@ ghost use mathlib.Core.Bool.{cond};
 ghost use mathlib.Core.List.{[]};
 ghost use Prim.Native.Nat.{_+_, _≤_, _<_, _%_};
 ghost use lib.ListN.{length};
-ghost use Rattle.dump.specs.Text.{leading, decimal, textIn, characters, addressText, entryText, routeText, Put};
+ghost use Rattle.dump.specs.Text.{leading, decimal, textIn, characters, ssidText, addressText, entryText, routeText, Put};
 
 pub(crate) fn put(out: &mut [u8], at: usize, part: &[u8]) -> usize
     requires { ⌜ at + length (now part) ≤ length (now out) ⌝ }
@@ -72,6 +72,18 @@ fn put_characters(out: &mut [u8], at: usize, text: &[u8]) -> usize
     next
 }
 
+// - and the SSID, unless it is 0.
+fn put_ssid(out: &mut [u8], at: usize, ssid: u8) -> usize
+    requires { ⌜ at + length (ssidText ssid) ≤ length (now out) ⌝ }
+    ensures { λ r. ⌜ Put (now (out .entry)) (now (out .exit)) at r (ssidText ssid) ⌝ }
+{
+    if ssid == 0 {
+        return at;
+    }
+    let next = put(out, at, b"-");
+    put_decimal(out, next, ssid as usize)
+}
+
 pub(crate) fn put_address(out: &mut [u8], at: usize, address: Address) -> usize
     requires { ⌜ at + length (addressText address) ≤ length (now out) ⌝ }
     ensures { λ r. ⌜ Put (now (out .entry)) (now (out .exit)) at r (addressText address) ⌝ }
@@ -79,8 +91,7 @@ pub(crate) fn put_address(out: &mut [u8], at: usize, address: Address) -> usize
     let callsign = address.callsign;
     let n = printing::callsign_length(&callsign);
     let next = put_characters(out, at, &callsign[..n]);
-    printing::put_suffix(out, next, address.ssid);
-    next + printing::suffix_length(address.ssid)
+    put_ssid(out, next, address.ssid)
 }
 
 // A word where it is wanted.

@@ -23,7 +23,7 @@ routeEncodable route (suc n) = routeEncodable route n && encodable (repeaterAt r
 unfoldable pub frameEncodable : Ax25Frame → Bool
 frameEncodable f = encodable (f .destination) && encodable (f .source) && routeEncodable (f .route) (f .«route_count»)
 
--- the answer to writing a frame with its info into so much room
+-- the answer to writing a frame with its info into so much room. The Rust has no such refusals (docs/DIFFERENCES.md, B3 and B4)
 unfoldable pub writeAnswer : Ax25Frame → List ℕ → ℕ → WriteAnswer
 writeAnswer f info room =
     cond (ltb 8 (f .«route_count»)) RouteTooLong

@@ -9,7 +9,7 @@ use lib.ListN.{length, drop}
 use Rattle.octets.proofs.Choice.{by}
 use Rattle.content.specs.declared.FrameContent.the-variants as kind
 use Rattle.parse.specs.declared.ContentAnswer.the-variants as content
-use Rattle.lean.proofs.Laws.{never-unknown}
+use Rattle.parse.proofs.Read.{never-unknown}
 use Rattle.decode.specs.Answer.{isAccepted}
 use Rattle.frame.specs.Frame.{writeNumber, simpleUi, defaultFrame}
 use Rattle.frame.specs.Spell.{spell}

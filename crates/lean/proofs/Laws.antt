@@ -16,7 +16,7 @@ use Rattle.content.specs.Spell.{hasInfo, numbered, sent, unnumbered, isResponse
 use Rattle.lean.specs.Lean.{lean, infoOf}
 use Rattle.lean.proofs.Lean.{lean-exact, lean-spelled}
 use Rattle.lean.proofs.Back.{flags-below, i-back, rr-back, rnr-back, rej-back, sabm-back, disc-back, dm-back, ua-back, frmr-way, frmr-back, ui-back}
-use Rattle.parse.proofs.Read.{Reads, accepted}
+use Rattle.parse.proofs.Read.{Reads, accepted, sized}
 use Rattle.parse.proofs.Read.Reads.{i-frame, rr-frame, rnr-frame, rej-frame, sabm-frame, disc-frame, dm-frame, ua-frame, frmr-frame, ui-frame}
 use Rattle.content.specs.declared.FrameContent.{FrameContent}
 use Rattle.content.specs.declared.FrameContent.the-variants as kind
@@ -54,31 +54,11 @@ content-plain s o k e = plain (accepted s k e)
     plain (frmr-frame n t) = (omega arith, omega arith, o 3)
     plain (ui-frame n t) = pid-plain (getD s 1 0) (o 1)
 
--- what stands before the info is something, and no more than was read
-sized : (s : List ℕ) (k : FrameContent) → contentOf s ≡ Accepted k → (0 < length (front k)) × (length (front k) ≤ length s)
-sized s k e = held (accepted s k e)
-  where
-    held : {k : FrameContent} → Reads s k → (0 < length (front k)) × (length (front k) ≤ length s)
-    held (i-frame n t) = (omega arith, n)
-    held (rr-frame n t) = (omega arith, n)
-    held (rnr-frame n t) = (omega arith, n)
-    held (rej-frame n t) = (omega arith, n)
-    held (sabm-frame n t) = (omega arith, n)
-    held (disc-frame n t) = (omega arith, n)
-    held (dm-frame n t) = (omega arith, n)
-    held (ua-frame n t) = (omega arith, n)
-    held (frmr-frame n t) = (omega arith, omega arith)
-    held (ui-frame n t) = (omega arith, n)
-
 pub content-fits : (s : List ℕ) (k : FrameContent) → contentOf s ≡ Accepted k → length (front k) ≤ length s
 content-fits s k e = sized s k e .1
 
 pub content-some : (s : List ℕ) (k : FrameContent) → contentOf s ≡ Accepted k → 0 < length s
 content-some s k e = let h = sized s k e in omega arith
-
--- nothing reads as `UnknownContent`
-pub never-unknown : (s : List ℕ) → contentOf s ≡ Accepted kind.UnknownContent → ⊥
-never-unknown s e = let h = sized s kind.UnknownContent e .0 in omega arith
 
 -- where anything stands before info, it is two octets
 info-two : (k : FrameContent) → 0 < length (front k) → hasInfo k ≡ true → length (front k) ≡ 2

@@ -3,15 +3,15 @@ ghost use mathlib.Core.Path.{_≡_};
 ghost use mathlib.Core.Bool.{cond};
 ghost use lib.ListN.{length};
 ghost use Rattle.octets.specs.Splice.{splice};
-ghost use Rattle.decode.specs.Answer.{numberOf};
+ghost use Rattle.decode.specs.Answer.{reportOf};
 ghost use Rattle.decode.specs.Read.{decode};
 ghost use Rattle.spelling.specs.Canonical.{canonical};
-ghost use Rattle.respelling.specs.Reencode.{due, reencode, reencoded, reencodeNumber};
+ghost use Rattle.respelling.specs.Reencode.{due, reencode, reencoded, reportOf as reencodeReport};
 
 // The decode number.
 #[no_mangle]
 pub extern "C" fn ax25_decode(input: &[u8]) -> u32
-    ensures { λ r. ⌜ r ≡ numberOf (decode (now (input .entry)) .answer) ⌝ }
+    ensures { λ r. ⌜ r ≡ reportOf (decode (now (input .entry)) .answer) .number ⌝ }
 {
     let outline = decode::outline_of(input);
     let answer = outline.answer;
@@ -37,7 +37,7 @@ pub extern "C" fn ax25_reencoded_length(input: &[u8]) -> usize
 // The input re-encoded at the start of the output: the decode number, or 24, or 0. A refusal leaves the output alone.
 #[no_mangle]
 pub extern "C" fn ax25_reencode(input: &[u8], output: &mut [u8]) -> u32
-    ensures { λ r. ⌜ r ≡ reencodeNumber (reencode (now (input .entry)) (length (now (output .entry))) .answer) ⌝ }
+    ensures { λ r. ⌜ r ≡ reencodeReport (reencode (now (input .entry)) (length (now (output .entry))) .answer) .number ⌝ }
     ensures { λ r. ⌜ now (output .exit) ≡ splice (now (output .entry)) 0 (reencoded (now (input .entry)) (length (now (output .entry)))) ⌝ }
 {
     let done = respelling::reencode(input, output);

@@ -11,7 +11,7 @@ use Rattle.octets.specs.Octet.{field}
 use Rattle.octets.proofs.Choice.{either}
 use Rattle.content.specs.Control.{rr, rnr, rej, sabm, disc, dm, ua, frmr, ui, receiveOf, pollOf, sKind, uKind}
 use Rattle.parse.specs.Content.{iFieldsOf, uiFieldsOf, frmrFieldsOf, iOf, sOf, uiOf, frmrOf, uOf, contentOf}
-use Rattle.content.specs.Spell.{hasInfo}
+use Rattle.content.specs.Spell.{hasInfo, front}
 use Rattle.content.specs.declared.FrameContent.{FrameContent}
 use Rattle.content.specs.declared.FrameContent.the-variants as kind
 use Rattle.parse.specs.declared.ContentAnswer.{ContentAnswer}
@@ -103,3 +103,23 @@ content-room s k e i = reaches (accepted s k e) i
     reaches (ua-frame n t) i = absurd (false≢true i)
     reaches (frmr-frame n t) i = absurd (false≢true i)
     reaches (ui-frame n t) i = n
+
+-- what stands before the info is something, and no more than was read
+pub sized : (s : List ℕ) (k : FrameContent) → contentOf s ≡ Accepted k → (0 < length (front k)) × (length (front k) ≤ length s)
+sized s k e = held (accepted s k e)
+  where
+    held : {k : FrameContent} → Reads s k → (0 < length (front k)) × (length (front k) ≤ length s)
+    held (i-frame n t) = (omega arith, n)
+    held (rr-frame n t) = (omega arith, n)
+    held (rnr-frame n t) = (omega arith, n)
+    held (rej-frame n t) = (omega arith, n)
+    held (sabm-frame n t) = (omega arith, n)
+    held (disc-frame n t) = (omega arith, n)
+    held (dm-frame n t) = (omega arith, n)
+    held (ua-frame n t) = (omega arith, n)
+    held (frmr-frame n t) = (omega arith, omega arith)
+    held (ui-frame n t) = (omega arith, n)
+
+-- nothing reads as `UnknownContent`
+pub never-unknown : (s : List ℕ) → contentOf s ≡ Accepted kind.UnknownContent → ⊥
+never-unknown s e = let h = sized s kind.UnknownContent e .0 in omega arith

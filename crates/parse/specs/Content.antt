@@ -13,6 +13,7 @@ use Rattle.content.specs.declared.Information.{Information}
 use Rattle.content.specs.declared.UnnumberedInformation.{UnnumberedInformation}
 use Rattle.content.specs.declared.FrameReject.{FrameReject}
 use Rattle.content.specs.declared.FrameContent.the-variants as kind
+use Rattle.parse.specs.Report.{Report, number}
 use Rattle.parse.specs.declared.ContentAnswer.{ContentAnswer}
 use Rattle.parse.specs.declared.ContentAnswer.the-variants.{Accepted, ContentZeroLength, MissingPidField, UnrecognisedSFieldType, UnrecognisedUFieldType, WrongSizeFrmrInfo}
 
@@ -48,7 +49,7 @@ unfoldable pub responseOf : ℕ → CommandResponse
 responseOf n = cond (bit 4 n) Response Command
 
 -- FRMR: control; Z Y X W in bits 3 to 0; N(R), response bit and N(S); the rejected control octet. The order of the last three is
--- the Rust's, and not that of AX.25's figure (docs/DIFFERENCES.md, A9)
+-- the Rust's, and not that of AX.25's figure (docs/DIFFERENCES.md, A9); bits without a name are not looked at (A10)
 abbrev pub frmrFieldsOf : List ℕ → FrameReject
 frmrFieldsOf s = record {
   «final_bit» = pollOf (getD s 0 0);
@@ -77,7 +78,8 @@ uOf c s =
     (cond (eqb (uKind c) ui) (uiOf s)
     UnrecognisedUFieldType)))))
 
--- content from its control octet on: low bit 0 is I, low bits 01 are S, low bits 11 are U
+-- content from its control octet on: low bit 0 is I, low bits 01 are S, low bits 11 are U. None at all has a number too
+-- (docs/DIFFERENCES.md, B5)
 unfoldable pub contentOf : List ℕ → ContentAnswer
 contentOf s =
     cond (eqb (length s) 0) ContentZeroLength
@@ -85,11 +87,14 @@ contentOf s =
     (cond (eqb (field 0 2 (getD s 0 0)) 1) (sOf (getD s 0 0))
     (uOf (getD s 0 0) s)))
 
--- the number of an answer (document 01, Numbers)
+-- the number of an answer and its details (document 01, Numbers). Of 4 the detail is the length: content that is empty has length 0
+abbrev pub reportOf : ContentAnswer → Report
+reportOf (Accepted k) = number 0
+reportOf ContentZeroLength = record { number = 4; start = 0; end = 0; len = 0 }
+reportOf MissingPidField = number 5
+reportOf UnrecognisedSFieldType = number 6
+reportOf UnrecognisedUFieldType = number 7
+reportOf WrongSizeFrmrInfo = number 8
+
 abbrev pub numberOf : ContentAnswer → ℕ
-numberOf (Accepted k) = 0
-numberOf ContentZeroLength = 4
-numberOf MissingPidField = 5
-numberOf UnrecognisedSFieldType = 6
-numberOf UnrecognisedUFieldType = 7
-numberOf WrongSizeFrmrInfo = 8
+numberOf a = reportOf a .number

@@ -16,7 +16,7 @@ ghost use mathlib.Core.Path.{_≡_};
 ghost use mathlib.Core.Bool.{cond};
 ghost use lib.Dec.{ltb};
 ghost use lib.ListN.{length};
-ghost use Rattle.parse.specs.Content.{iOf, sOf, uOf, uiOf, frmrOf, responseOf, contentOf, numberOf};
+ghost use Rattle.parse.specs.Content.{iOf, sOf, uOf, uiOf, frmrOf, responseOf, contentOf, reportOf, numberOf};
 
 // What reading content gives.
 pub enum ContentAnswer {
@@ -30,7 +30,7 @@ pub enum ContentAnswer {
 
 impl ContentAnswer {
     pub fn number(self) -> u32
-        ensures { λ r. ⌜ r ≡ numberOf self ⌝ }
+        ensures { λ r. ⌜ r ≡ reportOf self .number ⌝ }
     {
         match self {
             ContentAnswer::Accepted(_) => 0,
@@ -224,7 +224,7 @@ fn u_number(c: u8, bytes: &[u8]) -> u32
 
 // The number of the content's answer, without taking the content apart.
 pub fn number_of(bytes: &[u8]) -> u32
-    ensures { λ r. ⌜ r ≡ numberOf (contentOf (now (bytes .entry))) ⌝ }
+    ensures { λ r. ⌜ r ≡ reportOf (contentOf (now (bytes .entry))) .number ⌝ }
 {
     if bytes.len() == 0 {
         return 4;

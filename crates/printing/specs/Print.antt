@@ -23,7 +23,7 @@ used (c ∷ s) = cond (eqb (used s) 0 && space c) 0 (suc (used s))
 abbrev pub trimmed : List ℕ → List ℕ
 trimmed c = take (used c) c
 
--- a number below 100 in decimal
+-- an SSID in decimal. Printing refuses those over 15, so that two digits are enough
 unfoldable pub decimalText : ℕ → List ℕ
 decimalText n = cond (ltb n 10) ((48 + n) ∷ []) ((48 + n / 10) ∷ (48 + n % 10) ∷ [])
 

@@ -85,8 +85,8 @@ pub fn callsign_length(callsign: &[u8]) -> usize
     n
 }
 
-// How many octets `put_suffix` writes, of an SSID of up to 99 as there.
-pub fn suffix_length(ssid: u8) -> usize
+// How many octets `put_suffix` writes.
+fn suffix_length(ssid: u8) -> usize
     ensures { λ r. ⌜ r ≡ length (ssidSuffix ssid) ⌝ }
 {
     if ssid >= 10 {
@@ -98,9 +98,8 @@ pub fn suffix_length(ssid: u8) -> usize
     0
 }
 
-// A hyphen and the SSID in decimal; nothing for SSID 0. An SSID of up to 99 is meant: above it the text is not decimal, and nothing
-// calls it so.
-pub fn put_suffix(out: &mut [u8], at: usize, ssid: u8)
+// A hyphen and the SSID in decimal; nothing for SSID 0. `print` has refused an SSID over 15.
+fn put_suffix(out: &mut [u8], at: usize, ssid: u8)
     ensures { λ r. ⌜ now (out .exit) ≡ splice (now (out .entry)) at (ssidSuffix ssid) ⌝ }
 {
     if ssid == 0 {

@@ -11,7 +11,8 @@ use Rattle.protocol.specs.declared.ProtocolIdentifier.the-variants.{Laye
 abbrev pub layer3 : ℕ → Bool
 layer3 b = eqb (field 4 2 b) 1 || eqb (field 4 2 b) 2
 
--- the octet that is written. Of the layer 3 class it is 10 hex (docs/DIFFERENCES.md, A6)
+-- the octet that is written. Of the layer 3 class it is 10 hex (docs/DIFFERENCES.md, A6); FF hex stands alone, without a second octet of
+-- the identifier (A11)
 abbrev pub octetOf : ProtocolIdentifier → ℕ
 octetOf Layer3Impl = 0x10
 octetOf X25Plp = 0x01

@@ -4,7 +4,8 @@ use mathlib.Core.Bool.{cond}
 use mathlib.Core.List.{List, []}
 use lib.Dec.{ltb}
 use lib.ListN.{length}
-use Rattle.decode.specs.Answer.{numberOf, isAccepted}
+use Rattle.decode.specs.Answer.{Report, number, isAccepted}
+use Rattle.decode.specs.Answer as decoding
 use Rattle.decode.specs.Read.{decode}
 use Rattle.frame.specs.declared.WriteAnswer.{WriteAnswer}
 use Rattle.frame.specs.declared.WriteAnswer.the-variants as write
@@ -36,7 +37,8 @@ answerBy write.NotEncodable = NoRoom
 answerBy write.InfoNotAllowed = NoRoom
 answerBy write.NoRoom = NoRoom
 
-abbrev pub reencodeNumber : ReencodeAnswer → ℕ
-reencodeNumber Written = 0
-reencodeNumber (Refused a) = numberOf a
-reencodeNumber NoRoom = 24
+-- decoding's number and details for a refused input, else 24 or 0 (document 01, Numbers)
+abbrev pub reportOf : ReencodeAnswer → Report
+reportOf Written = number 0
+reportOf (Refused a) = decoding.reportOf a
+reportOf NoRoom = number 24

@@ -1,10 +1,10 @@
-// Re-encoding: a frame decoded and written again.
+// Re-encoding: a frame decoded and written again. An input is refused by its outline, before any frame is built.
 use decode::DecodeAnswer;
 use frame::WriteAnswer;
 ghost use mathlib.Core.Path.{_≡_};
 ghost use lib.ListN.{length};
 ghost use Rattle.octets.specs.Splice.{splice};
-ghost use Rattle.respelling.specs.Reencode.{due, answerBy, reencode, reencoded, reencodeNumber};
+ghost use Rattle.respelling.specs.Reencode.{due, answerBy, reencode, reencoded, reportOf};
 
 pub enum ReencodeAnswer {
     Written,
@@ -20,7 +20,7 @@ pub struct Reencoded {
 
 impl ReencodeAnswer {
     pub fn number(self) -> u32
-        ensures { λ r. ⌜ r ≡ reencodeNumber self ⌝ }
+        ensures { λ r. ⌜ r ≡ reportOf self .number ⌝ }
     {
         match self {
             ReencodeAnswer::Written => 0,
@@ -34,11 +34,12 @@ impl ReencodeAnswer {
 pub fn reencoded_length(bytes: &[u8]) -> usize
     ensures { λ r. ⌜ r ≡ length (due (now (bytes .entry))) ⌝ }
 {
-    let decoded = decode::from_bytes(bytes);
-    let answer = decoded.answer;
+    let outline = decode::outline_of(bytes);
+    let answer = outline.answer;
     let DecodeAnswer::Accepted = answer else {
         return 0;
     };
+    let decoded = decode::from_outline(bytes, outline);
     let frame = decoded.frame;
     let content = frame.content;
     14 + 7 * frame.route_count + content.front_len() + decoded.info_len
@@ -62,14 +63,15 @@ pub fn reencode(bytes: &[u8], out: &mut [u8]) -> Reencoded
     ensures { λ r. ⌜ r ≡ reencode (now (bytes .entry)) (length (now (out .entry))) ⌝ }
     ensures { λ r. ⌜ now (out .exit) ≡ splice (now (out .entry)) 0 (reencoded (now (bytes .entry)) (length (now (out .entry)))) ⌝ }
 {
-    let decoded = decode::from_bytes(bytes);
-    let answer = decoded.answer;
+    let outline = decode::outline_of(bytes);
+    let answer = outline.answer;
     let DecodeAnswer::Accepted = answer else {
         return Reencoded {
             answer: ReencodeAnswer::Refused(answer),
             length: 0,
         };
     };
+    let decoded = decode::from_outline(bytes, outline);
     let frame = decoded.frame;
     let start = decoded.info_start;
     let end = start + decoded.info_len;

@@ -82,7 +82,7 @@ unfoldable pub ssidValue : List ℕ → ℕ
 ssidValue t = cond (hasSsid t) (decimal (afterPlus (ssidText t))) 0
 
 -- the conditions of the table
--- 35: an octet of 128 or more
+-- 35: an octet of 128 or more (docs/DIFFERENCES.md, B2)
 abbrev pub high : List ℕ → Bool
 high t = not (all low t)
 

@@ -1,11 +1,11 @@
 -- The content's answer is that of the octets from the control octet on; a refusal is passed on, and info needs two octets.
-use mathlib.Core.Path.{_≡_, _∙_}
+use mathlib.Core.Path.{_≡_, ap, _∙_}
 use native.Mathlib.Omega.{arith}
 use lib.ListN.{drop, length-drop}
 use Rattle.octets.proofs.Splice.{part-from}
 use Rattle.parse.specs.Content.{contentOf}
 use Rattle.parse.specs.declared.ContentAnswer.the-variants.{Accepted}
-use Rattle.parse.proofs.Read.{content-room}
+use Rattle.parse.proofs.Read.{content-room, never-unknown}
 use Rattle.decode.specs.Read.{frameAt, withContent}
 use Rattle.decode.proofs.Whole.{refusal-by, refused-content}
 use Rattle.decode.proofs.Read.{told-content}
@@ -53,12 +53,12 @@ parse-frame-requires c κs = search needs
 
 accepted-requires : tie.Need-accepted-requires
 unfolding frameAt
-accepted-requires c κs = λ h.
+accepted-requires c κs =
     let a = c .before .before .before .before .before .before .before .args in
     let s = drop (a .control) (a .bytes .now) in
     let is : contentOf s ≡ Accepted (c .parse-frame .result .content) =
     answered (c .before .before .before .before) ∙ simp (c .before .before .answer .given .1, c .parse-frame .ensures) in
-    omega (arith, length-drop (a .control) (a .bytes .now), content-room s _ is h)
+    (λ h. omega (arith, length-drop (a .control) (a .bytes .now), content-room s _ is h), λ u. never-unknown s (is ∙ ap Accepted u))
 
 returns-2 : tie.Need-returns-2
 unfolding withContent

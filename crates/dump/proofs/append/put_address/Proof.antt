@@ -1,7 +1,7 @@
-use mathlib.Core.Path.{refl, sym}
-use Rattle.printing.specs.Print.{trimmed, ssidSuffix}
+use mathlib.Core.Path.{sym}
+use Rattle.printing.specs.Print.{trimmed}
 use Rattle.printing.proofs.Laws.{used-le, trimmed-length}
-use Rattle.dump.specs.Text.{characters}
+use Rattle.dump.specs.Text.{characters, ssidText}
 use Rattle.dump.proofs.Laws.{fits-first, fits-next, put-then, address-text}
 use borrow.Author.Needs.{needs}
 use Rattle.dump.proofs.append.put_address.Statement.{statement}
@@ -24,32 +24,23 @@ put-characters-requires c κs =
     let p = c .before .before .before .before .before .before .pre in
     let g = c .before .before .before .before .before .before .args in
     rw (c .before .before .callsign-length .ensures)
-    (fits-first (g .out .now) (g .at) (characters (trimmed (g .address .callsign))) (ssidSuffix (g .address .ssid)) (rw (address-text (g .address)) at (p)))
+    (fits-first (g .out .now) (g .at) (characters (trimmed (g .address .callsign))) (ssidText (g .address .ssid)) (rw (address-text (g .address)) at (p)))
 
-put-suffix-requires : tie.Need-put-suffix-requires
-put-suffix-requires c κs = search needs
-
-suffix-length-requires : tie.Need-suffix-length-requires
-suffix-length-requires c κs = search needs
-
-add-result : tie.Need-add-result
-add-result c =
-    let g = c .before .before .before .before .before .before .before .before .before .before .before .before .before .before .args in
-    let h = fits-next (g .out .now) (g .at) (characters (trimmed (g .address .callsign))) (ssidSuffix (g .address .ssid)) (rw (address-text (g .address)) at (c .before .before .before .before .before .before .before .before .before .before .before .before .before .before .pre)) (rw (c .before .before .before .before .before .before .before .before .before .before .callsign-length .ensures) at (c .before .before .before .before .before .before .before .put-characters .ensures)) in
-    rw (c .suffix-length .ensures) (search needs)
+put-ssid-requires : tie.Need-put-ssid-requires
+put-ssid-requires c κs =
+    let g = c .before .before .before .before .before .before .before .before .before .before in
+    fits-next (g .args .out .now) (g .args .at) (characters (trimmed (g .args .address .callsign))) (ssidText (g .args .address .ssid))
+    (rw (address-text (g .args .address)) at (g .pre)) (rw (c .before .before .before .before .before .before .callsign-length .ensures) at (c .before .before .before .put-characters .ensures))
 
 same-length : tie.Need-same-length
 same-length c = search needs
 
 returns : tie.Need-returns
 returns c =
-    let put-suffix = c .before .before .before .put-suffix in
-    let put-characters = c .before .before .before .before .before .before .before .put-characters in
-    let callsign-length = c .before .before .before .before .before .before .before .before .before .before .callsign-length in
-    let p = c .before .before .before .before .before .before .before .before .before .before .before .before .before .before .pre in
-    let g = c .before .before .before .before .before .before .before .before .before .before .before .before .before .before .args in
-    rw (address-text (g .address))
-    (put-then (g .out .now) (g .at) (characters (trimmed (g .address .callsign))) (ssidSuffix (g .address .ssid)) (rw (address-text (g .address)) at (p)) (rw (callsign-length .ensures) at (put-characters .ensures)) (put-suffix .ensures, rw (c .suffix-length .ensures) refl))
+    let g = c .before .before .before .before .before .before .before .before .before .before .before .before .before in
+    rw (address-text (g .args .address))
+    (put-then (g .args .out .now) (g .args .at) (characters (trimmed (g .args .address .callsign))) (ssidText (g .args .address .ssid))
+    (rw (address-text (g .args .address)) at (g .pre)) (rw (c .before .before .before .before .before .before .before .before .before .callsign-length .ensures) at (c .before .before .before .before .before .before .put-characters .ensures)) (c .before .before .put-ssid .ensures))
 
 pub put-address-spec : {M : Type 1} → statement M
 put-address-spec =
@@ -60,8 +51,6 @@ put-address-spec =
     array-share-prefix-callsign
     slice-aggregate-put-characters
     put-characters-requires
-    put-suffix-requires
-    suffix-length-requires
-    add-result
+    put-ssid-requires
     same-length
     returns)

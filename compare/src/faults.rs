@@ -1,0 +1,229 @@
+//! Deliberate faults, for `compare/faults` alone: each call of the port is wrapped, and spoils what the proved code answered by the
+//! fault that COMPARE_FAULT names. The linker puts these in the calls' places (`--wrap`) and leaves the port's own under `__real_`.
+
+use crate::flat::{ABSENT, COUNT, KIND, MARK, RECEIVE, RNR, RR, UNKNOWN_CONTENT};
+use std::slice::{from_raw_parts, from_raw_parts_mut};
+use std::sync::atomic::{AtomicUsize, Ordering};
+
+/// What each fault does, from 1 on, and words in the name of a class that has to find it.
+const FAULTS: [(&str, &str); 26] = [
+    ("re-encoding writes the address field, then answers 24", "every prefix"),
+    ("re-encoding writes the address field, then refuses the content", "every prefix"),
+    ("re-encoding into no room at all answers 0", "every prefix"),
+    ("re-encoding answers 24 before 9", "side by side"),
+    ("a refused re-encoding writes into an output close by", "side by side"),
+    ("nine repeaters: writes into an output close by", "side by side"),
+    ("too little room: writes into an output close by", "side by side"),
+    ("a search passes over 01 at the last place of an eight", "search by eights"),
+    ("a search passes over the first odd octet at place 15", "search by eights"),
+    ("writing UnknownContent touches room that is short", "records: every kind"),
+    ("writing RR with N(R) over 7 touches room that is short", "records: every kind"),
+    ("writing RR with N(R) over 7 goes on after its end", "records: every kind"),
+    ("writing an absent mark touches room that is short", "records: every kind"),
+    ("23 touches an output close by", "records: those that the Rust can't hold"),
+    ("printing touches room that is short", "printing"),
+    ("a refused decode leaves a record", "every prefix"),
+    ("a refused text leaves an address", "text: every SSID"),
+    ("a refused callsign leaves an SSID", "from_parts"),
+    ("hops of a count over 8 are none", "hops"),
+    ("the due place is the first that is not marked", "hops"),
+    ("same station whatever the SSID", "same station"),
+    ("same station whatever the case", "same station"),
+    ("empty content is 5", "content alone"),
+    ("refused content leaves its kind", "content alone"),
+    ("writing content touches room that is short", "content written alone"),
+    ("writing RNR's content with N(R) over 7 goes on after its end", "content written alone"),
+];
+
+/// A line for each fault: its number, the words, and what it does.
+pub fn list() {
+    for (i, (what, class)) in FAULTS.iter().enumerate() {
+        println!("{}\t{}\t{}", i + 1, class, what);
+    }
+}
+
+static FAULT: AtomicUsize = AtomicUsize::new(usize::MAX);
+
+fn is(what: &str) -> bool {
+    if FAULT.load(Ordering::Relaxed) == usize::MAX {
+        let number = std::env::var("COMPARE_FAULT").ok().and_then(|number| number.parse().ok()).unwrap_or(0);
+        FAULT.store(number, Ordering::Relaxed);
+    }
+    let fault = FAULT.load(Ordering::Relaxed);
+    fault > 0 && FAULTS[fault - 1].0 == what
+}
+
+extern "C" {
+    fn __real_ax25_decode(input: *const u8, input_len: usize) -> u32;
+    fn __real_ax25_reencode(input: *const u8, input_len: usize, out: *mut u8, out_len: usize) -> u32;
+    fn __real_probe_decode(input: *const u8, input_len: usize, record: *mut u8, record_len: usize, places: *mut usize, places_len: usize) -> u32;
+    fn __real_probe_encode(record: *const u8, record_len: usize, info: *const u8, info_len: usize, out: *mut u8, out_len: usize, length: *mut usize, length_len: usize) -> u32;
+    fn __real_probe_from_parts(callsign: *const u8, callsign_len: usize, ssid: u8, address: *mut u8, address_len: usize) -> u32;
+    fn __real_probe_from_str(text: *const u8, text_len: usize, address: *mut u8, address_len: usize) -> u32;
+    fn __real_probe_print(address: *const u8, address_len: usize, out: *mut u8, out_len: usize, length: *mut usize, length_len: usize) -> u32;
+    fn __real_probe_hops(record: *const u8, record_len: usize, numbers: *mut usize, numbers_len: usize) -> u32;
+    fn __real_probe_same_station(one: *const u8, one_len: usize, other: *const u8, other_len: usize) -> u32;
+    fn __real_probe_content(input: *const u8, input_len: usize, content: *mut u8, content_len: usize) -> u32;
+    fn __real_probe_content_encode(content: *const u8, content_len: usize, info: *const u8, info_len: usize, out: *mut u8, out_len: usize, length: *mut usize, length_len: usize) -> u32;
+}
+
+/// Whether two buffers stand side by side, as `port::Beside` places them.
+fn close(one: &[u8], other: &[u8]) -> bool {
+    let (a, b) = (one.as_ptr() as usize, other.as_ptr() as usize);
+    if a <= b { b - a <= one.len() + 40 } else { a - b <= other.len() + 40 }
+}
+
+/// Spoils the first octet, if there is one.
+fn spoil(out: &mut [u8]) {
+    if let Some(octet) = out.first_mut() {
+        *octet ^= 0x55;
+    }
+}
+
+fn octet(record: &[u8], at: usize) -> u8 {
+    record.get(at).copied().unwrap_or(0)
+}
+
+#[no_mangle]
+unsafe extern "C" fn __wrap_ax25_decode(input: *const u8, input_len: usize) -> u32 {
+    let octets = from_raw_parts(input, input_len);
+    let start = octets.iter().position(|&octet| octet != 0).unwrap_or(0);
+    let end = octets.iter().position(|&octet| octet % 2 == 1).unwrap_or(0);
+    let mut passed = octets.to_vec();
+    if is("a search passes over 01 at the last place of an eight") && start % 8 == 7 && octets[start] == 1 {
+        passed[start] = 0;
+    }
+    if is("a search passes over the first odd octet at place 15") && end == 15 {
+        passed[end] ^= 1;
+    }
+    __real_ax25_decode(passed.as_ptr(), input_len)
+}
+
+#[no_mangle]
+unsafe extern "C" fn __wrap_ax25_reencode(input: *const u8, input_len: usize, out: *mut u8, out_len: usize) -> u32 {
+    let number = __real_ax25_reencode(input, input_len, out, out_len);
+    let (input, out) = (from_raw_parts(input, input_len), from_raw_parts_mut(out, out_len));
+    let early = is("re-encoding writes the address field, then answers 24") && number == 24
+        || is("re-encoding writes the address field, then refuses the content") && (5..=8).contains(&number);
+    if early && out_len >= 14 {
+        out[..14].copy_from_slice(&input[..14]);
+    }
+    let beside = is("a refused re-encoding writes into an output close by") && (1..=8).contains(&number)
+        || is("nine repeaters: writes into an output close by") && number == 9
+        || is("too little room: writes into an output close by") && number == 24;
+    if beside && close(input, out) {
+        spoil(out);
+    }
+    if is("re-encoding into no room at all answers 0") && number == 24 && out_len == 0 {
+        return 0;
+    }
+    if is("re-encoding answers 24 before 9") && number == 9 && out_len < input_len {
+        return 24;
+    }
+    number
+}
+
+#[no_mangle]
+unsafe extern "C" fn __wrap_probe_decode(input: *const u8, input_len: usize, record: *mut u8, record_len: usize, places: *mut usize, places_len: usize) -> u32 {
+    let number = __real_probe_decode(input, input_len, record, record_len, places, places_len);
+    if is("a refused decode leaves a record") && (1..=9).contains(&number) {
+        spoil(from_raw_parts_mut(record, record_len));
+    }
+    number
+}
+
+#[no_mangle]
+unsafe extern "C" fn __wrap_probe_encode(record: *const u8, record_len: usize, info: *const u8, info_len: usize, out: *mut u8, out_len: usize, length: *mut usize, length_len: usize) -> u32 {
+    let number = __real_probe_encode(record, record_len, info, info_len, out, out_len, length, length_len);
+    let (record, info, out) = (from_raw_parts(record, record_len), from_raw_parts(info, info_len), from_raw_parts_mut(out, out_len));
+    let (kind, large) = (octet(record, KIND), octet(record, RECEIVE) > 7);
+    let short = is("writing UnknownContent touches room that is short") && kind == UNKNOWN_CONTENT
+        || is("writing RR with N(R) over 7 touches room that is short") && kind == RR && large
+        || is("writing an absent mark touches room that is short") && octet(record, MARK) == ABSENT;
+    if number == 24 && length_len > 0 && short || number == 23 && is("23 touches an output close by") && close(info, out) {
+        spoil(out);
+    }
+    if number == 0 && is("writing RR with N(R) over 7 goes on after its end") && kind == RR && large {
+        spoil(&mut out[*length..]);
+    }
+    number
+}
+
+#[no_mangle]
+unsafe extern "C" fn __wrap_probe_from_parts(callsign: *const u8, callsign_len: usize, ssid: u8, address: *mut u8, address_len: usize) -> u32 {
+    let number = __real_probe_from_parts(callsign, callsign_len, ssid, address, address_len);
+    if is("a refused callsign leaves an SSID") && number == 34 {
+        from_raw_parts_mut(address, address_len)[6] = ssid;
+    }
+    number
+}
+
+#[no_mangle]
+unsafe extern "C" fn __wrap_probe_from_str(text: *const u8, text_len: usize, address: *mut u8, address_len: usize) -> u32 {
+    let number = __real_probe_from_str(text, text_len, address, address_len);
+    if is("a refused text leaves an address") && number > 30 {
+        spoil(from_raw_parts_mut(address, address_len));
+    }
+    number
+}
+
+#[no_mangle]
+unsafe extern "C" fn __wrap_probe_print(address: *const u8, address_len: usize, out: *mut u8, out_len: usize, length: *mut usize, length_len: usize) -> u32 {
+    let number = __real_probe_print(address, address_len, out, out_len, length, length_len);
+    if is("printing touches room that is short") && number == 24 && length_len > 0 {
+        spoil(from_raw_parts_mut(out, out_len));
+    }
+    number
+}
+
+#[no_mangle]
+unsafe extern "C" fn __wrap_probe_hops(record: *const u8, record_len: usize, numbers: *mut usize, numbers_len: usize) -> u32 {
+    let number = __real_probe_hops(record, record_len, numbers, numbers_len);
+    let (record, numbers) = (from_raw_parts(record, record_len), from_raw_parts_mut(numbers, numbers_len));
+    if number == 0 && is("hops of a count over 8 are none") && octet(record, COUNT) > 8 {
+        numbers.fill(0);
+    }
+    if number == 0 && is("the due place is the first that is not marked") {
+        numbers[2] = (!numbers[0]).trailing_zeros() as usize;
+    }
+    number
+}
+
+#[no_mangle]
+unsafe extern "C" fn __wrap_probe_same_station(one: *const u8, one_len: usize, other: *const u8, other_len: usize) -> u32 {
+    let same = __real_probe_same_station(one, one_len, other, other_len);
+    let (one, other) = (from_raw_parts(one, one_len), from_raw_parts(other, other_len));
+    if one_len < 7 || other_len < 7 {
+        return same;
+    }
+    let (callsign, ssid) = (one[..6] == other[..6], one[6] == other[6]);
+    let otherwise = is("same station whatever the SSID") && callsign
+        || is("same station whatever the case") && one[..6].eq_ignore_ascii_case(&other[..6]) && ssid;
+    same | u32::from(otherwise)
+}
+
+#[no_mangle]
+unsafe extern "C" fn __wrap_probe_content(input: *const u8, input_len: usize, content: *mut u8, content_len: usize) -> u32 {
+    let number = __real_probe_content(input, input_len, content, content_len);
+    if is("empty content is 5") && number == 4 {
+        return 5;
+    }
+    if is("refused content leaves its kind") && number == 8 {
+        spoil(from_raw_parts_mut(content, content_len));
+    }
+    number
+}
+
+#[no_mangle]
+unsafe extern "C" fn __wrap_probe_content_encode(content: *const u8, content_len: usize, info: *const u8, info_len: usize, out: *mut u8, out_len: usize, length: *mut usize, length_len: usize) -> u32 {
+    let number = __real_probe_content_encode(content, content_len, info, info_len, out, out_len, length, length_len);
+    let (content, out) = (from_raw_parts(content, content_len), from_raw_parts_mut(out, out_len));
+    if is("writing content touches room that is short") && number == 24 && length_len > 0 {
+        spoil(out);
+    }
+    let large = octet(content, 0) == RNR && octet(content, RECEIVE - KIND) > 7;
+    if number == 0 && is("writing RNR's content with N(R) over 7 goes on after its end") && large {
+        spoil(&mut out[*length..]);
+    }
+    number
+}
