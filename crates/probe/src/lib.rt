@@ -36,7 +36,9 @@ const PLACES: usize = 5;
 
 const HOPS: usize = 3;
 
-// The number of a call that is lent too little.
+// The number of a call that refuses nothing, and of one that is lent too little.
+const ACCEPTED: u32 = 0;
+
 const NO_ROOM: u32 = 24;
 
 // Decodes: the number, the frame, and its places, which a refusal's details are among.
@@ -56,7 +58,7 @@ pub extern "C" fn probe_decode(input: &[u8], flat: &mut [u8], places: &mut [usiz
     let answer = decoded.answer;
     places::put_places(places, decoded);
     let number = answer.number();
-    if number != 0 {
+    if number != ACCEPTED {
         return number;
     }
     let frame = decoded.frame;
@@ -107,7 +109,7 @@ pub extern "C" fn probe_from_parts(callsign: &[u8], ssid: u8, flat: &mut [u8]) -
     let read = text::from_parts(callsign, ssid);
     let answer = read.answer;
     let number = answer.number();
-    if number != 0 {
+    if number != ACCEPTED {
         return number;
     }
     let address = read.address;
@@ -127,7 +129,7 @@ pub extern "C" fn probe_from_str(text: &[u8], flat: &mut [u8]) -> u32
     let read = text::from_str(text);
     let answer = read.answer;
     let number = answer.number();
-    if number != 0 {
+    if number != ACCEPTED {
         return number;
     }
     let address = read.address;
