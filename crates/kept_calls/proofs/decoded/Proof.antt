@@ -1,5 +1,5 @@
 -- The number is the definition's, of which the demand is proved.
-use mathlib.Core.Path.{refl}
+use mathlib.Core.Path.{sym}
 use Rattle.demands.proofs.Numbers.{decoding}
 use borrow.Author.Needs.{needs}
 use Rattle.kept_calls.proofs.decoded.Statement.{statement}
@@ -9,7 +9,7 @@ ax25-decode-requires : tie.Need-ax25-decode-requires
 ax25-decode-requires c κs = search needs
 
 returns : tie.Need-returns
-returns c = rw (c .ax25-decode .ensures) (decoding _ _ .0 refl)
+returns c = decoding _ _ .0 (sym (c .ax25-decode .ensures))
 
 pub decoded-spec : {M : Type 1} → statement M
 decoded-spec = tie.close (tie.spec ax25-decode-requires returns)
