@@ -161,7 +161,7 @@ def opened():
 
 def lists():
     text = read('README.md').split('\n## ')[0]
-    shown = {row[0].strip('`') for row in rows(text)}
+    shown = {name for row in rows(text) for name in re.findall(r'`(\w+)`', row[0])}
     check("README's table has no crate that is not there", sorted(shown - set(crates())))
     check('README names every crate', [name for name in crates() if f'`{name}`' not in text])
     numbers = re.findall(r'^(\d+)\. \*?', read('docs/DECISIONS.md'), re.M)

@@ -2,7 +2,7 @@
 //! does on document 01's domain of equality, and as docs/DIFFERENCES.md lists outside it.
 
 use crate::domain::{self, Listed};
-use crate::flat::{self, Decode, Flat, FlatAddress, ADDRESS, FLAT, KIND};
+use crate::flat::{self, Flat, FlatAddress, ADDRESS, FLAT, KIND};
 use crate::inputs::{self, FIELD};
 use crate::lent::{rooms, Room, Tried, LONGER};
 use crate::oracle::{self, Refusal};
@@ -51,6 +51,11 @@ impl Checker {
         rooms(if self.thorough { Tried::All } else { tried }, needed, &mut self.draw)
     }
 
+    /// Room for this many items, exactly or more.
+    fn enough(&mut self, items: usize) -> usize {
+        items + *self.draw.pick(&[0, LONGER])
+    }
+
     fn differ(&mut self, what: &str, owed: impl FnOnce() -> String, port: impl FnOnce(&Checker) -> String) {
         let difference = if self.quiet {
             Difference::default()
@@ -81,10 +86,11 @@ impl Checker {
     pub fn octets(&mut self, input: &[u8]) -> Vec<Difference> {
         let rust = oracle::read(input);
         self.seen.decodes += 1;
-        if let Some((start, end)) = domain::field(input) {
+        let field = domain::field(input);
+        if let Some((start, end)) = field {
             self.seen.searched(input, start, end);
         }
-        if domain::repeaters(input) > flat::REPEATERS {
+        if domain::repeaters_of(field, input.len()) > flat::REPEATERS {
             self.beyond(input, &rust);
         } else {
             match &rust {
@@ -108,7 +114,7 @@ impl Checker {
             self.again(&owed.record, &owed.record);
         }
         self.seen.frame(&owed.record, octets == input);
-        self.decode(input, &owed);
+        self.decode(input, 0, [0, 0, 0, owed.info_start, owed.info_len], &owed.record);
         self.loader(input, 0, &octets);
         for room in self.rooms(Tried::Some, octets.len()) {
             self.seen.written(Writer::Reencode, &owed.record, Room::of(room, octets.len()));
@@ -123,7 +129,7 @@ impl Checker {
 
     fn refused(&mut self, input: &[u8], refusal: Refusal) {
         self.seen.refusal(refusal.number);
-        self.decode(input, &oracle::refused(refusal));
+        self.decode(input, refusal.number, [refusal.start, refusal.end, refusal.length, 0, 0], &[]);
         self.loader(input, refusal.number, &[]);
         for room in self.refused_rooms(input) {
             self.seen.refused_room(refusal.number, room, input.len());
@@ -157,12 +163,11 @@ impl Checker {
     }
 
     /// The number, the places, and the record, which a refusal leaves alone.
-    fn decode(&mut self, input: &[u8], owed: &Decode) {
-        let record = if owed.number == 0 { &owed.record[..] } else { &[] };
-        let places = [owed.start, owed.end, owed.length, owed.info_start, owed.info_len];
-        let number = self.port.decode(input, FLAT, PLACES);
-        if number != owed.number || !self.port.output_is(record) || !self.port.sizes_are(&places) {
-            let owes = || show::decode(owed.number, &places, &show::left(record));
+    fn decode(&mut self, input: &[u8], owed: u32, places: [usize; PLACES], record: &[u8]) {
+        let (room, sizes) = (self.enough(FLAT), self.enough(PLACES));
+        let number = self.port.decode(input, room, sizes);
+        if number != owed || !self.port.output_is(record) || !self.port.sizes_are(&places) {
+            let owes = || show::decode(owed, &places, &show::left(record));
             self.differ("decode", owes, |me| show::decode(number, me.port.sizes(), &me.output(FLAT)));
         }
     }
@@ -205,7 +210,8 @@ impl Checker {
 
     /// The record as `probe` reads it, flat again.
     fn again(&mut self, record: &[u8], owed: &Flat) {
-        let number = self.port.again(record, FLAT + LONGER);
+        let room = self.enough(FLAT);
+        let number = self.port.again(record, room);
         self.left("the record as read", number, owed);
     }
 
@@ -328,7 +334,8 @@ impl Checker {
     pub fn text(&mut self, text: &[u8]) -> Vec<Difference> {
         let callsign = text.split(|&octet| octet == b'-').next().unwrap_or(&[]);
         let owed = self.owed_of_text(text, callsign, oracle::from_str);
-        let number = self.port.from_str(text, ADDRESS);
+        let room = self.enough(ADDRESS);
+        let number = self.port.from_str(text, room);
         self.address("text", owed, number);
         self.finish()
     }
@@ -336,7 +343,8 @@ impl Checker {
     /// A callsign and an SSID to an address.
     pub fn parts(&mut self, callsign: &[u8], ssid: u8) -> Vec<Difference> {
         let owed = self.owed_of_text(callsign, callsign, |text| oracle::from_parts(text, ssid));
-        let number = self.port.from_parts(callsign, ssid, ADDRESS);
+        let room = self.enough(ADDRESS);
+        let number = self.port.from_parts(callsign, ssid, room);
         self.address("from_parts", owed, number);
         self.finish()
     }
@@ -405,15 +413,18 @@ impl Checker {
         let mut known = flat::addresses(&[padded(source), padded(destination)]).into_iter();
         let (from, to) = (known.next().expect("a source"), known.next().expect("a destination"));
         let frame = Ax25Frame::new_simple_ui_frame(from, to, info.to_vec());
-        let number = self.port.simple_ui(source, destination, FLAT + LONGER);
+        let room = self.enough(FLAT);
+        let number = self.port.simple_ui(source, destination, room);
         self.made("new_simple_ui_frame", number, &frame, info);
         self.finish()
     }
 
     /// The default frame.
     pub fn default(&mut self) -> Vec<Difference> {
-        let number = self.port.default(FLAT + LONGER);
-        self.made("default", number, &Ax25Frame::default(), &[]);
+        for room in [FLAT, FLAT + LONGER] {
+            let number = self.port.default(room);
+            self.made("default", number, &Ax25Frame::default(), &[]);
+        }
         self.finish()
     }
 
@@ -449,7 +460,8 @@ impl Checker {
 
     fn read_content(&mut self, content: &[u8], owed: u32, octets: &[u8]) {
         self.seen.content(owed);
-        let number = self.port.content(content, CONTENT + LONGER);
+        let room = self.enough(CONTENT);
+        let number = self.port.content(content, room);
         if number != owed || !self.port.output_is(octets) {
             let says = |me: &Checker| format!("number {} content {}", number, me.output(CONTENT));
             self.differ("content alone", || format!("number {} content {}", show::number(owed), show::left(octets)), says);
@@ -495,7 +507,8 @@ impl Checker {
         let whole = padded::<FLAT>(record);
         let owed = domain::hops(&whole);
         self.seen.hops(&whole, owed[1]);
-        let number = self.port.hops(record, HOPS);
+        let sizes = self.enough(HOPS);
+        let number = self.port.hops(record, sizes);
         if number != 0 || !self.port.sizes_are(&owed) {
             let says = |me: &Checker| format!("number {} hop set, hops used, due place {:?}", number, me.port.sizes());
             self.differ("hops", || format!("number 0 hop set, hops used, due place {:?}", owed), says);

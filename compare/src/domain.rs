@@ -35,8 +35,12 @@ pub fn field(input: &[u8]) -> Option<(usize, usize)> {
 
 /// The repeaters of an input that has an address field and something after it.
 pub fn repeaters(input: &[u8]) -> usize {
-    match field(input) {
-        Some((start, end)) if end + 1 < input.len() => (end - start + 1).saturating_sub(14) / 7,
+    repeaters_of(field(input), input.len())
+}
+
+pub fn repeaters_of(field: Option<(usize, usize)>, length: usize) -> usize {
+    match field {
+        Some((start, end)) if end + 1 < length => (end - start + 1).saturating_sub(14) / 7,
         _ => 0,
     }
 }

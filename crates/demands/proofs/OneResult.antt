@@ -1,14 +1,19 @@
 -- What a contract allows is one result: two results that both equal the definition of the arguments are equal, by cases too, and
--- so are two numbers that are both of the first row that holds, and two answers of writing with one number.
+-- so are two numbers that are both of the first row that holds, two that are 1 exactly when something holds and else 0, and two
+-- answers of writing or of printing with one number.
 use Prim.Native.Nat.{ℕ}
 use mathlib.Core.Path.{_≡_, refl, ap, sym, _∙_}
 use mathlib.Core.Bool.{Bool, true, false, cond}
 use mathlib.Core.Logic.{_↔_}
+use borrow.Author.Tests.{eqb-true, eqb-false}
 use lib.Dec.{eqb}
 use Rattle.octets.proofs.Choice.{by}
 use Rattle.frame.specs.Frame.{writeNumber}
 use Rattle.frame.specs.declared.WriteAnswer.{WriteAnswer}
-use Rattle.frame.specs.declared.WriteAnswer.the-variants.{Accepted, RouteTooLong, NotEncodable, InfoNotAllowed, NoRoom}
+use Rattle.frame.specs.declared.WriteAnswer.the-variants as write
+use Rattle.printing.specs.Print.{printNumberOf}
+use Rattle.printing.specs.declared.PrintAnswer.{PrintAnswer}
+use Rattle.printing.specs.declared.PrintAnswer.the-variants as print
 use Rattle.demands.specs.Table.{Table, FirstRow}
 use Rattle.demands.proofs.Table.{exactly}
 
@@ -32,18 +37,40 @@ one-yes true false p q = sym (q .1 (p .0 refl))
 one-yes false true p q = p .1 (q .0 refl)
 one-yes false false p q = refl
 
--- by a number of writing: each answer has its own
-byNumber : ℕ → WriteAnswer
-byNumber n =
-    cond (eqb n 0) Accepted (cond (eqb n 21) RouteTooLong (cond (eqb n 22) NotEncodable (cond (eqb n 23) InfoNotAllowed NoRoom)))
+-- by a 1 "exactly when", and else 0
+pub one-flag : {P : Type 0} (a b : ℕ) → ((a ≡ 1) ↔ P) → ((P → ⊥) → a ≡ 0) → ((b ≡ 1) ↔ P) → ((P → ⊥) → b ≡ 0) → a ≡ b
+one-flag {P} a b p x q y =
+    by (eqb a 1)
+    (λ e. let one : a ≡ 1 = eqb-true a 1 e in one ∙ sym (q .1 (p .0 one)))
+    (λ e. let no : P → ⊥ = λ h. eqb-false a 1 e (p .1 h) in x no ∙ sym (y no))
 
-its-own : (a : WriteAnswer) → byNumber (writeNumber a) ≡ a
-unfolding byNumber
-its-own Accepted = refl
-its-own RouteTooLong = refl
-its-own NotEncodable = refl
-its-own InfoNotAllowed = refl
-its-own NoRoom = refl
+-- by a number of writing or of printing: each answer has its own
+its-own : {A : Type 0} (number : A → ℕ) (byNumber : ℕ → A) → ((a : A) → byNumber (number a) ≡ a) → (a b : A) → number a ≡ number b → a ≡ b
+its-own number byNumber back a b e = sym (back a) ∙ ap byNumber e ∙ back b
+
+written : ℕ → WriteAnswer
+written n =
+    cond (eqb n 0) write.Accepted (cond (eqb n 21) write.RouteTooLong (cond (eqb n 22) write.NotEncodable (cond (eqb n 23) write.InfoNotAllowed write.NoRoom)))
+
+written-back : (a : WriteAnswer) → written (writeNumber a) ≡ a
+unfolding written
+written-back write.Accepted = refl
+written-back write.RouteTooLong = refl
+written-back write.NotEncodable = refl
+written-back write.InfoNotAllowed = refl
+written-back write.NoRoom = refl
 
 pub one-answer : (a b : WriteAnswer) → writeNumber a ≡ writeNumber b → a ≡ b
-one-answer a b e = sym (its-own a) ∙ ap byNumber e ∙ its-own b
+one-answer = its-own writeNumber written written-back
+
+printed : ℕ → PrintAnswer
+printed n = cond (eqb n 0) print.Printed (cond (eqb n 22) print.NotEncodable print.NoRoom)
+
+printed-back : (a : PrintAnswer) → printed (printNumberOf a) ≡ a
+unfolding printed
+printed-back print.Printed = refl
+printed-back print.NotEncodable = refl
+printed-back print.NoRoom = refl
+
+pub one-print : (a b : PrintAnswer) → printNumberOf a ≡ printNumberOf b → a ≡ b
+one-print = its-own printNumberOf printed printed-back

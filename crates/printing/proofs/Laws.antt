@@ -1,17 +1,17 @@
 -- How the printer comes to its definitions: the callsign's length by one pass, and the text in two parts.
 use Prim.Native.Nat.{ℕ, suc, _+_, _≤_, _<_}
-use mathlib.Core.Path.{_≡_, refl, _∙_}
+use mathlib.Core.Path.{_≡_, refl, sym, _∙_}
 use mathlib.Core.Bool.{true, cond, not, _&&_}
 use mathlib.Core.List.{List, [], _∷_, _++_}
 use native.Mathlib.Numerals.{add-one}
 use native.Mathlib.Omega.{arith}
-use borrow.Author.Tests.{ne-eqb}
+use borrow.Author.Tests.{ne-eqb, ltb-true, ltb-false, le-ltb}
 use lib.Dec.{eqb, ltb}
 use lib.ListN.{length, getD, take, drop, length-append}
 use lib.Seq.{take-suc, length-take-le}
 use Rattle.octets.proofs.Choice.{by, either}
 use Rattle.octets.specs.Splice.{splice}
-use Rattle.octets.proofs.Splice.{splice-in, splice-more}
+use Rattle.octets.proofs.Splice.{splice-in, splice-out, splice-more}
 use Rattle.address.specs.declared.Address.{Address}
 use Rattle.address.specs.Address.{encodable}
 use Rattle.printing.specs.Print.{space, used, trimmed, decimalText, ssidSuffix, textOf, short, printNumberOf, printed, printedInto}
@@ -73,3 +73,37 @@ unfolding printedInto
 printed-text a out e h =
     let z : 0 + length (textOf a) ≡ length (textOf a) = omega arith in
     rw e (splice-in out 0 (textOf a) (omega arith) ∙ rw z refl)
+
+-- by its number: a refusal has length 0 and leaves the output alone; else the text stands at its start, with its length
+pub refused-print : (a : Address) (out : List ℕ) → (printNumberOf (printed a (length out) .answer) ≡ 0 → ⊥)
+    → (printed a (length out) .length ≡ 0) × (printedInto a out ≡ out)
+unfolding printed printedInto
+refused-print a out n =
+    by (encodable a)
+    (λ e. by (short a (length out))
+    (λ r. (simp (e, r), rw e (splice-out out 0 (textOf a) (omega (arith, ltb-true (length out) (length (textOf a)) r)))))
+    (λ r. absurd (n (simp (e, r)))))
+    (λ e. (simp e, simp e))
+
+pub accepted-print : (a : Address) (out : List ℕ) → printNumberOf (printed a (length out) .answer) ≡ 0
+    → (printed a (length out) .length ≡ length (textOf a)) × (printedInto a out ≡ textOf a ++ drop (length (textOf a)) out)
+unfolding printed
+accepted-print a out n =
+    let rows : _≡_ {A = ℕ} (cond (not (encodable a)) 22 (cond (short a (length out)) 24 0)) 0 = sym (print-numbers a (length out)) ∙ n in
+    by (encodable a)
+    (λ e. by (short a (length out))
+    (λ r. let z : _≡_ {A = ℕ} 24 0 = rw (e, r) at rows in absurd (omega arith))
+    (λ r. (simp (e, r), printed-text a out e (ltb-false (length out) (length (textOf a)) r))))
+    (λ e. let z : _≡_ {A = ℕ} 22 0 = rw e at rows in absurd (omega arith))
+
+-- what is printed lies within the room, and an address that can be written is printed where its text fits
+pub print-within : (a : Address) (room : ℕ) → printed a room .length ≤ room
+unfolding printed
+print-within a room =
+    by (encodable a)
+    (λ e. by (short a room) (λ r. simp (e, r) (omega arith)) (λ r. simp (e, r) (ltb-false room (length (textOf a)) r)))
+    (λ e. simp e (omega arith))
+
+pub print-fits : (a : Address) (room : ℕ) → encodable a ≡ true → length (textOf a) ≤ room → printed a room .length ≡ length (textOf a)
+unfolding printed
+print-fits a room e h = simp (e, le-ltb room (length (textOf a)) h)

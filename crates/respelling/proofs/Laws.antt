@@ -68,8 +68,8 @@ again-room s room o e h =
     let fits : ltb room (length (due s)) ≡ false = le-ltb room (length (due s)) (omega (arith, due-fits s o e)) in
     (simp (e, fits), simp fits (due-accepted s e))
 
--- in any room: 24 and nothing where it is too little, else the whole
-due-again : (s : List ℕ) → isAccepted (decode s .answer) ≡ true → due s ≡ again s
+-- what is due of an accepted input is its respelling; in any room: 24 and nothing where it is too little, else the whole
+pub due-again : (s : List ℕ) → isAccepted (decode s .answer) ≡ true → due s ≡ again s
 unfolding due
 due-again s e = simp e
 

@@ -12,14 +12,15 @@ use lib.ListN.{length, getD, take, drop, length-append, List·getD-eq-default}
 use lib.Seq.{getD-drop, drop-append-add, take-append-seam}
 use Rattle.octets.specs.All.{all}
 use Rattle.octets.specs.First.{first}
-use Rattle.octets.proofs.Choice.{by, both, and-false}
+use Rattle.octets.proofs.Choice.{by, both, and-false, either}
 use Rattle.octets.proofs.All.{all-nil, all-cons, all-at, all-append, all-follows}
 use Rattle.octets.proofs.First.{first-step, first-end, first-past}
 use Rattle.octets.proofs.Octet.{octet-where}
 use Rattle.address.specs.declared.Address.{Address}
 use Rattle.text.specs.declared.AddressAnswer.{AddressAnswer}
 use Rattle.text.specs.declared.AddressAnswer.the-variants.{Accepted}
-use Rattle.address.specs.Address.{low, encodable, PlainAddress}
+use Rattle.text.specs.declared.AddressRead.{AddressRead}
+use Rattle.address.specs.Address.{low, noCall, encodable, PlainAddress}
 use Rattle.octets.specs.Count.{count}
 use Rattle.text.specs.Text.{addressNumberOf, hyphen, digit, upperCase, lowerCase, alphanumeric, upper, upperAt, decimalFrom, decimal, digits8, afterPlus, callsignText, manyHyphens, empty, long, wide, hasSsid, ssidText, ssidValue, badSsid, padded, readCallsign, readParts, readText, upperOrDigit, TextAddress, high, strange}
 use Rattle.printing.specs.Print.{space, used, trimmed, decimalText, ssidSuffix, textOf}
@@ -51,6 +52,29 @@ text-numbers t =
     by (manyHyphens t) (λ m. simp (h, m)) (λ m.
     by (badSsid t) (λ b. simp (h, m, b)) (λ b. simp (h, m, b) (callsign-numbers (callsignText t) (ssidValue t)))))
     (λ h. simp h)
+
+-- a refused read gives NOCALL
+abbrev Bare : AddressRead → Type 0
+Bare r = (r .answer ≡ Accepted → ⊥) → r .address ≡ noCall
+
+callsign-refused : (c : List ℕ) (s : ℕ) → Bare (readCallsign c s)
+unfolding readCallsign
+callsign-refused c s =
+    either Bare (empty c) (λ _ n. refl)
+    (λ _. either Bare (long c) (λ _ n. refl)
+    (λ _. either Bare (strange c) (λ _ n. refl)
+    (λ _. either Bare (wide s) (λ _ n. refl) (λ _ n. absurd (n refl)))))
+
+pub parts-refused : (c : List ℕ) (s : ℕ) → (readParts c s .answer ≡ Accepted → ⊥) → readParts c s .address ≡ noCall
+unfolding readParts
+parts-refused c s = either Bare (high c) (λ _ n. refl) (λ _. callsign-refused c s)
+
+pub text-refused : (t : List ℕ) → (readText t .answer ≡ Accepted → ⊥) → readText t .address ≡ noCall
+unfolding readText
+text-refused t =
+    either Bare (high t) (λ _ n. refl)
+    (λ _. either Bare (manyHyphens t) (λ _ n. refl)
+    (λ _. either Bare (badSsid t) (λ _ n. refl) (λ _. callsign-refused (callsignText t) (ssidValue t))))
 
 -- upper-case letters and digits, as the other tests see them: octets, so that each is one computed test
 fine-octet : (c : ℕ) → upperOrDigit c ≡ true → c < 256

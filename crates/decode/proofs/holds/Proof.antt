@@ -7,10 +7,14 @@ use Rattle.decode.proofs.holds.Statement.{statement}
 use Rattle.decode.proofs.holds.Tie as tie
 
 returns : tie.Need-returns
-returns c = simp (le-ltb _ _ (c .if1 .taken))
+returns c =
+    let a = c .before .args in
+    simp (le-ltb (a .end) (a .len) (omega arith))
 
 returns-2 : tie.Need-returns-2
-returns-2 c = simp (lt-ltb _ _ (c .before .if1 .left), lt-leb _ _ (c .if2 .taken))
+returns-2 c =
+    let a = c .before .before .args in
+    simp (lt-ltb (a .end) (a .len) (omega arith), lt-leb _ _ (c .if2 .taken))
 
 returns-3 : tie.Need-returns-3
 returns-3 c =

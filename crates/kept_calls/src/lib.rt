@@ -1,0 +1,51 @@
+// The demands on the calls that C links as contracts of the code, as in `kept`.
+ghost use mathlib.Core.Path.{_≡_};
+ghost use mathlib.Core.Bool.{true, false};
+ghost use mathlib.Core.Logic.{_↔_};
+ghost use Prim.Native.Nat.{_≤_, _<_};
+ghost use lib.ListN.{length};
+ghost use Rattle.decode.specs.Answer.{isAccepted};
+ghost use Rattle.decode.specs.Read.{decode};
+ghost use Rattle.spelling.specs.Canonical.{again};
+ghost use Rattle.demands.specs.Table.{FirstRow};
+ghost use Rattle.demands.specs.Numbers.{decodeTable};
+ghost use Rattle.demands.specs.Lent.{starting};
+ghost use Rattle.demands.specs.OneSpelling.{Spelled, Respelled};
+
+// Demand 1: the number is that of the first row of the table that holds.
+pub fn decoded(input: &[u8]) -> u32
+    ensures { λ r. ⌜ FirstRow (decodeTable (now (input .entry))) r ⌝ }
+{
+    loader::ax25_decode(input)
+}
+
+// Demand 3: 1 exactly when some plain frame spells the input, else 0.
+pub fn canonical(input: &[u8]) -> u32
+    ensures { λ r. ⌜ (r ≡ 1) ↔ Spelled (now (input .entry)) ⌝ }
+    ensures { λ r. ⌜ ((Spelled (now (input .entry)) → ⊥) → r ≡ 0) ⌝ }
+{
+    loader::ax25_canonical(input)
+}
+
+// How many octets the respelling has; 0 where the input is refused.
+pub fn respelled_length(input: &[u8]) -> usize
+    ensures { λ r. ⌜ (isAccepted (decode (now (input .entry)) .answer) ≡ false → r ≡ 0) ⌝ }
+    ensures { λ r. ⌜ (isAccepted (decode (now (input .entry)) .answer) ≡ true → r ≡ length (again (now (input .entry)))) ⌝ }
+{
+    loader::ax25_reencoded_length(input)
+}
+
+// Demand 1: a refused input is answered by the number of its decode, and too little room by 24; both leave the output as it was.
+// Demand 3: else the respelling stands at the start of the output, and the octets beyond it stay; an accepted input's respelling is
+// canonical, no longer than the input, and means the same.
+pub fn respelled(input: &[u8], output: &mut [u8]) -> u32
+    ensures { λ r. ⌜ (isAccepted (decode (now (input .entry)) .answer) ≡ false
+        → FirstRow (decodeTable (now (input .entry))) r × (now (output .exit) ≡ now (output .entry))) ⌝ }
+    ensures { λ r. ⌜ (isAccepted (decode (now (input .entry)) .answer) ≡ true → length (now (output .entry)) < length (again (now (input .entry)))
+        → (r ≡ 24) × (now (output .exit) ≡ now (output .entry))) ⌝ }
+    ensures { λ r. ⌜ (isAccepted (decode (now (input .entry)) .answer) ≡ true → length (again (now (input .entry))) ≤ length (now (output .entry))
+        → (r ≡ 0) × (now (output .exit) ≡ starting (again (now (input .entry))) (now (output .entry)))) ⌝ }
+    ensures { λ r. ⌜ (isAccepted (decode (now (input .entry)) .answer) ≡ true → Respelled (now (input .entry)) (again (now (input .entry)))) ⌝ }
+{
+    loader::ax25_reencode(input, output)
+}
