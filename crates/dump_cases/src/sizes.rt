@@ -63,21 +63,27 @@ fn untouched(out: &[u8]) -> bool {
     true
 }
 
+// Whether what lies beyond the text is as it was.
+fn show_rest(n: usize, rest: &[u8]) {
+    if !untouched(rest) {
+        show(b"\n");
+        return;
+    }
+    if n == 0 {
+        show(b" untouched\n");
+        return;
+    }
+    show(b" untouched after it\n");
+}
+
 fn told(dumped: dump::Dumped, out: &[u8]) {
     let answer = dumped.answer;
     let n = dumped.length;
     show_field(b" answer=", answer.number() as usize);
     show_field(b" length=", n);
-    if out.len() < n {
-        return;
+    if n <= out.len() {
+        show_rest(n, &out[n..]);
     }
-    if untouched(&out[n..]) {
-        show(b" untouched");
-    }
-    if 0 < n {
-        show(b" after it");
-    }
-    show(b"\n");
 }
 
 fn into(input: &[u8], out: &mut [u8]) {

@@ -43,8 +43,12 @@ fn lines(list: &[u8]) {
     }
 }
 
+fn replay(list: &mut [u8]) {
+    let n = io::read_full(STDIN_FILENO, list);
+    lines(first(list, n));
+}
+
 fn main() {
     let mut list = [0u8; 524288];
-    let n = io::read_full(STDIN_FILENO, &mut list);
-    lines(first(&list, n));
+    replay(&mut list);
 }
