@@ -168,7 +168,16 @@ def lists():
     check('no decision has the number of another', sorted({n for n in numbers if numbers.count(n) > 1}))
 
 
-for part in (contracts, adversary, edits, statements, departures, opened, lists):
+def figures():
+    """docs/PERFORMANCE.md's table of check times is of these crates and these wrong versions."""
+    table = rows(re.search(r'<!-- figures checks -->(.*?)<!-- end -->', read('docs/PERFORMANCE.md'), re.S)[1])
+    shown = {row[0].strip('`'): row[3] for row in table if row[0] != 'all'}
+    owed = {name: str(sum(label.startswith(name + '/') for label in EDITS)) for name in crates()}
+    wrong = [f'{name}: {shown.get(name, "no row")}, not {owed.get(name, "there")}' for name in sorted(shown | owed) if shown.get(name) != owed.get(name)]
+    check('docs/PERFORMANCE.md has the check times of these crates and their wrong versions', wrong)
+
+
+for part in (contracts, adversary, edits, statements, departures, opened, lists, figures):
     part()
 print(f'{passed} passed, {failed} failed')
 sys.exit(failed > 0)
