@@ -97,7 +97,7 @@ fn put_dump(out: &mut [u8], input: &[u8]) -> usize
     if 4096 < input.len() {
         return lines::put_number_line(out, 0, b"answer=", 50);
     }
-    let decoded = decode::from_bytes(input);
+    let decoded = reading::from_bytes(input);
     let canonical = spelling::is_canonical(input);
     put_decoded(out, decoded, canonical)
 }

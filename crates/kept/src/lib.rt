@@ -38,7 +38,7 @@ pub fn decoded(bytes: &[u8]) -> Decoded
     ensures { λ r. ⌜ (r .frame .content ≡ UnknownContent → ⊥) ⌝ }
     ensures { λ r. ⌜ r ≡ decode (now (bytes .entry)) ⌝ }
 {
-    decode::from_bytes(bytes)
+    reading::from_bytes(bytes)
 }
 
 // Demand 1: so for the number of writing, and a refusal has length 0 and leaves the buffer as it was. Demand 2: an accepted frame

@@ -54,7 +54,7 @@ pub extern "C" fn probe_decode(input: &[u8], flat: &mut [u8], places: &mut [usiz
     if places.len() < PLACES {
         return NO_ROOM;
     }
-    let decoded = decode::from_bytes(input);
+    let decoded = reading::from_bytes(input);
     let answer = decoded.answer;
     places::put_places(places, decoded);
     let number = answer.number();

@@ -39,7 +39,7 @@ pub fn reencoded_length(bytes: &[u8]) -> usize
     let DecodeAnswer::Accepted = answer else {
         return 0;
     };
-    let decoded = decode::from_outline(bytes, outline);
+    let decoded = reading::from_outline(bytes, outline);
     let frame = decoded.frame;
     let content = frame.content;
     14 + 7 * frame.route_count + content.front_len() + decoded.info_len
@@ -71,7 +71,7 @@ pub fn reencode(bytes: &[u8], out: &mut [u8]) -> Reencoded
             length: 0,
         };
     };
-    let decoded = decode::from_outline(bytes, outline);
+    let decoded = reading::from_outline(bytes, outline);
     let frame = decoded.frame;
     let start = decoded.info_start;
     let end = start + decoded.info_len;

@@ -1,8 +1,8 @@
 -- The groups at 0, 7 and 14 from the start.
 use Rattle.decode.specs.Read.{frameAt}
 use borrow.Author.Needs.{needs}
-use Rattle.decode.proofs.parse_frame.Statement.{statement}
-use Rattle.decode.proofs.parse_frame.Tie as tie
+use Rattle.reading.proofs.parse_frame.Statement.{statement}
+use Rattle.reading.proofs.parse_frame.Tie as tie
 
 parse-group-requires : tie.Need-parse-group-requires
 parse-group-requires c κs = search needs

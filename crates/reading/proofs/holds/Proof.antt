@@ -3,8 +3,8 @@ use Prim.Native.Nat.{_+_, _-_, _*_}
 use native.Mathlib.Omega.{arith}
 use borrow.Author.Tests.{lt-ltb, le-ltb, le-leb, lt-leb}
 use borrow.Author.Needs.{needs}
-use Rattle.decode.proofs.holds.Statement.{statement}
-use Rattle.decode.proofs.holds.Tie as tie
+use Rattle.reading.proofs.holds.Statement.{statement}
+use Rattle.reading.proofs.holds.Tie as tie
 
 returns : tie.Need-returns
 returns c =

@@ -2,11 +2,11 @@
 use mathlib.Core.Path.{_≡_, refl}
 use mathlib.Core.Bool.{true}
 use Rattle.content.specs.Spell.{hasInfo}
 use Rattle.decode.specs.Read.{acceptedWith}
 use Rattle.decode.proofs.Read.{told-bare}
 use borrow.Author.Needs.{needs}
-use Rattle.decode.proofs.accepted.Statement.{statement}
-use Rattle.decode.proofs.accepted.Tie as tie
+use Rattle.reading.proofs.accepted.Statement.{statement}
+use Rattle.reading.proofs.accepted.Tie as tie
 
 enum-told : tie.Need-enum-told
 enum-told c = search needs

@@ -1,8 +1,8 @@
 -- A refusal carries the default frame and no info.
 use Rattle.decode.specs.Read.{refusedWith}
 use borrow.Author.Needs.{needs}
-use Rattle.decode.proofs.refused.Statement.{statement}
-use Rattle.decode.proofs.refused.Tie as tie
+use Rattle.reading.proofs.refused.Statement.{statement}
+use Rattle.reading.proofs.refused.Tie as tie
 
 default-requires : tie.Need-default-requires
 default-requires c κs = search needs

@@ -1,9 +1,9 @@
 -- Going on from the input's own outline is decoding.
 use mathlib.Core.Path.{_∙_}
 use Rattle.decode.proofs.Whole.{by-outline}
 use borrow.Author.Needs.{needs}
-use Rattle.decode.proofs.from_bytes.Statement.{statement}
-use Rattle.decode.proofs.from_bytes.Tie as tie
+use Rattle.reading.proofs.from_bytes.Statement.{statement}
+use Rattle.reading.proofs.from_bytes.Tie as tie
 
 outline-of-requires : tie.Need-outline-of-requires
 outline-of-requires c κs = search needs

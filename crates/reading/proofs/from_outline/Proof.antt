@@ -5,13 +5,13 @@ use mathlib.Core.Bool.{true}
 use native.Mathlib.Omega.{arith}
 use borrow.Author.Tests.{not-true, not-false}
 use lib.ListN.{length}
 use Rattle.decode.specs.Answer.{isAccepted}
 use Rattle.decode.specs.Outline.{holds, decodeBy}
 use Rattle.decode.proofs.Read.{told-refused}
 use Rattle.decode.proofs.Whole.{room}
 use borrow.Author.Needs.{needs}
-use Rattle.decode.proofs.from_outline.Statement.{statement}
-use Rattle.decode.proofs.from_outline.Tie as tie
+use Rattle.reading.proofs.from_outline.Statement.{statement}
+use Rattle.reading.proofs.from_outline.Tie as tie
 
 accepted : (c : tie.After-enum-told) → isAccepted (c .before .before .before .args .outline .answer) ≡ true
 accepted c = rw (c .enum-told .given .1) refl

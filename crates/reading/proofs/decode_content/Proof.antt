@@ -6,12 +6,12 @@ use Rattle.octets.proofs.Splice.{part-from}
 use Rattle.parse.specs.Content.{contentOf}
 use Rattle.parse.specs.declared.ContentAnswer.the-variants.{Accepted}
 use Rattle.parse.proofs.Read.{content-room, never-unknown}
 use Rattle.decode.specs.Read.{frameAt, withContent}
 use Rattle.decode.proofs.Whole.{refusal-by, refused-content}
 use Rattle.decode.proofs.Read.{told-content}
 use borrow.Author.Needs.{needs}
-use Rattle.decode.proofs.decode_content.Statement.{statement}
-use Rattle.decode.proofs.decode_content.Tie as tie
+use Rattle.reading.proofs.decode_content.Statement.{statement}
+use Rattle.reading.proofs.decode_content.Tie as tie
 
 -- the content's answer, at the octets from the control octet on
 answered : (c : tie.After-parse-content) →

@@ -1,8 +1,8 @@
 -- A kind that has info has it after control and PID.
 use Rattle.decode.specs.Read.{acceptedWith}
 use borrow.Author.Needs.{needs}
-use Rattle.decode.proofs.with_info.Statement.{statement}
-use Rattle.decode.proofs.with_info.Tie as tie
+use Rattle.reading.proofs.with_info.Statement.{statement}
+use Rattle.reading.proofs.with_info.Tie as tie
 
 add-info-start : tie.Need-add-info-start
 add-info-start c = search needs

@@ -1,10 +1,10 @@
 -- The seven elements are those of the part, and the address layer reads them.
 use mathlib.Core.Path.{refl, _∙_}
 use Rattle.decode.specs.Read.{parsedAt}
 use Rattle.decode.proofs.Read.{group-seven}
 use borrow.Author.Needs.{needs}
-use Rattle.decode.proofs.parse_group.Statement.{statement}
-use Rattle.decode.proofs.parse_group.Tie as tie
+use Rattle.reading.proofs.parse_group.Statement.{statement}
+use Rattle.reading.proofs.parse_group.Tie as tie
 
 shared-slice-read-t5 : tie.Need-shared-slice-read-t5
 shared-slice-read-t5 c = search needs

@@ -2,11 +2,11 @@
 use Prim.Native.Nat.{_-_, _≤_}
 use mathlib.Core.Path.{_≡_, _∙_}
 use native.Mathlib.Omega.{arith}
 use Rattle.decode.specs.Read.{entryAt, routeAt, placeAt}
 use Rattle.decode.proofs.Read.{route-next}
 use borrow.Author.Needs.{needs}
-use Rattle.decode.proofs.parse_route.Statement.{statement}
-use Rattle.decode.proofs.parse_route.Tie as tie
+use Rattle.reading.proofs.parse_route.Statement.{statement}
+use Rattle.reading.proofs.parse_route.Tie as tie
 
 abbrev Inv-loop : tie.InvT-loop
 Inv-loop bytes at count route₀ i₀ route i = (i ≤ count) × (route ≡ routeAt bytes at i)
