@@ -7,7 +7,7 @@ use native.Mathlib.Omega.{arith}
 use borrow.Author.Tests.{ltb-true, leb-true, lt-ltb, le-leb, eq-eqb, ne-eqb, eqb-true, eqb-false}
 use lib.Dec.{leb, eqb}
 use lib.ListN.{length, getD, set}
-use lib.Seq.{set-getD}
+use lib.Seq.{set-getD, getD-set-same, getD-set-other}
 use Rattle.octets.specs.Octet.{Octets, flag, field, bit}
 use Rattle.octets.proofs.All.{all-nil, all-cons, all-at}
 use Rattle.octets.proofs.Choice.{by, both}
@@ -245,3 +245,18 @@ reserved-last g = refl
 pub mark-last : (g : List ℕ) → markOf g ≡ markSet (getD g 6 0)
 unfolding markOf
 mark-last g = refl
+
+-- another seventh octet with the same SSID leaves the address as it was
+pub address-kept : (g : List ℕ) (b : ℕ) → 6 < length g → field 1 4 b ≡ field 1 4 (getD g 6 0) → addressOf (set g 6 b) ≡ addressOf g
+unfolding addressOf
+address-kept g b h e =
+    simp (
+      getD-set-other g 6 0 b 0 (λ z. omega (arith, z)),
+      getD-set-other g 6 1 b 0 (λ z. omega (arith, z)),
+      getD-set-other g 6 2 b 0 (λ z. omega (arith, z)),
+      getD-set-other g 6 3 b 0 (λ z. omega (arith, z)),
+      getD-set-other g 6 4 b 0 (λ z. omega (arith, z)),
+      getD-set-other g 6 5 b 0 (λ z. omega (arith, z)),
+      getD-set-same g 6 b 0 h,
+      e,
+    )

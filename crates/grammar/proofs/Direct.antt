@@ -94,7 +94,8 @@ marks-back true false e = (refl, refl)
 marks-back false true e = (refl, refl)
 marks-back false false e = absurd (false≢true e)
 
-route-at : (s : List ℕ) (at n k : ℕ) → k < n → n ≤ 8 → repeaterAt (routeAt s at n) k ≡ entryAt s (at + 7 * k)
+-- a place in use is read from its group
+pub route-at : (s : List ℕ) (at n k : ℕ) → k < n → n ≤ 8 → repeaterAt (routeAt s at n) k ≡ entryAt s (at + 7 * k)
 unfolding routeAt placeAt
 route-at s at n zero h l = simp (lt-ltb 0 n h)
 route-at s at n (suc zero) h l = simp (lt-ltb 1 n h)
@@ -204,20 +205,20 @@ module _ (s : List ℕ) (o : Octets s) (a : Accepts s (decode s)) where
       (spell-again s o n end (a .end-in) (a .few) (t4 .0) (a .kind) (infoIn s (decode s)) start (t3 .0) tail)
 
 -- the reserved bits of a group, by its last octet in the input
-group-last : (s : List ℕ) (j : ℕ) → reserved (groupAt s (7 * j)) ≡ reservedSet (getD s (7 * j + 6) 0)
-group-last s j =
+pub reserved-at : (s : List ℕ) (j : ℕ) → reserved (groupAt s (7 * j)) ≡ reservedSet (getD s (7 * j + 6) 0)
+reserved-at s j =
     reserved-last (groupAt s (7 * j)) ∙ ap reservedSet (getD-take 7 (drop (7 * j) s) 6 0 (omega arith) ∙ getD-drop (7 * j) s 6 0)
 
 -- one group more, as a loop looks at it
 pub reserved-more : (s : List ℕ) (n : ℕ) → reservedGroups s n ≡ true → reservedSet (getD s (7 * n + 6) 0) ≡ true → reservedGroups s (n + 1) ≡ true
 unfolding reservedGroups
-reserved-more s n e h = rw (add-one, e, group-last s n) h
+reserved-more s n e h = rw (add-one, e, reserved-at s n) h
 
 -- one group without them is enough
 pub reserved-one : (s : List ℕ) (n j : ℕ) → j < n → reservedSet (getD s (7 * j + 6) 0) ≡ false → reservedGroups s n ≡ false
 reserved-one s n j h e =
     by (reservedGroups s n)
-    (λ t. absurd (true≢false (sym (reserved-each s n j t h) ∙ group-last s j ∙ e)))
+    (λ t. absurd (true≢false (sym (reserved-each s n j t h) ∙ reserved-at s j ∙ e)))
     (λ f. f)
 
 pub reserved-none : (s : List ℕ) → reservedGroups s 0 ≡ true

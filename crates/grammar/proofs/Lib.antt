@@ -5,3 +5,4 @@ pub mod Plain
 pub mod Respell
 pub mod Direct
 pub mod Refused
+pub mod Marks

@@ -7,6 +7,7 @@ ghost use Rattle.decode.specs.Answer.{reportOf};
 ghost use Rattle.decode.specs.Read.{decode};
 ghost use Rattle.spelling.specs.Canonical.{canonical};
 ghost use Rattle.respelling.specs.Reencode.{due, reencode, reencoded, reportOf as reencodeReport};
+ghost use Rattle.relay.specs.Relay.{relayAnswerAs, relayedAs, reportOf as relayReport};
 
 // The decode number.
 #[no_mangle]
@@ -42,5 +43,16 @@ pub extern "C" fn ax25_reencode(input: &[u8], output: &mut [u8]) -> u32
 {
     let done = respelling::reencode(input, output);
     let answer = done.answer;
+    answer.number()
+}
+
+// Our mark set in the lent frame, where the repeater that is due is ours: 22, or the decode number, or 41, 42 or 0. A refusal leaves
+// the frame alone.
+#[no_mangle]
+pub extern "C" fn ax25_relay(callsign: &[u8], ssid: u8, frame: &mut [u8]) -> u32
+    ensures { λ r. ⌜ r ≡ relayReport (relayAnswerAs (now (callsign .entry)) ssid (now (frame .entry))) .number ⌝ }
+    ensures { λ r. ⌜ now (frame .exit) ≡ relayedAs (now (callsign .entry)) ssid (now (frame .entry)) ⌝ }
+{
+    let answer = relay::relay_as(callsign, ssid, frame);
     answer.number()
 }

@@ -5,3 +5,4 @@ pub mod First
 pub mod Splice
 pub mod All
 pub mod Same
+pub mod Count

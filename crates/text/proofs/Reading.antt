@@ -1,7 +1,7 @@
 -- How the loops and tests of the readers come to their definitions: one turn, the end, and what each refusal of an SSID's text rests on.
 use Prim.Native.Nat.{ℕ, zero, suc, _+_, _*_, _-_, _<_, _≤_}
 use mathlib.Core.Path.{_≡_, refl}
-use mathlib.Core.Bool.{Bool, true, false, cond}
+use mathlib.Core.Bool.{true, false, cond}
 use mathlib.Core.List.{List, [], _∷_}
 use native.Mathlib.Numerals.{add-one}
 use native.Mathlib.Omega.{arith}
@@ -13,18 +13,7 @@ use Rattle.octets.specs.First.{first}
 use Rattle.octets.proofs.Choice.{by, and-false}
 use Rattle.text.specs.declared.AddressAnswer.the-variants.{InvalidSsid}
 use Rattle.text.specs.declared.Ssid.the-variants.{Number, NotANumber}
-use Rattle.octets.specs.Count.{count}
 use Rattle.text.specs.Text.{hyphen, digit, decimalFrom, decimal, digits8, afterPlus, ssidText, hasSsid, ssidValue, badSsid, digitsSay, ssidFrom, refused, readCallsign, readWith}
-
-module _ {A : Type 0} (p : A → Bool) where
-  pub count-step : (s : List A) (i : ℕ) (d : A) → i < length s
-      → count p (drop i s) ≡ cond (p (getD s i d)) (suc (count p (drop (i + 1) s))) (count p (drop (i + 1) s))
-  unfolding count
-  count-step s i d h = rw (add-one, drop-cons s i d)
-
-  pub count-end : (s : List A) (i : ℕ) → length s ≤ i → count p (drop i s) ≡ 0
-  unfolding count
-  count-end s i h = rw (drop-of-length-le s h)
 
 pub decimal-step : (s : List ℕ) (i v : ℕ) → i < length s → decimalFrom v (drop i s) ≡ decimalFrom (v * 10 + (getD s i 0 - 48)) (drop (i + 1) s)
 unfolding decimalFrom
@@ -39,12 +28,6 @@ pub decimal-least : (v : ℕ) (s : List ℕ) → v ≤ decimalFrom v s
 unfolding decimalFrom
 decimal-least v [] = omega arith
 decimal-least v (d ∷ ds) = omega (arith, decimal-least (v * 10 + (d - 48)) ds)
-
--- within a list, what stands there does not hang on what stands for no element
-pub getD-within : (s : List ℕ) (k d e : ℕ) → k < length s → getD s k d ≡ getD s k e
-getD-within [] k d e h = absurd (omega arith)
-getD-within (x ∷ s) zero d e h = refl
-getD-within (x ∷ s) (suc k) d e h = getD-within s k d e (omega arith)
 
 -- what digits say
 pub say-none : (ds : List ℕ) → length ds ≡ 0 → digitsSay ds ≡ NotANumber

@@ -8,7 +8,7 @@ use borrow.Author.Needs.{needs}
 use lib.ListN.{length, drop}
 use Rattle.octets.specs.Count.{count}
 use Rattle.text.specs.Text.{hyphen}
-use Rattle.text.proofs.Reading.{count-step, count-end}
+use Rattle.octets.proofs.Count.{count-step, count-end}
 use Rattle.text.proofs.hyphens.Statement.{statement}
 use Rattle.text.proofs.hyphens.Tie as tie
 

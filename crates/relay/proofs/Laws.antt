@@ -1,0 +1,94 @@
+-- What the functions' proofs share: one place of the route as the loop counts it, the octet that a mark is set in, the parts of a
+-- frame that decodes.
+use Prim.Native.Nat.{ℕ, suc, _+_, _*_, _/_, _≤_, _<_}
+use mathlib.Core.Path.{_≡_, refl, ap, sym, _∙_}
+use mathlib.Core.Bool.{Bool, true, false, cond}
+use mathlib.Core.List.{List}
+use native.Mathlib.Omega.{arith}
+use borrow.Author.Tests.{eq-eqb, ne-eqb, eqb-true, eqb-false}
+use lib.Bits.{bitOr}
+use lib.ListN.{length, getD, drop}
+use Rattle.octets.specs.Count.{count}
+use Rattle.octets.specs.Octet.{field}
+use Rattle.octets.proofs.Choice.{by}
+use Rattle.octets.proofs.Count.{count-step}
+use Rattle.octets.proofs.Octet.{octet-same}
+use Rattle.address.specs.Address.{encodable}
+use Rattle.address.specs.Group.{markSet}
+use Rattle.address.specs.declared.Address.{Address}
+use Rattle.frame.specs.Spell.{repeaterAt}
+use Rattle.frame.specs.declared.Ax25Frame.{Ax25Frame}
+use Rattle.decode.specs.Answer.{isAccepted}
+use Rattle.decode.specs.Read.{startOf, parsedAt, routeAt, decode}
+use Rattle.hops.specs.Hops.{marks, duePlace}
+use Rattle.hops.proofs.Laws.{marks-at, marks-length, marked-in, due-marks}
+use Rattle.grammar.proofs.Marks.{route, place-read}
+use Rattle.relay.specs.declared.RelayAnswer.{RelayAnswer}
+use Rattle.relay.specs.declared.RelayAnswer.the-variants.{Relayed, NotEncodable, Refused, RouteUsedUp, AnotherStation}
+use Rattle.relay.specs.Relay.{withMark, ours, dueAnswer, relayAnswer, leftBy, relayed}
+
+-- the mark, shifted down, adds what it counts
+shifted : (b n : ℕ) → b < 256 → cond (markSet b) (suc n) n ≡ b / 128 + n
+shifted b n h =
+    by (markSet b)
+    (λ e. rw e (omega (arith, eqb-true (field 7 1 b) 1 e)))
+    (λ e. rw e (omega (arith, eqb-false (field 7 1 b) 1 e)))
+
+-- one turn of the loop that counts marks
+pub marks-turn : (s : List ℕ) (at n i : ℕ) → i < n → n ≤ 8 → getD s (at + 7 * i + 6) 0 < 256
+    → count (λ (m : Bool). m) (drop i (marks (routeAt s at n) n))
+    ≡ getD s (at + 7 * i + 6) 0 / 128 + count (λ (m : Bool). m) (drop (i + 1) (marks (routeAt s at n) n))
+marks-turn s at n i h l o =
+    let mark : getD (marks (routeAt s at n) n) i false ≡ markSet (getD s (at + 7 * i + 6) 0) =
+    marks-at (routeAt s at n) n i (omega arith) ∙ marked-in (routeAt s at n) n i h ∙ place-read s at n i h l .1 in
+    count-step (λ (m : Bool). m) (marks (routeAt s at n) n) i false (rw marks-length (omega arith))
+    ∙ rw mark (shifted (getD s (at + 7 * i + 6) 0) (count (λ (m : Bool). m) (drop (i + 1) (marks (routeAt s at n) n))) o)
+
+-- the code's or
+pub or-mark : (b : ℕ) → b < 256 → bitOr b 0x80 ≡ withMark b
+or-mark b h = octet-same (λ n. bitOr n 0x80) withMark tt b h
+
+-- of an accepted input: its groups stand in it; the marks that the loop counts tell the due place; the group there is the repeater's
+module _ (s : List ℕ) (e : isAccepted (decode s .answer) ≡ true) where
+  abbrev n : ℕ
+  n = decode s .frame .«route_count»
+
+  pub groups-inside : (n ≤ 8) × (startOf s + 14 + 7 * n ≤ length s)
+  groups-inside = let r = route s e in (r .few, omega (arith, r .before, r .end-in))
+
+  pub due-counted : count (λ (m : Bool). m) (marks (routeAt s (startOf s + 14) n) n) ≡ duePlace (decode s .frame)
+  due-counted = rw (← route s e .read) (sym (due-marks (decode s .frame)))
+
+  pub due-read : duePlace (decode s .frame) < n
+      → repeaterAt (decode s .frame .route) (duePlace (decode s .frame)) .repeater ≡ parsedAt s (startOf s + 14 + 7 * duePlace (decode s .frame)) .address
+  due-read h = let r = route s e in rw (r .read) (place-read s (startOf s + 14) n (duePlace (decode s .frame)) h (r .few) .0)
+
+-- how the due place answers
+pub due-none : (own : Address) (f : Ax25Frame) → duePlace f ≡ f .«route_count» → dueAnswer own f ≡ RouteUsedUp
+unfolding dueAnswer
+due-none own f e = simp (eq-eqb (duePlace f) (f .«route_count») e)
+
+pub due-other : (own : Address) (f : Ax25Frame) → (duePlace f ≡ f .«route_count» → ⊥) → ours own f ≡ false → dueAnswer own f ≡ AnotherStation
+unfolding dueAnswer
+due-other own f n e = simp (ne-eqb (duePlace f) (f .«route_count») n, e)
+
+pub due-ours : (own : Address) (f : Ax25Frame) → (duePlace f ≡ f .«route_count» → ⊥) → ours own f ≡ true → dueAnswer own f ≡ Relayed
+unfolding dueAnswer
+due-ours own f n e = simp (ne-eqb (duePlace f) (f .«route_count») n, e)
+
+-- the answer in its order, and what each leaves
+pub relay-stranger : (own : Address) (s : List ℕ) → encodable own ≡ false → relayAnswer own s ≡ NotEncodable
+unfolding relayAnswer
+relay-stranger own s h = simp h
+
+pub relay-refused : (own : Address) (s : List ℕ) → encodable own ≡ true → isAccepted (decode s .answer) ≡ false → relayAnswer own s ≡ Refused (decode s .answer)
+unfolding relayAnswer
+relay-refused own s h e = simp (h, e)
+
+pub relay-accepted : (own : Address) (s : List ℕ) → encodable own ≡ true → isAccepted (decode s .answer) ≡ true → relayAnswer own s ≡ dueAnswer own (decode s .frame)
+unfolding relayAnswer
+relay-accepted own s h e = simp (h, e)
+
+pub relayed-by : (own : Address) (s : List ℕ) (a : RelayAnswer) → relayAnswer own s ≡ a → relayed own s ≡ leftBy a s
+unfolding relayed
+relayed-by own s a e = rw e refl

@@ -1,0 +1,83 @@
+-- Relaying (document 02, M-100): a frame goes on as it was received, with our own mark set.
+use Prim.Native.Nat.{ℕ, _+_, _*_}
+use mathlib.Core.Bool.{Bool, true, cond}
+use mathlib.Core.List.{List, [], _∷_}
+use lib.Dec.{eqb, ltb}
+use lib.ListN.{length, getD, set}
+use Rattle.octets.specs.Octet.{field, flag}
+use Rattle.address.specs.Address.{encodable}
+use Rattle.address.specs.declared.Address.{Address}
+use Rattle.frame.specs.Spell.{repeaterAt}
+use Rattle.frame.specs.declared.Ax25Frame.{Ax25Frame}
+use Rattle.decode.specs.Answer.{Report, number, isAccepted}
+use Rattle.decode.specs.Answer as decoding
+use Rattle.decode.specs.Read.{startOf, decode}
+use Rattle.hops.specs.Hops.{duePlace}
+use Rattle.hops.specs.Station.{sameStation}
+use Rattle.relay.specs.declared.RelayAnswer.{RelayAnswer}
+use Rattle.relay.specs.declared.RelayAnswer.the-variants.{Relayed, NotEncodable, Refused, RouteUsedUp, AnotherStation}
+
+-- the numbers: 22 for our own address, decoding's for the frame, 41 and 42 for its route
+abbrev pub reportOf : RelayAnswer → Report
+reportOf Relayed = number 0
+reportOf NotEncodable = number 22
+reportOf (Refused a) = decoding.reportOf a
+reportOf RouteUsedUp = number 41
+reportOf AnotherStation = number 42
+
+-- whether no place is due: the due place equals the route count
+abbrev pub usedUp : Ax25Frame → Bool
+usedUp f = eqb (duePlace f) (f .«route_count»)
+
+-- whether the repeater at the due place is ours, by callsign and SSID
+abbrev pub ours : Address → Ax25Frame → Bool
+ours own f = sameStation own (repeaterAt (f .route) (duePlace f) .repeater)
+
+-- what a frame is answered that decodes: 41, then 42
+unfoldable pub dueAnswer : Address → Ax25Frame → RelayAnswer
+dueAnswer own f = cond (usedUp f) RouteUsedUp (cond (ours own f) Relayed AnotherStation)
+
+-- the whole: 22, then decoding's numbers, then those
+unfoldable pub relayAnswer : Address → List ℕ → RelayAnswer
+relayAnswer own s =
+    cond (encodable own)
+    (cond (isAccepted (decode s .answer)) (dueAnswer own (decode s .frame)) (Refused (decode s .answer)))
+    NotEncodable
+
+-- where the mark of place i stands, of a frame that starts at `start`: in the seventh octet of its group, which follows
+-- destination, source and i repeaters (document 01, rules 2 and 3)
+abbrev pub markPlace : ℕ → ℕ → ℕ
+markPlace start i = start + 14 + 7 * i + 6
+
+-- an octet or-ed with 80 hex: bit 7 set, the other bits as they were
+abbrev pub withMark : ℕ → ℕ
+withMark b = flag 7 true + field 0 7 b
+
+-- the octets with the mark of place i set
+abbrev pub markedAt : List ℕ → ℕ → List ℕ
+markedAt s i = set s (markPlace (startOf s) i) (withMark (getD s (markPlace (startOf s) i) 0))
+
+-- what is left in the buffer: the mark of the due place is set in it, or it is as it was
+abbrev pub leftBy : RelayAnswer → List ℕ → List ℕ
+leftBy Relayed s = markedAt s (duePlace (decode s .frame))
+leftBy NotEncodable s = s
+leftBy (Refused a) s = s
+leftBy RouteUsedUp s = s
+leftBy AnotherStation s = s
+
+unfoldable pub relayed : Address → List ℕ → List ℕ
+relayed own s = leftBy (relayAnswer own s) s
+
+-- the station with a callsign of at most six octets, taken as they are and padded with spaces, and an SSID
+unfoldable pub stationOf : List ℕ → ℕ → Address
+stationOf c ssid = record {
+  callsign = getD c 0 32 ∷ getD c 1 32 ∷ getD c 2 32 ∷ getD c 3 32 ∷ getD c 4 32 ∷ getD c 5 32 ∷ [];
+  ssid = ssid;
+}
+
+-- the same by callsign and SSID, as C gives them: a longer callsign is no address, and is refused as one that can't be written
+unfoldable pub relayAnswerAs : List ℕ → ℕ → List ℕ → RelayAnswer
+relayAnswerAs c ssid s = cond (ltb 6 (length c)) NotEncodable (relayAnswer (stationOf c ssid) s)
+
+unfoldable pub relayedAs : List ℕ → ℕ → List ℕ → List ℕ
+relayedAs c ssid s = leftBy (relayAnswerAs c ssid s) s
