@@ -1,7 +1,7 @@
 -- What writing a group and reading it gives, and the other way round. Upper crates rest on these and look into no group.
 use Prim.Native.Nat.{ℕ, zero, suc, _+_, _*_, _/_, _%_, _<_, _≤_}
 use mathlib.Core.Path.{_≡_, refl, _∙_}
-use mathlib.Core.Bool.{Bool, true, false, cond}
+use mathlib.Core.Bool.{Bool, true, false, cond, _&&_}
 use mathlib.Core.List.{List, [], _∷_}
 use native.Mathlib.Omega.{arith}
 use borrow.Author.Tests.{ltb-true, leb-true, lt-ltb, le-leb, eq-eqb, ne-eqb, eqb-true, eqb-false}
@@ -9,6 +9,7 @@ use lib.Dec.{leb, eqb}
 use lib.ListN.{length, getD, set}
 use lib.Seq.{set-getD, getD-set-same, getD-set-other}
 use Rattle.octets.specs.Octet.{Octets, flag, field, bit}
+use Rattle.octets.specs.All.{all}
 use Rattle.octets.proofs.All.{all-nil, all-cons, all-at}
 use Rattle.octets.proofs.Choice.{by, both}
 use Rattle.octets.proofs.Octet.{octet-same, octet-where}
@@ -16,6 +17,11 @@ use Rattle.address.specs.declared.Address.{Address}
 use Rattle.address.specs.declared.group.GroupAnswer.the-variants.{Written, NotEncodable}
 use Rattle.address.specs.Address.{low, noCall, encodable, PlainAddress}
 use Rattle.address.specs.Group.{addressOf, markOf, markSet, reserved, ssidOctet, groupOf, groupNumberOf, writeGroup, reservedSet}
+
+-- what can be written, as two tests
+pub encodable-is : (a : Address) → encodable a ≡ (leb (a .ssid) 15 && all low (a .callsign))
+unfolding encodable
+encodable-is a = refl
 
 -- what can be written: characters below 128
 pub plain-character : (a : Address) → PlainAddress a → (k : ℕ) → k < 6 → getD (a .callsign) k 0 < 128

@@ -5,3 +5,4 @@ pub mod OneSpelling
 pub mod Shape
 pub mod Examples
 pub mod OneResult
+pub mod Relay

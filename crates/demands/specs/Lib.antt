@@ -4,3 +4,4 @@ pub mod Numbers
 pub mod OneSpelling
 pub mod Shape
 pub mod Examples
+pub mod Relay

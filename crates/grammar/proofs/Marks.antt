@@ -13,7 +13,7 @@ use Rattle.octets.proofs.Choice.{by}
 use Rattle.octets.proofs.First.{first-passes, first-before, first-is}
 use Rattle.address.specs.Group.{addressOf, markOf, markSet, reservedSet}
 use Rattle.address.proofs.Laws.{address-kept, mark-last}
-use Rattle.content.specs.declared.FrameContent.{FrameContent}
+use Rattle.content.specs.Spell.{hasInfo}
 use Rattle.lean.proofs.Laws.{content-some}
 use Rattle.frame.specs.Spell.{repeaterAt, past}
 use Rattle.frame.specs.declared.RouteEntry.{RouteEntry}
@@ -151,6 +151,10 @@ remarked f i m = record {
   content = f .content;
 }
 
+count-read : (s : List ℕ) (a : Accepts s (decode s)) → decode s .frame .«route_count» ≡ a .count
+unfolding acceptedWith frameAt
+count-read s a = ap (λ (d : Decoded). d .frame .«route_count») (a .made)
+
 -- what is read where the mark of one repeater is another, and every other bit the same
 module _ (s : List ℕ) (a : Accepts s (decode s)) (i v : ℕ) (h : i < a .count)
     (low : field 0 7 v ≡ field 0 7 (getD s (startOf s + 14 + 7 * i + 6) 0)) where
@@ -218,15 +222,14 @@ module _ (s : List ℕ) (a : Accepts s (decode s)) (i v : ℕ) (h : i < a .count
         a .read,
       ) (rw length-set refl))
 
-  -- the same answer, the same place of info, the same frame but for that mark
-  pub decode-marked : decode u ≡ record {
+  decode-again : decode u ≡ record {
     answer = decode s .answer;
     frame = remarked (decode s .frame) i (markSet v);
     «info_start» = decode s .«info_start»;
     «info_len» = decode s .«info_len»;
   }
   unfolding acceptedWith frameAt
-  decode-marked = read-marked ∙ rw (frame-marked, a .made) refl
+  decode-again = read-marked ∙ rw (frame-marked, a .made) refl
 
   -- reserved bits, group by group
   same-reserved : (m : ℕ) → reservedGroups u m ≡ reservedGroups s m
@@ -234,9 +237,8 @@ module _ (s : List ℕ) (a : Accepts s (decode s)) (i v : ℕ) (h : i < a .count
   same-reserved zero = refl
   same-reserved (suc m) = rw (same-reserved m, reserved-at u m, reserved-at s m, same-reserves (7 * m + 6)) refl
 
-  -- the direct look passes where it passed
-  pub direct-marked : direct u (a .count) ≡ direct s (a .count)
-  direct-marked =
+  direct-again : direct u (a .count) ≡ direct s (a .count)
+  direct-again =
       direct-is u (a .count)
       ∙ rw (
         getD-set-other s p 0 v 0 (λ e. omega (arith, e)),
@@ -251,3 +253,38 @@ module _ (s : List ℕ) (a : Accepts s (decode s)) (i v : ℕ) (h : i < a .count
       let tail : drop (14 + 7 * a .count) u ≡ drop (14 + 7 * a .count) s = drop-set-lt (14 + 7 * a .count) s p v (omega arith) in
       rw tail (sym (direct-is s (a .count))))
       (λ e. rw e (sym (direct-is s (a .count) ∙ rw e refl))))
+
+  info-again : infoIn u (decode s) ≡ infoIn s (decode s)
+  unfolding acceptedWith frameAt
+  info-again = rw (a .made)
+      (by (hasInfo (a .kind))
+      (λ e. simp e (rw (drop-set-lt (endOf s + 1 + 2) s p v (omega (arith, p-in .0))) refl))
+      (λ e. simp e))
+
+module _ (s : List ℕ) (e : isAccepted (decode s .answer) ≡ true) (i v : ℕ) (h : i < decode s .frame .«route_count»)
+    (low : field 0 7 v ≡ field 0 7 (getD s (startOf s + 14 + 7 * i + 6) 0)) where
+  abbrev a : Accepts s (decode s)
+  a = accepts s e
+
+  inner : i < a .count
+  inner = rw (count-read s a) at h
+
+  abbrev w : List ℕ
+  w = set s (startOf s + 14 + 7 * i + 6) v
+
+  -- the same answer, the same place of info, the same frame but for that mark
+  pub decode-marked : decode w ≡ record {
+    answer = decode s .answer;
+    frame = remarked (decode s .frame) i (markSet v);
+    «info_start» = decode s .«info_start»;
+    «info_len» = decode s .«info_len»;
+  }
+  decode-marked = decode-again s a i v inner low
+
+  -- the same info octets
+  pub info-marked : infoIn w (decode s) ≡ infoIn s (decode s)
+  info-marked = info-again s a i v inner low
+
+  -- the direct look passes where it passed
+  pub direct-marked : direct w (decode s .frame .«route_count») ≡ direct s (decode s .frame .«route_count»)
+  direct-marked = rw (count-read s a) (direct-again s a i v inner low)

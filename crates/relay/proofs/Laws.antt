@@ -1,19 +1,22 @@
 -- What the functions' proofs share: one place of the route as the loop counts it, the octet that a mark is set in, the parts of a
--- frame that decodes.
+-- frame that decodes. And the answers in their order, for the crates above.
 use Prim.Native.Nat.{ℕ, suc, _+_, _*_, _/_, _≤_, _<_}
 use mathlib.Core.Path.{_≡_, refl, ap, sym, _∙_}
-use mathlib.Core.Bool.{Bool, true, false, cond}
-use mathlib.Core.List.{List}
+use mathlib.Core.Bool.{Bool, true, false, cond, _&&_}
+use mathlib.Core.List.{List, [], _∷_}
 use native.Mathlib.Omega.{arith}
-use borrow.Author.Tests.{eq-eqb, ne-eqb, eqb-true, eqb-false}
+use borrow.Author.Tests.{eq-eqb, ne-eqb, eqb-true, eqb-false, lt-ltb, le-ltb}
 use lib.Bits.{bitOr}
+use lib.Dec.{leb}
 use lib.ListN.{length, getD, drop}
+use Rattle.octets.specs.All.{all}
 use Rattle.octets.specs.Count.{count}
 use Rattle.octets.specs.Octet.{field}
 use Rattle.octets.proofs.Choice.{by}
 use Rattle.octets.proofs.Count.{count-step}
 use Rattle.octets.proofs.Octet.{octet-same}
-use Rattle.address.specs.Address.{encodable}
+use Rattle.address.specs.Address.{low, encodable}
+use Rattle.address.proofs.Laws.{encodable-is}
 use Rattle.address.specs.Group.{markSet}
 use Rattle.address.specs.declared.Address.{Address}
 use Rattle.frame.specs.Spell.{repeaterAt}
@@ -25,7 +28,7 @@ use Rattle.hops.proofs.Laws.{marks-at, marks-length, marked-in, due-marks}
 use Rattle.grammar.proofs.Marks.{route, place-read}
 use Rattle.relay.specs.declared.RelayAnswer.{RelayAnswer}
 use Rattle.relay.specs.declared.RelayAnswer.the-variants.{Relayed, NotEncodable, Refused, RouteUsedUp, AnotherStation}
-use Rattle.relay.specs.Relay.{withMark, ours, dueAnswer, relayAnswer, leftBy, relayed}
+use Rattle.relay.specs.Relay.{withMark, ours, dueAnswer, relayAnswer, leftBy, relayed, stationOf, relayAnswerAs, relayedAs}
 
 -- the mark, shifted down, adds what it counts
 shifted : (b n : ℕ) → b < 256 → cond (markSet b) (suc n) n ≡ b / 128 + n
@@ -92,3 +95,32 @@ relay-accepted own s h e = simp (h, e)
 pub relayed-by : (own : Address) (s : List ℕ) (a : RelayAnswer) → relayAnswer own s ≡ a → relayed own s ≡ leftBy a s
 unfolding relayed
 relayed-by own s a e = rw e refl
+
+-- the station that C gives can be written where its octets and its SSID can
+padded-low : (c : List ℕ) (ssid : ℕ) → length c ≤ 6 → all low (stationOf c ssid .callsign) ≡ all low c
+unfolding stationOf all
+padded-low [] ssid h = refl
+padded-low (a ∷ []) ssid h = refl
+padded-low (a ∷ b ∷ []) ssid h = refl
+padded-low (a ∷ b ∷ c ∷ []) ssid h = refl
+padded-low (a ∷ b ∷ c ∷ d ∷ []) ssid h = refl
+padded-low (a ∷ b ∷ c ∷ d ∷ e ∷ []) ssid h = refl
+padded-low (a ∷ b ∷ c ∷ d ∷ e ∷ f ∷ []) ssid h = refl
+padded-low (a ∷ b ∷ c ∷ d ∷ e ∷ f ∷ g ∷ r) ssid h = absurd (omega arith)
+
+pub station-encodable : (c : List ℕ) (ssid : ℕ) → length c ≤ 6 → encodable (stationOf c ssid) ≡ (leb ssid 15 && all low c)
+unfolding stationOf
+station-encodable c ssid h = encodable-is (stationOf c ssid) ∙ rw (padded-low c ssid h) refl
+
+-- a callsign of at most six octets is that of the station; a longer one is refused
+pub as-station : (c : List ℕ) (ssid : ℕ) (s : List ℕ) → length c ≤ 6 → relayAnswerAs c ssid s ≡ relayAnswer (stationOf c ssid) s
+unfolding relayAnswerAs
+as-station c ssid s h = rw (le-ltb 6 (length c) h) refl
+
+pub as-refused : (c : List ℕ) (ssid : ℕ) (s : List ℕ) → 6 < length c → relayAnswerAs c ssid s ≡ NotEncodable
+unfolding relayAnswerAs
+as-refused c ssid s h = rw (lt-ltb 6 (length c) h) refl
+
+pub left-as : (c : List ℕ) (ssid : ℕ) (s : List ℕ) (a : RelayAnswer) → relayAnswerAs c ssid s ≡ a → relayedAs c ssid s ≡ leftBy a s
+unfolding relayedAs
+left-as c ssid s a e = rw e refl

@@ -1,0 +1,302 @@
+-- Document 02, M-100, proved: each number of relaying is given exactly when its row is the first that holds; a refusal leaves the
+-- octets; what is relayed is as `Relayed` says; and what a second relay by the same station answers.
+use Prim.Native.Nat.{ℕ, zero, suc, _+_, _*_, _<_}
+use mathlib.Core.Path.{_≡_, refl, ap, sym, _∙_}
+use mathlib.Core.Bool.{Bool, true, false, true≢false, false≢true, cond, not, _&&_, _||_}
+use mathlib.Core.List.{List, [], _∷_, _++_}
+use mathlib.Core.Logic.{_↔_}
+use native.Mathlib.Omega.{arith}
+use borrow.Author.Tests.{eq-eqb, eqb-true, eqb-false, ltb-true, ltb-false, lt-ltb, le-ltb, leb-true, leb-false}
+use lib.Dec.{eqb, ltb, leb}
+use lib.ListN.{length, length-set, getD, set}
+use lib.Seq.{getD-set-same, getD-set-other, set-getD, ext-getD}
+use Rattle.octets.specs.Octet.{Octets, field, bit}
+use Rattle.octets.specs.All.{all}
+use Rattle.octets.proofs.Choice.{by}
+use Rattle.address.specs.Address.{low, encodable}
+use Rattle.address.specs.Group.{markSet}
+use Rattle.address.specs.declared.Address.{Address}
+use Rattle.frame.specs.Spell.{repeaterAt, past}
+use Rattle.frame.specs.declared.RouteEntry.{RouteEntry}
+use Rattle.frame.specs.declared.Ax25Frame.{Ax25Frame}
+use Rattle.decode.specs.Answer.{numberOf, isAccepted}
+use Rattle.decode.specs.Read.{startOf, decode, infoIn}
+use Rattle.decode.specs.declared.Decoded.{Decoded}
+use Rattle.decode.specs.declared.DecodeAnswer.{DecodeAnswer}
+use Rattle.decode.specs.declared.DecodeAnswer.the-variants as read
+use Rattle.grammar.proofs.Numbers.{decode-rows}
+use Rattle.grammar.proofs.Marks.{remarked, route, route-length, decode-marked, info-marked, direct-marked}
+use Rattle.hops.specs.Hops.{duePlace}
+use Rattle.hops.specs.Station.{sameStation}
+use Rattle.hops.proofs.Laws.{due-within, due-next}
+use Rattle.relay.specs.Relay.{reportOf, usedUp, ours, dueAnswer, relayAnswer, markPlace, withMark, leftBy, relayed, stationOf, relayAnswerAs, relayedAs}
+use Rattle.relay.specs.declared.RelayAnswer.{RelayAnswer}
+use Rattle.relay.specs.declared.RelayAnswer.the-variants as relay
+use Rattle.relay.proofs.Laws.{groups-inside, due-none, due-other, due-ours, relay-stranger, relay-refused, relay-accepted, relayed-by, station-encodable, as-station, as-refused, left-as}
+use Rattle.spelling.specs.Canonical.{canonical}
+use Rattle.spelling.proofs.Laws.{canonical-direct}
+use Rattle.demands.specs.Table.{Table, given, FirstRow}
+use Rattle.demands.specs.Numbers.{decodeTable}
+use Rattle.demands.specs.Relay.{relayRows, relayTable, badStation, placeMarked, frameMarked, Relayed, InOrder}
+use Rattle.demands.proofs.Table.{exactly}
+
+-- the number of an answer
+abbrev numbered : RelayAnswer → ℕ
+numbered a = reportOf a .number
+
+-- one table after another whose numbers are not 0: the first decides, unless none of its rows holds
+given-append : (a b : Table) → all (λ (row : ℕ × Bool). not (eqb (row .0) 0)) a ≡ true → given (a ++ b) ≡ cond (eqb (given a) 0) (given b) (given a)
+unfolding given all
+given-append [] b e = refl
+given-append (row ∷ a) b e =
+    let nonzero : eqb (row .0) 0 ≡ false = by (eqb (row .0) 0) (λ z. absurd (false≢true (rw z at e))) (λ z. z) in
+    let rest : all (λ (r : ℕ × Bool). not (eqb (r .0) 0)) a ≡ true = rw nonzero at e in
+    by (row .1) (λ t. rw (t, nonzero) refl) (λ t. rw t (given-append a b rest))
+
+-- a decode is accepted where its number is 0
+zero-accepted : (a : DecodeAnswer) → eqb (numberOf a) 0 ≡ isAccepted a
+zero-accepted read.Accepted = refl
+zero-accepted read.OnlyNullBytes = refl
+zero-accepted read.NoEndToAddressField = refl
+zero-accepted (read.AddressFieldTooShort start end) = refl
+zero-accepted (read.FrameTooShort len) = refl
+zero-accepted read.MissingPidField = refl
+zero-accepted read.UnrecognisedSFieldType = refl
+zero-accepted read.UnrecognisedUFieldType = refl
+zero-accepted read.WrongSizeFrmrInfo = refl
+zero-accepted read.TooManyRepeaters = refl
+
+decoded-rows : (s : List ℕ) → given (decodeTable s) ≡ numberOf (decode s .answer)
+unfolding given
+decoded-rows s = sym (decode-rows s)
+
+-- how the rows go on after decoding's
+rows-due : (own : Address) (s : List ℕ)
+    → given (decodeTable s ++ ((41, usedUp (decode s .frame)) ∷ (42, not (ours own (decode s .frame))) ∷ []))
+    ≡ cond (isAccepted (decode s .answer)) (numbered (dueAnswer own (decode s .frame))) (numberOf (decode s .answer))
+unfolding given all dueAnswer
+rows-due own s =
+    given-append (decodeTable s) ((41, usedUp (decode s .frame)) ∷ (42, not (ours own (decode s .frame))) ∷ []) refl
+    ∙ rw (decoded-rows s, zero-accepted)
+    (by (usedUp (decode s .frame)) (λ u. rw u refl) (λ u. rw u (by (ours own (decode s .frame)) (λ o. rw o refl) (λ o. rw o refl))))
+
+relay-rows : (own : Address) (s : List ℕ) → numbered (relayAnswer own s) ≡ given (relayTable own s)
+unfolding given
+relay-rows own s =
+    by (encodable own)
+    (λ h. rw (h, rows-due own s)
+    (by (isAccepted (decode s .answer))
+    (λ e. rw (e, relay-accepted own s h e) refl)
+    (λ e. rw (e, relay-refused own s h e) refl)))
+    (λ h. rw (h, relay-stranger own s h) refl)
+
+-- each number is given exactly when its row is the first that holds
+pub relaying : (own : Address) (s : List ℕ) (n : ℕ) → (numbered (relayAnswer own s) ≡ n) ↔ FirstRow (relayTable own s) n
+relaying own s n = rw (relay-rows own s) (exactly (relayTable own s) n)
+
+-- and so by callsign and SSID
+bad-is : (c : List ℕ) (ssid : ℕ) → ltb 6 (length c) ≡ false → not (encodable (stationOf c ssid)) ≡ badStation c ssid
+bad-is c ssid h =
+    rw (station-encodable c ssid (ltb-false 6 (length c) h), h)
+    (by (leb ssid 15)
+    (λ l. rw (l, le-ltb 15 ssid (leb-true ssid 15 l)) (by (all low c) (λ a. rw a refl) (λ a. rw a refl)))
+    (λ l. rw (l, lt-ltb 15 ssid (leb-false ssid 15 l)) (by (all low c) (λ a. rw a refl) (λ a. rw a refl))))
+
+as-rows : (c : List ℕ) (ssid : ℕ) (s : List ℕ) → numbered (relayAnswerAs c ssid s) ≡ given (relayRows (badStation c ssid) (stationOf c ssid) s)
+unfolding given
+as-rows c ssid s =
+    by (ltb 6 (length c))
+    (λ h. rw (as-refused c ssid s (ltb-true 6 (length c) h), h) refl)
+    (λ h. rw (as-station c ssid s (ltb-false 6 (length c) h), ← bad-is c ssid h) (relay-rows (stationOf c ssid) s))
+
+pub relaying-as : (c : List ℕ) (ssid : ℕ) (s : List ℕ) (n : ℕ)
+    → (numbered (relayAnswerAs c ssid s) ≡ n) ↔ FirstRow (relayRows (badStation c ssid) (stationOf c ssid) s) n
+relaying-as c ssid s n = rw (as-rows c ssid s) (exactly (relayRows (badStation c ssid) (stationOf c ssid) s) n)
+
+-- what a 0 rests on
+record Due (own : Address) (s : List ℕ) : Type 0 where
+  able : encodable own ≡ true
+  accepted : isAccepted (decode s .answer) ≡ true
+  inner : duePlace (decode s .frame) < decode s .frame .«route_count»
+  is : relayAnswer own s ≡ relay.Relayed
+
+due-by : (own : Address) (s : List ℕ) → numbered (relayAnswer own s) ≡ 0 → Due own s
+due-by own s z =
+    by (encodable own)
+    (λ h. by (isAccepted (decode s .answer))
+    (λ e. let f : Ax25Frame = decode s .frame in
+    let d = rw (relay-accepted own s h e) at z in
+    by (eqb (duePlace f) (f .«route_count»))
+    (λ u. absurd (omega (arith, rw (due-none own f (eqb-true _ _ u)) at d)))
+    (λ u. let n = eqb-false (duePlace f) (f .«route_count») u in
+    by (ours own f)
+    (λ o. record { able = h; accepted = e; inner = omega (arith, due-within f, n); is = relay-accepted own s h e ∙ due-ours own f n o })
+    (λ o. absurd (omega (arith, rw (due-other own f n o) at d)))))
+    (λ e. let d = rw (relay-refused own s h e) at z in
+    absurd (true≢false (sym (eq-eqb _ _ d) ∙ zero-accepted (decode s .answer) ∙ e))))
+    (λ h. absurd (omega (arith, rw (relay-stranger own s h) at z)))
+
+-- a refusal leaves the octets as they were
+left-refused : (a : RelayAnswer) (s : List ℕ) → (numbered a ≡ 0 → ⊥) → leftBy a s ≡ s
+left-refused relay.Relayed s n = absurd (n refl)
+left-refused relay.NotEncodable s n = refl
+left-refused (relay.Refused a) s n = refl
+left-refused relay.RouteUsedUp s n = refl
+left-refused relay.AnotherStation s n = refl
+
+pub refused-relay : (own : Address) (s : List ℕ) → (numbered (relayAnswer own s) ≡ 0 → ⊥) → relayed own s ≡ s
+refused-relay own s n = relayed-by own s _ refl ∙ left-refused (relayAnswer own s) s n
+
+-- the octet that the mark is set in
+mark-low : (b : ℕ) → field 0 7 (withMark b) ≡ field 0 7 b
+mark-low b = omega arith
+
+mark-high : (b : ℕ) → bit 7 (withMark b) ≡ true
+mark-high b = eq-eqb (field 7 1 (withMark b)) 1 (omega arith)
+
+mark-bits : (b j : ℕ) → j < 7 → bit j (withMark b) ≡ bit j b
+mark-bits b zero h = let e : field 0 1 (withMark b) ≡ field 0 1 b = omega arith in rw e refl
+mark-bits b (suc zero) h = let e : field 1 1 (withMark b) ≡ field 1 1 b = omega arith in rw e refl
+mark-bits b (suc (suc zero)) h = let e : field 2 1 (withMark b) ≡ field 2 1 b = omega arith in rw e refl
+mark-bits b (suc (suc (suc zero))) h = let e : field 3 1 (withMark b) ≡ field 3 1 b = omega arith in rw e refl
+mark-bits b (suc (suc (suc (suc zero)))) h = let e : field 4 1 (withMark b) ≡ field 4 1 b = omega arith in rw e refl
+mark-bits b (suc (suc (suc (suc (suc zero))))) h = let e : field 5 1 (withMark b) ≡ field 5 1 b = omega arith in rw e refl
+mark-bits b (suc (suc (suc (suc (suc (suc zero)))))) h = let e : field 6 1 (withMark b) ≡ field 6 1 b = omega arith in rw e refl
+mark-bits b (suc (suc (suc (suc (suc (suc (suc j))))))) h = absurd (omega arith)
+
+-- a route with one entry marked, place by place
+eight : (f : ℕ → RouteEntry) (k : ℕ) → k < 8 → repeaterAt (f 0 ∷ f 1 ∷ f 2 ∷ f 3 ∷ f 4 ∷ f 5 ∷ f 6 ∷ f 7 ∷ []) k ≡ f k
+eight f zero h = refl
+eight f (suc zero) h = refl
+eight f (suc (suc zero)) h = refl
+eight f (suc (suc (suc zero))) h = refl
+eight f (suc (suc (suc (suc zero)))) h = refl
+eight f (suc (suc (suc (suc (suc zero))))) h = refl
+eight f (suc (suc (suc (suc (suc (suc zero)))))) h = refl
+eight f (suc (suc (suc (suc (suc (suc (suc zero))))))) h = refl
+eight f (suc (suc (suc (suc (suc (suc (suc (suc k)))))))) h = absurd (omega arith)
+
+or-true : (b : Bool) → (b || true) ≡ true
+or-true true = refl
+or-true false = refl
+
+or-false : (b : Bool) → (b || false) ≡ b
+or-false true = refl
+or-false false = refl
+
+places-marked : (route : List RouteEntry) (i : ℕ) → length route ≡ 8 → i < 8
+    → set route i (record { repeater = repeaterAt route i .repeater; «has_repeated» = true })
+    ≡ placeMarked route i 0 ∷ placeMarked route i 1 ∷ placeMarked route i 2 ∷ placeMarked route i 3
+    ∷ placeMarked route i 4 ∷ placeMarked route i 5 ∷ placeMarked route i 6 ∷ placeMarked route i 7 ∷ []
+places-marked route i l h =
+    ext-getD past _ _ (rw (length-set, l) refl)
+    (λ k b. let k8 : k < 8 = rw (length-set, l) at b in
+    by (eqb k i)
+    (λ q. let e : k ≡ i = eqb-true k i q in
+    rw e (getD-set-same route i _ past (rw l h) ∙ sym (eight (placeMarked route i) i h ∙ rw (eq-eqb i i refl, or-true) refl)))
+    (λ q. getD-set-other route i k _ past (eqb-false k i q) ∙ sym (eight (placeMarked route i) k k8 ∙ rw (q, or-false) refl)))
+
+module _ (own : Address) (s : List ℕ) (z : numbered (relayAnswer own s) ≡ 0) where
+  abbrev f : Ax25Frame
+  f = decode s .frame
+
+  abbrev i : ℕ
+  i = duePlace f
+
+  abbrev p : ℕ
+  p = markPlace (startOf s) i
+
+  abbrev b : ℕ
+  b = getD s p 0
+
+  abbrev t : List ℕ
+  t = set s p (withMark b)
+
+  d : Due own s
+  d = due-by own s z
+
+  left : relayed own s ≡ t
+  left = relayed-by own s relay.Relayed (d .is)
+
+  within : (i < 8) × (p < length s)
+  within = let g = groups-inside s (d .accepted) in (omega (arith, d .inner, g .0), omega (arith, d .inner, g .1))
+
+  eight-places : length (f .route) ≡ 8
+  eight-places = rw (route s (d .accepted) .read) (route-length s (startOf s + 14) (f .«route_count»))
+
+  read-again : decode t ≡ record {
+    answer = decode s .answer;
+    frame = remarked f i true;
+    «info_start» = decode s .«info_start»;
+    «info_len» = decode s .«info_len»;
+  }
+  read-again = decode-marked s (d .accepted) i (withMark b) (d .inner) (mark-low b) ∙ rw (mark-high b) refl
+
+  frame-again : remarked f i true ≡ frameMarked f i
+  unfolding frameMarked
+  frame-again = rw (places-marked (f .route) i eight-places (within .0)) refl
+
+  again-accepted : isAccepted (decode t .answer) ≡ true
+  again-accepted = rw read-again (d .accepted)
+
+  octets-again : Octets s → Octets t
+  octets-again o k =
+      by (eqb k p)
+      (λ e. let q : k ≡ p = eqb-true k p e in rw (q, getD-set-same s p (withMark b) 0 (within .1)) (omega arith))
+      (λ e. rw (getD-set-other s p k (withMark b) 0 (eqb-false k p e)) (o k))
+
+  same-canonical : Octets s → canonical t ≡ canonical s
+  same-canonical o =
+      canonical-direct t (octets-again o) again-accepted
+      ∙ rw read-again (direct-marked s (d .accepted) i (withMark b) (d .inner) (mark-low b))
+      ∙ sym (canonical-direct s o (d .accepted))
+
+  -- what is relayed
+  pub relayed-is : Octets s → Relayed s (relayed own s)
+  relayed-is o = rw left (record {
+    length = length-set s p (withMark b);
+    others = λ k n. getD-set-other s p k (withMark b) 0 n;
+    bits = λ j h. rw (getD-set-same s p (withMark b) 0 (within .1)) (mark-bits b j h);
+    mark = rw (getD-set-same s p (withMark b) 0 (within .1)) (mark-high b);
+    answer = ap (λ (x : Decoded). x .answer) read-again;
+    frame = ap (λ (x : Decoded). x .frame) read-again ∙ frame-again;
+    info = rw read-again (info-marked s (d .accepted) i (withMark b) (d .inner) (mark-low b));
+    canonical = same-canonical o;
+  })
+
+  -- where the due place is ours and marked already, nothing changes
+  pub relayed-marked : Octets s → bit 7 b ≡ true → relayed own s ≡ s
+  relayed-marked o m =
+      let same : withMark b ≡ b = omega (arith, o p, eqb-true (field 7 1 b) 1 m) in
+      left ∙ rw same (set-getD s p 0)
+
+  -- a second relay by the same station, of a frame whose marks were in order: 41 where no place is left, 42 where the next is
+  -- another's, 0 where it is ours too
+  module _ (o : InOrder f) where
+    next : duePlace (decode t .frame) ≡ suc i
+    next =
+        due-next f (decode t .frame) _ o (d .inner) (within .0) (rw eight-places (within .0)) refl
+        (ap (λ (x : Decoded). x .frame .route) read-again) (ap (λ (x : Decoded). x .frame .«route_count») read-again)
+
+    same-count : decode t .frame .«route_count» ≡ f .«route_count»
+    same-count = ap (λ (x : Decoded). x .frame .«route_count») read-again
+
+    next-repeater : repeaterAt (decode t .frame .route) (suc i) ≡ repeaterAt (f .route) (suc i)
+    next-repeater = rw read-again (getD-set-other (f .route) i (suc i) _ past (λ e. omega (arith, e)))
+
+    whose : ours own (decode t .frame) ≡ sameStation own (repeaterAt (f .route) (suc i) .repeater)
+    whose = rw (next, next-repeater) refl
+
+    again : relayAnswer own (relayed own s) ≡ dueAnswer own (decode t .frame)
+    again = rw left (relay-accepted own t (d .able) again-accepted)
+
+    pub again-none : suc i ≡ f .«route_count» → numbered (relayAnswer own (relayed own s)) ≡ 41
+    again-none e = rw (again, due-none own (decode t .frame) (next ∙ e ∙ sym same-count)) refl
+
+    pub again-other : (suc i ≡ f .«route_count» → ⊥) → sameStation own (repeaterAt (f .route) (suc i) .repeater) ≡ false
+        → numbered (relayAnswer own (relayed own s)) ≡ 42
+    again-other n e = rw (again, due-other own (decode t .frame) (λ q. n (sym next ∙ q ∙ same-count)) (whose ∙ e)) refl
+
+    pub again-ours : (suc i ≡ f .«route_count» → ⊥) → sameStation own (repeaterAt (f .route) (suc i) .repeater) ≡ true
+        → numbered (relayAnswer own (relayed own s)) ≡ 0
+    again-ours n e = rw (again, due-ours own (decode t .frame) (λ q. n (sym next ∙ q ∙ same-count)) (whose ∙ e)) refl

@@ -1,0 +1,68 @@
+-- Document 02, M-100: relaying. Its numbers as a table, and what a relayed frame is beside the one that was received.
+use Prim.Native.Nat.{ℕ, _<_}
+use mathlib.Core.Path.{_≡_}
+use mathlib.Core.Bool.{Bool, true, not, _||_, cond}
+use mathlib.Core.List.{List, [], _∷_, _++_}
+use lib.Dec.{eqb, ltb, leb}
+use lib.ListN.{length, getD}
+use Rattle.octets.specs.Octet.{bit}
+use Rattle.octets.specs.All.{all}
+use Rattle.address.specs.Address.{low, encodable}
+use Rattle.address.specs.declared.Address.{Address}
+use Rattle.frame.specs.Spell.{repeaterAt}
+use Rattle.frame.specs.declared.RouteEntry.{RouteEntry}
+use Rattle.frame.specs.declared.Ax25Frame.{Ax25Frame}
+use Rattle.decode.specs.Read.{startOf, decode, infoIn}
+use Rattle.hops.specs.Hops.{markedAt, duePlace}
+use Rattle.relay.specs.Relay.{usedUp, ours, markPlace}
+use Rattle.spelling.specs.Canonical.{canonical}
+use Rattle.demands.specs.Table.{Table}
+use Rattle.demands.specs.Numbers.{decodeTable}
+
+-- the table, by whether our own address is refused: 22, then decoding's rows, then 41 and 42
+abbrev pub relayRows : Bool → Address → List ℕ → Table
+relayRows refused own s =
+    (22, refused) ∷ (decodeTable s ++ ((41, usedUp (decode s .frame)) ∷ (42, not (ours own (decode s .frame))) ∷ []))
+
+abbrev pub relayTable : Address → List ℕ → Table
+relayTable own s = relayRows (not (encodable own)) own s
+
+-- C's own address: a callsign of more than six octets, an octet of 128 or more, or an SSID over 15 is refused
+abbrev pub badStation : List ℕ → ℕ → Bool
+badStation c ssid = ltb 6 (length c) || (not (all low c) || ltb 15 ssid)
+
+-- place i of a route: marked if it was, or if it is the due place
+abbrev pub placeMarked : List RouteEntry → ℕ → ℕ → RouteEntry
+placeMarked route due i = record { repeater = repeaterAt route i .repeater; «has_repeated» = repeaterAt route i .«has_repeated» || eqb i due }
+
+-- the same frame with that one mark set
+unfoldable pub frameMarked : Ax25Frame → ℕ → Ax25Frame
+frameMarked f due = record {
+  source = f .source;
+  destination = f .destination;
+  route =
+      placeMarked (f .route) due 0 ∷ placeMarked (f .route) due 1 ∷ placeMarked (f .route) due 2 ∷ placeMarked (f .route) due 3
+      ∷ placeMarked (f .route) due 4 ∷ placeMarked (f .route) due 5 ∷ placeMarked (f .route) due 6 ∷ placeMarked (f .route) due 7 ∷ [];
+  «route_count» = f .«route_count»;
+  «command_or_response» = f .«command_or_response»;
+  content = f .content;
+}
+
+-- t is s relayed: the mark of the due place is set in it, and all else is as it was received
+pub record Relayed (s t : List ℕ) : Type 0 where
+  pub length : length t ≡ length s
+  -- every other octet
+  pub others : (k : ℕ) → (k ≡ markPlace (startOf s) (duePlace (decode s .frame)) → ⊥) → getD t k 0 ≡ getD s k 0
+  -- every other bit of that octet
+  pub bits : (j : ℕ) → j < 7 → bit j (getD t (markPlace (startOf s) (duePlace (decode s .frame))) 0) ≡ bit j (getD s (markPlace (startOf s) (duePlace (decode s .frame))) 0)
+  -- its mark
+  pub mark : bit 7 (getD t (markPlace (startOf s) (duePlace (decode s .frame))) 0) ≡ true
+  -- a further decode: the same answer, the same frame with that one mark set, the same info octets
+  pub answer : decode t .answer ≡ decode s .answer
+  pub frame : decode t .frame ≡ frameMarked (decode s .frame) (duePlace (decode s .frame))
+  pub info : infoIn t (decode t) ≡ infoIn s (decode s)
+  pub canonical : canonical t ≡ canonical s
+
+-- a frame whose marks are in order: none follows an unmarked place
+abbrev pub InOrder : Ax25Frame → Type 0
+InOrder f = (i j : ℕ) → i < j → markedAt (f .route) (f .«route_count») j ≡ true → markedAt (f .route) (f .«route_count») i ≡ true
