@@ -37,7 +37,7 @@ use Rattle.spelling.specs.Canonical.{canonical}
 use Rattle.spelling.proofs.Laws.{canonical-direct}
 use Rattle.demands.specs.Table.{Table, given, FirstRow}
 use Rattle.demands.specs.Numbers.{decodeTable}
-use Rattle.demands.specs.Relay.{relayRows, relayTable, badStation, placeMarked, frameMarked, Relayed, InOrder}
+use Rattle.demands.specs.Relay.{relayRows, relayTable, badStation, placeMarked, frameMarked, Relayed, InOrder, Again}
 use Rattle.demands.proofs.Table.{exactly}
 
 -- the number of an answer
@@ -270,8 +270,7 @@ module _ (own : Address) (s : List ℕ) (z : numbered (relayAnswer own s) ≡ 0)
       let same : withMark b ≡ b = omega (arith, o p, eqb-true (field 7 1 b) 1 m) in
       left ∙ rw same (set-getD s p 0)
 
-  -- a second relay by the same station, of a frame whose marks were in order: 41 where no place is left, 42 where the next is
-  -- another's, 0 where it is ours too
+  -- a second relay by the same station, of a frame whose marks were in order
   module _ (o : InOrder f) where
     next : duePlace (decode t .frame) ≡ suc i
     next =
@@ -290,13 +289,29 @@ module _ (own : Address) (s : List ℕ) (z : numbered (relayAnswer own s) ≡ 0)
     again : relayAnswer own (relayed own s) ≡ dueAnswer own (decode t .frame)
     again = rw left (relay-accepted own t (d .able) again-accepted)
 
-    pub again-none : suc i ≡ f .«route_count» → numbered (relayAnswer own (relayed own s)) ≡ 41
-    again-none e = rw (again, due-none own (decode t .frame) (next ∙ e ∙ sym same-count)) refl
+    pub relayed-again : Again own f (numbered (relayAnswer own (relayed own s)))
+    relayed-again = rw again (record {
+      none = λ e. rw (due-none own (decode t .frame) (next ∙ e ∙ sym same-count)) refl;
+      another = λ n e. rw (due-other own (decode t .frame) (λ q. n (sym next ∙ q ∙ same-count)) (whose ∙ e)) refl;
+      ours = λ n e. rw (due-ours own (decode t .frame) (λ q. n (sym next ∙ q ∙ same-count)) (whose ∙ e)) refl;
+    })
 
-    pub again-other : (suc i ≡ f .«route_count» → ⊥) → sameStation own (repeaterAt (f .route) (suc i) .repeater) ≡ false
-        → numbered (relayAnswer own (relayed own s)) ≡ 42
-    again-other n e = rw (again, due-other own (decode t .frame) (λ q. n (sym next ∙ q ∙ same-count)) (whose ∙ e)) refl
+-- canonicity stays, whatever the answer is
+pub relayed-canonical : (own : Address) (s : List ℕ) → Octets s → canonical (relayed own s) ≡ canonical s
+relayed-canonical own s o =
+    by (eqb (numbered (relayAnswer own s)) 0)
+    (λ e. relayed-is own s (eqb-true _ _ e) o .canonical)
+    (λ e. rw (refused-relay own s (eqb-false _ _ e)) refl)
 
-    pub again-ours : (suc i ≡ f .«route_count» → ⊥) → sameStation own (repeaterAt (f .route) (suc i) .repeater) ≡ true
-        → numbered (relayAnswer own (relayed own s)) ≡ 0
-    again-ours n e = rw (again, due-ours own (decode t .frame) (λ q. n (sym next ∙ q ∙ same-count)) (whose ∙ e)) refl
+-- the same by callsign and SSID
+module _ (c : List ℕ) (ssid : ℕ) (s : List ℕ) where
+  pub refused-relay-as : (numbered (relayAnswerAs c ssid s) ≡ 0 → ⊥) → relayedAs c ssid s ≡ s
+  refused-relay-as n = left-as c ssid s _ refl ∙ left-refused (relayAnswerAs c ssid s) s n
+
+  pub relayed-as-is : numbered (relayAnswerAs c ssid s) ≡ 0 → Octets s → Relayed s (relayedAs c ssid s)
+  relayed-as-is z o =
+      by (ltb 6 (length c))
+      (λ h. absurd (omega (arith, rw (as-refused c ssid s (ltb-true 6 (length c) h)) at z)))
+      (λ h. let same = as-station c ssid s (ltb-false 6 (length c) h) in
+      let left : relayedAs c ssid s ≡ relayed (stationOf c ssid) s = left-as c ssid s _ same ∙ sym (relayed-by (stationOf c ssid) s _ refl) in
+      rw left (relayed-is (stationOf c ssid) s (rw same at z) o))

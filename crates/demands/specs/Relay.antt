@@ -1,9 +1,9 @@
 -- Document 02, M-100: relaying. Its numbers as a table, and what a relayed frame is beside the one that was received.
-use Prim.Native.Nat.{ℕ, _<_}
+use Prim.Native.Nat.{ℕ, suc, _<_}
 use mathlib.Core.Path.{_≡_}
-use mathlib.Core.Bool.{Bool, true, not, _||_, cond}
+use mathlib.Core.Bool.{Bool, true, false, not, _||_}
 use mathlib.Core.List.{List, [], _∷_, _++_}
-use lib.Dec.{eqb, ltb, leb}
+use lib.Dec.{eqb, ltb}
 use lib.ListN.{length, getD}
 use Rattle.octets.specs.Octet.{bit}
 use Rattle.octets.specs.All.{all}
@@ -14,6 +14,7 @@ use Rattle.frame.specs.declared.RouteEntry.{RouteEntry}
 use Rattle.frame.specs.declared.Ax25Frame.{Ax25Frame}
 use Rattle.decode.specs.Read.{startOf, decode, infoIn}
 use Rattle.hops.specs.Hops.{markedAt, duePlace}
+use Rattle.hops.specs.Station.{sameStation}
 use Rattle.relay.specs.Relay.{usedUp, ours, markPlace}
 use Rattle.spelling.specs.Canonical.{canonical}
 use Rattle.demands.specs.Table.{Table}
@@ -66,3 +67,10 @@ pub record Relayed (s t : List ℕ) : Type 0 where
 -- a frame whose marks are in order: none follows an unmarked place
 abbrev pub InOrder : Ax25Frame → Type 0
 InOrder f = (i j : ℕ) → i < j → markedAt (f .route) (f .«route_count») j ≡ true → markedAt (f .route) (f .«route_count») i ≡ true
+
+-- what a second relay by the same station answers of such a frame, once relayed: 41 where no place is left, 42 where the next place is
+-- another's, 0 where it is ours too
+pub record Again (own : Address) (f : Ax25Frame) (number : ℕ) : Type 0 where
+  pub none : suc (duePlace f) ≡ f .«route_count» → number ≡ 41
+  pub another : (suc (duePlace f) ≡ f .«route_count» → ⊥) → sameStation own (repeaterAt (f .route) (suc (duePlace f)) .repeater) ≡ false → number ≡ 42
+  pub ours : (suc (duePlace f) ≡ f .«route_count» → ⊥) → sameStation own (repeaterAt (f .route) (suc (duePlace f)) .repeater) ≡ true → number ≡ 0

@@ -11,6 +11,8 @@ ghost use Rattle.demands.specs.Table.{FirstRow};
 ghost use Rattle.demands.specs.Numbers.{decodeTable};
 ghost use Rattle.demands.specs.Lent.{starting};
 ghost use Rattle.demands.specs.OneSpelling.{Spelled, Respelled};
+ghost use Rattle.demands.specs.Relay.{relayRows, badStation, Relayed};
+ghost use Rattle.relay.specs.Relay.{stationOf, relayedAs};
 
 // Demand 1: the number is that of the first row of the table that holds.
 pub fn decoded(input: &[u8]) -> u32
@@ -48,4 +50,16 @@ pub fn respelled(input: &[u8], output: &mut [u8]) -> u32
     ensures { λ r. ⌜ (isAccepted (decode (now (input .entry)) .answer) ≡ true → Respelled (now (input .entry)) (again (now (input .entry)))) ⌝ }
 {
     loader::ax25_reencode(input, output)
+}
+
+// Document 02, M-100: the number is that of the first row of the table that holds, our own address being refused for more than six
+// octets, an octet of 128 or more or an SSID over 15; a refusal leaves the frame as it was; what is relayed has our mark, and all else
+// is as it was received.
+pub fn relayed(callsign: &[u8], ssid: u8, frame: &mut [u8]) -> u32
+    ensures { λ r. ⌜ FirstRow (relayRows (badStation (now (callsign .entry)) ssid) (stationOf (now (callsign .entry)) ssid) (now (frame .entry))) r ⌝ }
+    ensures { λ r. ⌜ ((r ≡ 0 → ⊥) → now (frame .exit) ≡ now (frame .entry)) ⌝ }
+    ensures { λ r. ⌜ (r ≡ 0 → Relayed (now (frame .entry)) (now (frame .exit))) ⌝ }
+    ensures { λ r. ⌜ now (frame .exit) ≡ relayedAs (now (callsign .entry)) ssid (now (frame .entry)) ⌝ }
+{
+    loader::ax25_relay(callsign, ssid, frame)
 }
