@@ -1,4 +1,4 @@
-/* The four calls on document 01's examples, on every octet string of length 0 to 2, and on random, damaged and long frames.
+/* The five calls on document 01's examples, on every octet string of length 0 to 2, and on random, damaged and long frames.
    usage: calls [THOUSANDS [SEED]]: that many thousand random inputs */
 #include <stdio.h>
 #include <stdlib.h>
@@ -6,6 +6,7 @@
 
 #include "ax25.h"
 #include "examine.h"
+#include "relays.h"
 
 /* Document 01's example frame, and its 14 address octets. */
 #define ADDRESS "8E 82 AA 8E 8A 40 E0 84 9E B0 62 64 40 67 "
@@ -31,17 +32,6 @@ static const struct {
     {"P12", ADDRESS "01 AA", 0, 0, ADDRESS "01"},
     {"P13", ADDRESS "03 20", 0, 0, ADDRESS "03 10"},
 };
-
-static size_t from_hex(const char *text, uint8_t *octets) {
-    size_t len = 0;
-    char *end;
-    for (;;) {
-        unsigned long octet = strtoul(text, &end, 16);
-        if (end == text) return len;
-        octets[len++] = (uint8_t)octet;
-        text = end;
-    }
-}
 
 static int same_answer(const struct answer *a, const struct answer *b) {
     return a->number == b->number && a->canonical == b->canonical && a->length == b->length &&
@@ -322,6 +312,7 @@ int main(int argc, char **argv) {
     run_short();
     run_contents();
     run_long();
+    run_relays();
     run_random(thousands, seed);
     return failures() != 0;
 }
