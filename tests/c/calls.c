@@ -119,10 +119,8 @@ static void run_short(void) {
     set_end();
 }
 
-/* Content of `len` octets, of which the first two are given, after some addresses. */
-static void examine_content(const char *address, unsigned control, unsigned second, unsigned len) {
-    uint8_t in[64];
-    size_t at = from_hex(address, in);
+/* Content of `len` octets, of which the first two are given, after `at` address octets. */
+static void examine_content(uint8_t *in, size_t at, unsigned control, unsigned second, unsigned len) {
     memset(in + at, 0xB5, 6);
     in[at] = (uint8_t)control;
     in[at + 1] = (uint8_t)second;
@@ -132,11 +130,14 @@ static void examine_content(const char *address, unsigned control, unsigned seco
 
 /* Every control octet and every PID, with content of 1 to 6 octets, after the example's addresses, and now and then a repeater. */
 static void run_contents(void) {
+    uint8_t bare[64], routed[64];
+    size_t bare_len = from_hex(ADDRESS, bare), routed_len = from_hex(ROUTED, routed);
     set_begin("every first two content octets, content of 1 to 6 octets");
     for (unsigned control = 0; control < 256; control++) {
         for (unsigned second = 0; second < 256; second++) {
-            examine_content(ADDRESS, control, second, second % 6 + 1);
-            examine_content(second % 8 ? ADDRESS : ROUTED, control, second, 2);
+            examine_content(bare, bare_len, control, second, second % 6 + 1);
+            if (second % 8) examine_content(bare, bare_len, control, second, 2);
+            else examine_content(routed, routed_len, control, second, 2);
         }
     }
     set_end();
