@@ -227,8 +227,8 @@ static void spoil(struct own *own, uint8_t *callsign, unsigned turn) {
     else callsign[own->len++] = ' ';
 }
 
-/* By the station that is due, with or without the spaces that pad it, and by one that is not. Where no station is due, that is by
-   one of the two: this takes half the time, and most inputs are refused whoever relays them. */
+/* By the station that is due, with or without the spaces that pad it, and by one that is not. Where none is due it is by one of the
+   two in turn, which saves time: whoever relays such an input is refused. */
 static void relay_by_stations(const uint8_t *octets, size_t len, unsigned place) {
     static uint8_t after[LONGEST];
     static unsigned turn;

@@ -6,10 +6,11 @@
 #include "ax25.h"
 #include "examine.h"
 
-/* GAUGE and BOX12-3; the repeaters HILL1-2 and HILL2-2 without their last octet, which has the mark and the end bit. */
+/* GAUGE and BOX12-3; repeaters without their last octet, which has the SSID, the mark and the end bit; four repeaters HILL1-2. */
 #define PEERS "8E 82 AA 8E 8A 40 E0 84 9E B0 62 64 40 66 "
 #define HILL1 "90 92 98 98 62 40 "
 #define HILL2 "90 92 98 98 64 40 "
+#define SPACES "40 40 40 40 40 40 "
 #define FOUR HILL1 "64 " HILL1 "64 " HILL1 "64 " HILL1 "64 "
 
 /* Document 02, M-100: what it says of each, worked out by hand. A refusal leaves the frame as it was. */
@@ -29,7 +30,7 @@ static const struct {
     {"relayed: clear reserved bits stay", PEERS HILL1 "05 01", "HILL1", 2, 0, PEERS HILL1 "85 01"},
     {"relayed: FRMR's unnamed bits stay", PEERS HILL1 "65 87 F1 03 44", "HILL1", 2, 0, PEERS HILL1 "E5 87 F1 03 44"},
     {"relayed: a callsign with its padding", PEERS HILL1 "65 01", "HILL1 ", 2, 0, PEERS HILL1 "E5 01"},
-    {"relayed: a callsign of spaces, as an empty one", PEERS "40 40 40 40 40 40 65 01", "", 2, 0, PEERS "40 40 40 40 40 40 E5 01"},
+    {"relayed: a callsign of spaces, as an empty one", PEERS SPACES "65 01", "", 2, 0, PEERS SPACES "E5 01"},
     {"relayed: broken marks, where ours is set already", PEERS HILL2 "E4 " HILL2 "64 " HILL1 "E5 01", "HILL1", 2, 0,
         PEERS HILL2 "E4 " HILL2 "64 " HILL1 "E5 01"},
     {"not relayed: broken marks, where ours is the first without", PEERS HILL2 "E4 " HILL1 "64 " HILL2 "E5 01", "HILL1", 2, 42, NULL},
@@ -43,7 +44,7 @@ static const struct {
     {"not relayed: SABME", PEERS HILL1 "65 6F", "HILL1", 2, 7, NULL},
     {"not relayed: FRMR of three octets", PEERS HILL1 "65 87 01 02", "HILL1", 2, 8, NULL},
     {"not relayed: no repeater", "8E 82 AA 8E 8A 40 E0 84 9E B0 62 64 40 67 03 20", "BOX12", 3, 41, NULL},
-    {"not relayed: six octets left over are no repeater", "8E 82 AA 8E 8A 40 E0 84 9E B0 62 64 40 66 90 92 98 98 62 41 03 20", "HILL1", 2, 41, NULL},
+    {"not relayed: six octets left over are no repeater", PEERS "90 92 98 98 62 41 03 20", "HILL1", 2, 41, NULL},
     {"not relayed: every repeater is marked", PEERS HILL2 "E4 " HILL1 "E5 01", "HILL1", 2, 41, NULL},
     {"not relayed: another callsign", PEERS HILL2 "65 01", "HILL1", 2, 42, NULL},
     {"not relayed: another SSID", PEERS HILL1 "65 01", "HILL1", 3, 42, NULL},
@@ -55,21 +56,23 @@ static const struct {
 /* Own addresses that are none. The first six octets and the low bits of each are HILL1-2, so that nothing else tells. */
 static const struct {
     const char *name, *callsign;
-    size_t len;
     uint8_t ssid;
 } none[] = {
-    {"seven octets", "HILL1  ", 7, 2},
-    {"an octet of 128 or more", "HILL\xB1", 5, 2},
-    {"an SSID over 15", "HILL1", 5, 18},
+    {"seven octets", "HILL1  ", 2},
+    {"an octet of 128 or more", "HILL\xB1", 2},
+    {"an SSID over 15", "HILL1", 18},
 };
 
-static const uint8_t *octets_of(const char *text) { return (const uint8_t *)text; }
+static struct own station(const char *callsign, uint8_t ssid) {
+    struct own own = {(const uint8_t *)callsign, strlen(callsign), ssid};
+    return own;
+}
 
 static void run_examples(void) {
     uint8_t in[128], after[128], modelled[128];
     int agree = 1;
     for (size_t i = 0; i < sizeof examples / sizeof *examples; i++) {
-        struct own own = {octets_of(examples[i].callsign), strlen(examples[i].callsign), examples[i].ssid};
+        struct own own = station(examples[i].callsign, examples[i].ssid);
         size_t len = from_hex(examples[i].input, in);
         from_hex(examples[i].after ? examples[i].after : examples[i].input, after);
         struct relayed model_says = model_relay(&own, in, len, modelled);
@@ -87,7 +90,7 @@ static void run_none(void) {
     uint8_t in[128];
     for (size_t n = 0; n < sizeof none / sizeof *none; n++) {
         char name[80];
-        struct own own = {octets_of(none[n].callsign), none[n].len, none[n].ssid};
+        struct own own = station(none[n].callsign, none[n].ssid);
         snprintf(name, sizeof name, "an own address with %s, on each of these", none[n].name);
         set_begin(name);
         for (size_t i = 0; i < sizeof examples / sizeof *examples; i++) {
@@ -105,31 +108,29 @@ static const struct {
     uint8_t ssid;
 } route[8] = {{"HILL1", 2}, {"HILL1", 3}, {"HILL11", 2}, {"HILL", 2}, {"hill1", 2}, {"", 0}, {"", 15}, {"1", 0}};
 
-static struct own of_route(size_t who) {
-    struct own own = {octets_of(route[who].callsign), strlen(route[who].callsign), route[who].ssid};
-    return own;
-}
-
 struct frame {
     size_t nulls, repeaters, leftover;
     unsigned marks, reserved; /* bit i: the mark of place i; the reserved bits of each address, 0 to 3 */
     const char *content;
 };
 
-/* A group without end bit: six characters, of which the callsign may have fewer. */
-static size_t put_group(uint8_t *out, const uint8_t *callsign, size_t len, unsigned ssid, unsigned mark, unsigned reserved) {
-    for (size_t i = 0; i < 6; i++) out[i] = (uint8_t)((i < len ? callsign[i] : ' ') << 1);
-    out[6] = (uint8_t)(mark << 7 | reserved << 5 | ssid << 1);
+/* A group without end bit: the callsign, padded. */
+static size_t put_group(uint8_t *out, const struct own *station, unsigned mark, unsigned reserved) {
+    for (size_t i = 0; i < 6; i++) out[i] = (uint8_t)((i < station->len ? station->callsign[i] : ' ') << 1);
+    out[6] = (uint8_t)(mark << 7 | reserved << 5 | station->ssid << 1);
     return 7;
 }
 
 static size_t make(const struct frame *f, uint8_t *out) {
+    const struct own gauge = station("GAUGE", 0), box = station("BOX12", 3);
     size_t len = f->nulls;
     memset(out, 0, len);
-    len += put_group(out + len, octets_of("GAUGE"), 5, 0, 1, f->reserved);
-    len += put_group(out + len, octets_of("BOX12"), 5, 3, 0, f->reserved);
-    for (size_t i = 0; i < f->repeaters; i++)
-        len += put_group(out + len, octets_of(route[i].callsign), strlen(route[i].callsign), route[i].ssid, f->marks >> i & 1, f->reserved);
+    len += put_group(out + len, &gauge, 1, f->reserved);
+    len += put_group(out + len, &box, 0, f->reserved);
+    for (size_t i = 0; i < f->repeaters; i++) {
+        const struct own repeater = station(route[i].callsign, route[i].ssid);
+        len += put_group(out + len, &repeater, f->marks >> i & 1, f->reserved);
+    }
     for (size_t i = 0; i < f->leftover; i++) out[len++] = 0x80;
     out[len - 1] |= 1;
     return len + from_hex(f->content, out + len);
@@ -142,7 +143,7 @@ static void relay_made(const struct frame *f, size_t who) {
     static unsigned turn;
     uint8_t in[256], after[256];
     size_t len = make(f, in), due = ones(f->marks);
-    struct own own = of_route(who);
+    struct own own = station(route[who].callsign, route[who].ssid);
     struct frame marked = *f;
     struct relayed want = {due == f->repeaters ? 41 : who == due ? 0 : 42, after, due};
     if (want.number == 0) marked.marks |= 1u << due;
@@ -177,12 +178,13 @@ static void run_kept(void) {
     set_end();
 }
 
-/* A frame with one repeater, relayed by an own address: accepted, or refused by a number. */
-static void relay_alone(const uint8_t *repeater, unsigned repeater_ssid, const struct own *own, unsigned number) {
+/* A frame with one repeater, of a callsign of six octets and an SSID, relayed by an own address. */
+static void relay_alone(const uint8_t *callsign, uint8_t ssid, const struct own *own, unsigned number) {
     static unsigned turn;
     uint8_t in[32], after[32];
+    const struct own repeater = {callsign, 6, ssid};
     size_t len = from_hex(PEERS, in);
-    len += put_group(in + len, repeater, 6, repeater_ssid, 0, 3);
+    len += put_group(in + len, &repeater, 0, 3);
     in[len - 1] |= 1;
     in[len++] = 0x01;
     memcpy(after, in, len);
@@ -229,7 +231,7 @@ static void run_characters(void) {
 static void run_ssids(void) {
     uint8_t callsign[6] = "ABCDEF";
     set_begin("every SSID by every SSID");
-    for (unsigned ssid = 0; ssid < 16; ssid++)
+    for (uint8_t ssid = 0; ssid < 16; ssid++)
         for (unsigned ours = 0; ours < 256; ours++) {
             struct own own = {callsign, 6, (uint8_t)ours};
             relay_alone(callsign, ssid, &own, ours > 15 ? 22 : ours == ssid ? 0 : 42);
@@ -240,7 +242,7 @@ static void run_ssids(void) {
 /* Where a length is 0, any pointer that is not null will do. */
 static void run_empty(void) {
     uint8_t *nowhere = (uint8_t *)(uintptr_t)1, frame[32];
-    size_t len = from_hex(PEERS "40 40 40 40 40 40 65 01", frame);
+    size_t len = from_hex(PEERS SPACES "65 01", frame);
     say(ax25_relay(nowhere, 0, 2, nowhere, 0) == 1, "ax25_relay of nothing by an empty callsign is 1");
     say(ax25_relay(nowhere, 0, 16, nowhere, 0) == 22, "ax25_relay of nothing by an SSID of 16 is 22");
     say(ax25_relay(nowhere, 0, 2, frame, len) == 0 && frame[20] == 0xE5,
