@@ -32,7 +32,7 @@ static unsigned failed;
 static struct arena input_arena, output_arena;
 static const uint8_t *current;
 static size_t current_len;
-static const struct own *relaying; /* by whom; NULL while another call is looked at */
+static const struct address *relaying; /* by whom; NULL while another call is looked at */
 static unsigned long owed[64];     /* relays of this set, by number */
 
 void say(int holds, const char *what) {
@@ -205,7 +205,7 @@ static void relay_once(const uint8_t *octets, size_t len, const struct relayed *
     if (want->number == 0) look_at_relayed(octets, frame.at, len, want->due);
 }
 
-static void relay(const struct own *own, const uint8_t *octets, size_t len, const struct relayed *want, unsigned place) {
+static void relay(const struct address *own, const uint8_t *octets, size_t len, const struct relayed *want, unsigned place) {
     static uint8_t again[LONGEST];
     relaying = own;
     relay_once(octets, len, want, place);
@@ -217,7 +217,7 @@ static void relay(const struct own *own, const uint8_t *octets, size_t len, cons
 }
 
 /* Turns the address into one that differs in one bit, or into one that is none. The callsign has room for seven octets. */
-static void spoil(struct own *own, uint8_t *callsign, unsigned turn) {
+static void spoil(struct address *own, uint8_t *callsign, unsigned turn) {
     unsigned bit = turn / 2 % 46;
     own->len = 6;
     if (turn % 2 == 0 && bit < 42) callsign[bit / 7] ^= (uint8_t)(1u << bit % 7);
@@ -233,7 +233,7 @@ static void relay_by_stations(const uint8_t *octets, size_t len, unsigned place)
     static uint8_t after[LONGEST];
     static unsigned turn;
     uint8_t callsign[7];
-    struct own own = {callsign, 6, model_station(octets, len, callsign)};
+    struct address own = {callsign, 6, model_station(octets, len, callsign)};
     turn++;
     place += PLACES * (turn / 4 % PLACES);
     while (turn / 2 % 2 && own.len > 0 && callsign[own.len - 1] == ' ') own.len--;
@@ -247,12 +247,12 @@ static void relay_by_stations(const uint8_t *octets, size_t len, unsigned place)
     }
 }
 
-void examine_relay(const struct own *own, const uint8_t *octets, size_t len, const struct relayed *want, unsigned place) {
+void examine_relay(const struct address *own, const uint8_t *octets, size_t len, const struct relayed *want, unsigned place) {
     inputs++;
     relay(own, octets, len, want, place);
 }
 
-void examine_relay_everywhere(const struct own *own, const uint8_t *octets, size_t len, const struct relayed *want) {
+void examine_relay_everywhere(const struct address *own, const uint8_t *octets, size_t len, const struct relayed *want) {
     for (unsigned place = 0; place < RELAY_PLACES; place++) examine_relay(own, octets, len, want, place);
 }
 

@@ -21,8 +21,8 @@ void examine_everywhere(const uint8_t *in, size_t len, const struct answer *want
 /* The relay alone, by one station: held to the answer, and where that is 0 once more, held to the model. The place is that of
    both buffers: each of the frame's with each of the callsign's. */
 enum { RELAY_PLACES = 9 };
-void examine_relay(const struct own *own, const uint8_t *in, size_t len, const struct relayed *want, unsigned place);
-void examine_relay_everywhere(const struct own *own, const uint8_t *in, size_t len, const struct relayed *want);
+void examine_relay(const struct address *own, const uint8_t *in, size_t len, const struct relayed *want, unsigned place);
+void examine_relay_everywhere(const struct address *own, const uint8_t *in, size_t len, const struct relayed *want);
 
 /* How many relays of this set were owed that number. */
 unsigned long relays_owed(unsigned number);

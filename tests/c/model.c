@@ -176,19 +176,19 @@ static size_t due_place(const struct fields *f) {
     return used;
 }
 
-static int is_encodable(const struct own *own) {
+static int is_encodable(const struct address *own) {
     int holds = own->len <= 6 && own->ssid <= 15;
     for (size_t i = 0; holds && i < own->len; i++) holds = own->callsign[i] < 128;
     return holds;
 }
 
-static int is_ours(const struct own *own, const struct station *s) {
+static int is_ours(const struct address *own, const struct station *s) {
     uint8_t padded[6] = {' ', ' ', ' ', ' ', ' ', ' '};
     memcpy(padded, own->callsign, own->len);
     return memcmp(padded, s->callsign, 6) == 0 && own->ssid == s->ssid;
 }
 
-struct relayed model_relay(const struct own *own, const uint8_t *in, size_t len, uint8_t *out) {
+struct relayed model_relay(const struct address *own, const uint8_t *in, size_t len, uint8_t *out) {
     struct fields f;
     struct relayed r = {22, out, 0};
     memcpy(out, in, len);

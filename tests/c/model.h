@@ -18,8 +18,8 @@ struct answer {
 /* The answer for any octets up to LONGEST. What `reencoded` points to holds until the next call. */
 struct answer model(const uint8_t *in, size_t len);
 
-/* An address of our own, as ax25_relay is given it. */
-struct own {
+/* A station's address, as ax25_relay is given its own. */
+struct address {
     const uint8_t *callsign;
     size_t len;
     uint8_t ssid;
@@ -32,7 +32,7 @@ struct relayed {
 };
 
 /* The answer for relaying any octets up to LONGEST. `out`, which has room for them, gets what `octets` then points to. */
-struct relayed model_relay(const struct own *own, const uint8_t *in, size_t len, uint8_t *out);
+struct relayed model_relay(const struct address *own, const uint8_t *in, size_t len, uint8_t *out);
 
 /* The six characters and, as its result, the SSID of the station to ask for relaying these octets: the one at the due place, or
    where no place is due the last that sent the frame. */

@@ -63,16 +63,16 @@ static const struct {
     {"an SSID over 15", "HILL1", 18},
 };
 
-static struct own station(const char *callsign, uint8_t ssid) {
-    struct own own = {(const uint8_t *)callsign, strlen(callsign), ssid};
-    return own;
+static struct address station(const char *callsign, uint8_t ssid) {
+    struct address a = {(const uint8_t *)callsign, strlen(callsign), ssid};
+    return a;
 }
 
 static void run_examples(void) {
     uint8_t in[128], after[128], modelled[128];
     int agree = 1;
     for (size_t i = 0; i < sizeof examples / sizeof *examples; i++) {
-        struct own own = station(examples[i].callsign, examples[i].ssid);
+        struct address own = station(examples[i].callsign, examples[i].ssid);
         size_t len = from_hex(examples[i].input, in);
         from_hex(examples[i].after ? examples[i].after : examples[i].input, after);
         struct relayed model_says = model_relay(&own, in, len, modelled);
@@ -90,7 +90,7 @@ static void run_none(void) {
     uint8_t in[128];
     for (size_t n = 0; n < sizeof none / sizeof *none; n++) {
         char name[80];
-        struct own own = station(none[n].callsign, none[n].ssid);
+        struct address own = station(none[n].callsign, none[n].ssid);
         snprintf(name, sizeof name, "an own address with %s, on each of these", none[n].name);
         set_begin(name);
         for (size_t i = 0; i < sizeof examples / sizeof *examples; i++) {
@@ -115,20 +115,20 @@ struct frame {
 };
 
 /* A group without end bit: the callsign, padded. */
-static size_t put_group(uint8_t *out, const struct own *station, unsigned mark, unsigned reserved) {
-    for (size_t i = 0; i < 6; i++) out[i] = (uint8_t)((i < station->len ? station->callsign[i] : ' ') << 1);
-    out[6] = (uint8_t)(mark << 7 | reserved << 5 | station->ssid << 1);
+static size_t put_group(uint8_t *out, const struct address *of, unsigned mark, unsigned reserved) {
+    for (size_t i = 0; i < 6; i++) out[i] = (uint8_t)((i < of->len ? of->callsign[i] : ' ') << 1);
+    out[6] = (uint8_t)(mark << 7 | reserved << 5 | of->ssid << 1);
     return 7;
 }
 
 static size_t make(const struct frame *f, uint8_t *out) {
-    const struct own gauge = station("GAUGE", 0), box = station("BOX12", 3);
+    const struct address gauge = station("GAUGE", 0), box = station("BOX12", 3);
     size_t len = f->nulls;
     memset(out, 0, len);
     len += put_group(out + len, &gauge, 1, f->reserved);
     len += put_group(out + len, &box, 0, f->reserved);
     for (size_t i = 0; i < f->repeaters; i++) {
-        const struct own repeater = station(route[i].callsign, route[i].ssid);
+        const struct address repeater = station(route[i].callsign, route[i].ssid);
         len += put_group(out + len, &repeater, f->marks >> i & 1, f->reserved);
     }
     for (size_t i = 0; i < f->leftover; i++) out[len++] = 0x80;
@@ -143,7 +143,7 @@ static void relay_made(const struct frame *f, size_t who) {
     static unsigned turn;
     uint8_t in[256], after[256];
     size_t len = make(f, in), due = ones(f->marks);
-    struct own own = station(route[who].callsign, route[who].ssid);
+    struct address own = station(route[who].callsign, route[who].ssid);
     struct frame marked = *f;
     struct relayed want = {due == f->repeaters ? 41 : who == due ? 0 : 42, after, due};
     if (want.number == 0) marked.marks |= 1u << due;
@@ -179,10 +179,10 @@ static void run_kept(void) {
 }
 
 /* A frame with one repeater, of a callsign of six octets and an SSID, relayed by an own address. */
-static void relay_alone(const uint8_t *callsign, uint8_t ssid, const struct own *own, unsigned number) {
+static void relay_alone(const uint8_t *callsign, uint8_t ssid, const struct address *own, unsigned number) {
     static unsigned turn;
     uint8_t in[32], after[32];
-    const struct own repeater = {callsign, 6, ssid};
+    const struct address repeater = {callsign, 6, ssid};
     size_t len = from_hex(PEERS, in);
     len += put_group(in + len, &repeater, 0, 3);
     in[len - 1] |= 1;
@@ -201,7 +201,7 @@ static void run_lengths(void) {
     for (size_t letters = 0; letters <= 6; letters++) {
         memset(callsign, ' ', sizeof callsign);
         memcpy(callsign, "ABCDEF", letters);
-        struct own own = {callsign, 0, 7};
+        struct address own = {callsign, 0, 7};
         for (; own.len <= 6; own.len++) relay_alone(callsign, 7, &own, own.len < letters ? 42 : 0);
         for (size_t i = 0; i < sizeof too_long / sizeof *too_long; i++) {
             own.len = too_long[i];
@@ -218,7 +218,7 @@ static void run_characters(void) {
             uint8_t repeater[6] = "ABCDEF", callsign[6];
             repeater[at] = (uint8_t)character;
             memcpy(callsign, repeater, 6);
-            struct own own = {callsign, 6, 7};
+            struct address own = {callsign, 6, 7};
             relay_alone(repeater, 7, &own, 0);
             for (unsigned bit = 0; bit < 8; bit++) {
                 callsign[at] = (uint8_t)(character ^ 1u << bit);
@@ -233,7 +233,7 @@ static void run_ssids(void) {
     set_begin("every SSID by every SSID");
     for (uint8_t ssid = 0; ssid < 16; ssid++)
         for (unsigned ours = 0; ours < 256; ours++) {
-            struct own own = {callsign, 6, (uint8_t)ours};
+            struct address own = {callsign, 6, (uint8_t)ours};
             relay_alone(callsign, ssid, &own, ours > 15 ? 22 : ours == ssid ? 0 : 42);
         }
     set_end();
