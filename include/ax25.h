@@ -1,13 +1,14 @@
 /* AX.25 frames for the relay box: the calls of libax25frame.a, for x86-64.
 
-   Four calls on octets that the caller lends. Each is proved to give exactly the answer that its contract states, for every
+   Five calls on octets that the caller lends. Each is proved to give exactly the answer that its contract states, for every
    input, to read and write nothing but what is lent to it, and to return.
 
    What every call asks of its caller:
-   - `in` points to `in_len` octets that may be read, `out` to `out_len` octets that may be written. No octet is kept or looked
-     at after the return, and the input is never written.
+   - `in` and `callsign` point to `in_len` and `callsign_len` octets that may be read, `out` to `out_len` octets that may be
+     written, `frame` to `frame_len` octets that may be read and written. No octet is kept or looked at after the return, and
+     `in` and `callsign` are never written.
    - No pointer is null. Where a length is 0, any pointer that is not null will do.
-   - `in` and `out` do not overlap, not even in part.
+   - `in` and `out` do not overlap, not even in part, and neither do `callsign` and `frame`.
    - No alignment is asked, and no length is too long or too short: whatever can't be read as a frame gets a number.
    - The calling convention is that of System V for x86-64: a stack aligned to 16 octets, and SSE2 usable.
 
@@ -27,8 +28,8 @@ extern "C" {
 /* No call uses more stack than this, in octets, its return address included. What memcpy and memset use comes on top. */
 #define AX25_STACK 1024
 
-/* Every number that the component gives. The four calls give 0 to 9 and 24; the others belong to parts that C does not
-   reach: writing records, text and the dumper. */
+/* Every number that the component gives. The five calls give 0 to 9, 22, 24, 41 and 42; the others belong to parts that C does
+   not reach: writing records, text and the dumper. */
 enum ax25_number {
     AX25_ACCEPTED = 0,
 
@@ -44,9 +45,10 @@ enum ax25_number {
     AX25_WRONG_SIZE_FRMR_INFO = 8,     /* an FRMR whose content is not four octets */
     AX25_TOO_MANY_REPEATERS = 9,       /* nine or more repeaters */
 
-    /* Writing a frame, and printing an address. */
+    /* Writing a frame, printing an address, and our own address when relaying. */
     AX25_ROUTE_TOO_LONG = 21,          /* a route count over 8 */
-    AX25_NOT_ENCODABLE = 22,           /* an address in use has a character of 128 or more, or an SSID over 15 */
+    AX25_NOT_ENCODABLE = 22,           /* an address in use has a character of 128 or more, or an SSID over 15; our own address
+                                          also where its callsign has more than six octets */
     AX25_INFO_NOT_ALLOWED = 23,        /* info for a kind that has none */
     AX25_NO_ROOM = 24,                 /* the output is shorter than needed */
 
@@ -56,6 +58,10 @@ enum ax25_number {
     AX25_INVALID_SSID = 33,            /* the SSID's text is no 8-bit number */
     AX25_SSID_OUT_OF_RANGE = 34,       /* an SSID of 16 to 255 */
     AX25_NOT_ASCII = 35,               /* an octet of 128 or more */
+
+    /* Relaying a frame. */
+    AX25_ROUTE_USED_UP = 41,           /* as many repeaters are marked as there are; a frame without a repeater too */
+    AX25_ANOTHER_STATION = 42,         /* the repeater at the due place is another station */
 
     /* The dumper alone. */
     AX25_INPUT_TOO_LONG = 50           /* more than 4,096 octets */
@@ -68,6 +74,22 @@ uint32_t ax25_decode(const uint8_t *in, size_t in_len);
    one such spelling of each frame. */
 uint32_t ax25_canonical(const uint8_t *in, size_t in_len);
 
+/* THIS IS THE CALL FOR FORWARDING A FRAME; ax25_reencode is not. Where the repeater that is due is our own station, its mark is set
+   in `frame` and the answer is AX25_ACCEPTED. That one bit is all that changes: everything else stays as received, so that the
+   frame_len octets can be sent as they now are. Decoding them gives the same frame with that one mark set.
+
+   Our own station is `callsign`, 0 to 6 octets below 128, and `ssid`, 0 to 15. The octets are taken as they are, lower case too,
+   and padded with spaces to six. The due place, counted from 0, is the number of repeaters that are marked, and the repeater there
+   is our own station where its six characters and its SSID are ours. With broken marks (one of them after a repeater without)
+   it can be marked already: the answer is AX25_ACCEPTED and nothing changes.
+
+   Otherwise the answer is the first of these that holds, and all of `frame` stays as it was:
+   - AX25_NOT_ENCODABLE: our own address has more than six octets, or one of 128 or more, or an SSID over 15, whatever the frame is;
+   - the number of ax25_decode(frame, frame_len), where that is not 0;
+   - AX25_ROUTE_USED_UP: the due place is the number of repeaters;
+   - AX25_ANOTHER_STATION: the repeater at the due place is not our own station. */
+uint32_t ax25_relay(const uint8_t *callsign, size_t callsign_len, uint8_t ssid, uint8_t *frame, size_t frame_len);
+
 /* How many octets re-encoding gives; 0 where the input is refused, and never 0 otherwise. It is never more than in_len. */
 size_t ax25_reencoded_length(const uint8_t *in, size_t in_len);
 
@@ -76,7 +98,7 @@ size_t ax25_reencoded_length(const uint8_t *in, size_t in_len);
    that length stay as they were, and a refusal leaves all of them as they were. Room of in_len octets is always enough.
 
    RE-ENCODED FRAMES ARE NOT FOR FORWARDING. A relay that sends what it re-encoded changes the frame. Forward the octets that were
-   received. Re-encoding
+   received, by ax25_relay. Re-encoding
    - drops null octets before the frame,
    - drops octets left over between the last whole address and the end of the address field,
    - writes an absent command/response mark (both bits equal) as Command,

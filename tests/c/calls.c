@@ -1,4 +1,4 @@
-/* The four calls on document 01's examples, on every octet string of length 0 to 2, and on random, damaged and long frames.
+/* The five calls on document 01's examples, on every octet string of length 0 to 2, and on random, damaged and long frames.
    usage: calls [THOUSANDS [SEED]]: that many thousand random inputs */
 #include <stdio.h>
 #include <stdlib.h>
@@ -6,10 +6,13 @@
 
 #include "ax25.h"
 #include "examine.h"
+#include "relays.h"
 
 /* Document 01's example frame, and its 14 address octets. */
 #define ADDRESS "8E 82 AA 8E 8A 40 E0 84 9E B0 62 64 40 67 "
 #define FRAME ADDRESS "03 F0 4F 4B"
+/* The address octets with the repeater HILL1-2. */
+#define ROUTED "8E 82 AA 8E 8A 40 E0 84 9E B0 62 64 40 66 90 92 98 98 62 40 65 "
 
 /* P1 to P13: what document 01 says of each, worked out by hand. */
 static const struct {
@@ -31,17 +34,6 @@ static const struct {
     {"P12", ADDRESS "01 AA", 0, 0, ADDRESS "01"},
     {"P13", ADDRESS "03 20", 0, 0, ADDRESS "03 10"},
 };
-
-static size_t from_hex(const char *text, uint8_t *octets) {
-    size_t len = 0;
-    char *end;
-    for (;;) {
-        unsigned long octet = strtoul(text, &end, 16);
-        if (end == text) return len;
-        octets[len++] = (uint8_t)octet;
-        text = end;
-    }
-}
 
 static int same_answer(const struct answer *a, const struct answer *b) {
     return a->number == b->number && a->canonical == b->canonical && a->length == b->length &&
@@ -127,21 +119,25 @@ static void run_short(void) {
     set_end();
 }
 
-/* Every control octet and every PID, with content of 1 to 6 octets, after the example's addresses. */
+/* Content of `len` octets, of which the first two are given, after `at` address octets. */
+static void examine_content(uint8_t *in, size_t at, unsigned control, unsigned second, unsigned len) {
+    memset(in + at, 0xB5, 6);
+    in[at] = (uint8_t)control;
+    in[at + 1] = (uint8_t)second;
+    struct answer want = model(in, at + len);
+    examine(in, at + len, &want, (control + second + len) % 3);
+}
+
+/* Every control octet and every PID, with content of 1 to 6 octets, after the example's addresses, and now and then a repeater. */
 static void run_contents(void) {
-    uint8_t in[64];
-    size_t at = from_hex(ADDRESS, in);
+    uint8_t bare[64], routed[64];
+    size_t bare_len = from_hex(ADDRESS, bare), routed_len = from_hex(ROUTED, routed);
     set_begin("every first two content octets, content of 1 to 6 octets");
     for (unsigned control = 0; control < 256; control++) {
         for (unsigned second = 0; second < 256; second++) {
-            size_t len = second % 6 + 1;
-            memset(in + at, 0xB5, 6);
-            in[at] = (uint8_t)control;
-            in[at + 1] = (uint8_t)second;
-            struct answer want = model(in, at + len);
-            examine(in, at + len, &want, (control + second) % 3);
-            want = model(in, at + 2);
-            examine(in, at + 2, &want, (control + second + 1) % 3);
+            examine_content(bare, bare_len, control, second, second % 6 + 1);
+            if (second % 8) examine_content(bare, bare_len, control, second, 2);
+            else examine_content(routed, routed_len, control, second, 2);
         }
     }
     set_end();
@@ -165,9 +161,10 @@ static const uint8_t known_pids[] = {0x01, 0x06, 0x07, 0x08, 0xC3, 0xC4, 0xCA, 0
 
 enum { SCRATCH = 1024 };
 
-/* One address group: mostly letters, mostly with the reserved bits. */
+/* One address group: mostly letters, now and then with spaces after them, mostly with the reserved bits. */
 static size_t random_group(uint8_t *out) {
-    for (int i = 0; i < 6; i++) out[i] = (uint8_t)((one_in(6) ? below(128) : 'A' + below(26)) << 1);
+    unsigned characters = one_in(3) ? below(6) : 6;
+    for (unsigned i = 0; i < 6; i++) out[i] = (uint8_t)((i >= characters ? ' ' : one_in(6) ? below(128) : 'A' + below(26)) << 1);
     out[6] = (uint8_t)(below(2) << 7 | (one_in(8) ? below(4) << 5 : 0x60) | below(16) << 1);
     return 7;
 }
@@ -257,6 +254,8 @@ static void run_random(unsigned long thousands, uint64_t seed) {
     set_begin("random frames");
     for (unsigned long n = thousands * 400; n > 0; n--) examine_one(in, random_frame(in));
     set_end();
+    say(relays_owed(0) >= thousands && relays_owed(22) >= thousands && relays_owed(41) >= thousands && relays_owed(42) >= thousands,
+        "one random frame in four hundred or more reaches each number of relaying");
     set_begin("canonical frames and damaged copies of them");
     for (unsigned long n = thousands * 100; n > 0; n--) {
         size_t len = random_frame(in);
@@ -285,7 +284,7 @@ static void run_long(void) {
     static uint8_t in[LONGEST];
     static const size_t lengths[] = {255, 256, 257, 4095, 4096, 4097, 65535, 65536, 65537, LONGEST};
     uint8_t frame[64];
-    size_t len = from_hex(FRAME, frame);
+    size_t len = from_hex(ROUTED "03 F0 4F 4B", frame), control = len - 4;
     set_begin("inputs of up to 1,048,576 octets");
     for (size_t i = 0; i < sizeof lengths / sizeof *lengths; i++) {
         struct answer want;
@@ -302,10 +301,10 @@ static void run_long(void) {
         memcpy(in, frame, len);
         want = model(in, all);
         examine_everywhere(in, all, &want);
-        in[14] = 0x01;
+        in[control] = 0x01;
         want = model(in, all);
         examine_everywhere(in, all, &want);
-        in[14] = 0x87;
+        in[control] = 0x87;
         want = model(in, all);
         examine_everywhere(in, all, &want);
     }
@@ -322,6 +321,7 @@ int main(int argc, char **argv) {
     run_short();
     run_contents();
     run_long();
+    run_relays();
     run_random(thousands, seed);
     return failures() != 0;
 }

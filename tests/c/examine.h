@@ -1,4 +1,4 @@
-/* All that the four calls owe on one input, looked at. Inputs come in sets; each set prints one line a check. */
+/* All that the five calls owe on one input, looked at. Inputs come in sets; each set prints one line a check. */
 #ifndef EXAMINE_H
 #define EXAMINE_H
 
@@ -11,11 +11,24 @@ void set_begin(const char *name);
 void set_end(void);
 void set_end_brief(void); /* one line for all checks */
 
-/* Every call, in one of the places that a buffer can have, held to the answer. */
+/* Every call, in one of the places that a buffer can have, held to the answer. The relay is held to the model: by the station that
+   is due, and by one that differs from it in one bit or is none. */
 void examine(const uint8_t *in, size_t len, const struct answer *want, unsigned place);
 
 /* The same in every place. */
 void examine_everywhere(const uint8_t *in, size_t len, const struct answer *want);
+
+/* The relay alone, by one station: held to the answer, and where that is 0 once more, held to the model. The place is that of
+   both buffers: each of the frame's with each of the callsign's. */
+enum { RELAY_PLACES = 9 };
+void examine_relay(const struct address *own, const uint8_t *in, size_t len, const struct relayed *want, unsigned place);
+void examine_relay_everywhere(const struct address *own, const uint8_t *in, size_t len, const struct relayed *want);
+
+/* How many relays of this set were owed that number. */
+unsigned long relays_owed(unsigned number);
+
+/* Octets from their hex digits; gives how many. */
+size_t from_hex(const char *text, uint8_t *octets);
 
 /* One check by itself: a line `ok: ..` or `FAILED: ..`. */
 void say(int holds, const char *what);

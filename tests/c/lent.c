@@ -3,6 +3,7 @@
 
 #include <stdio.h>
 #include <stdlib.h>
+#include <string.h>
 #include <sys/mman.h>
 
 /* More than any page of a host, so that an emulator with larger pages than the program's protects it too. */
@@ -31,14 +32,32 @@ uint8_t fresh_paint(void) {
     return (uint8_t)(turn * 37);
 }
 
-static uint8_t guard_octet(const struct lent *l, const uint8_t *at) { return (uint8_t)(l->paint ^ (uintptr_t)at); }
+/* A guard is written and read by words of eight octets, which differ from place to place and from paint to paint. */
+static uint64_t guard_word(const struct lent *l, size_t i) { return (l->paint + i + 1) * 0x9E3779B97F4A7C15u; }
 
-/* The guards that lie inside the arena: [*low, at) and [at + len, *high). */
-static void guard_bounds(const struct lent *l, uint8_t **low, uint8_t **high) {
-    uint8_t *top = l->arena->base + l->arena->size;
+/* The guard before the buffer and the one after it; NULL at the arena's edge, where a forbidden page stands in its place. A buffer
+   that does not touch the edge is GUARD octets or more away from it. */
+static uint8_t *guard_before(const struct lent *l) { return l->at == l->arena->base ? NULL : l->at - GUARD; }
+
+static uint8_t *guard_after(const struct lent *l) {
     uint8_t *end = l->at + l->len;
-    *low = (size_t)(l->at - l->arena->base) < GUARD ? l->arena->base : l->at - GUARD;
-    *high = (size_t)(top - end) < GUARD ? top : end + GUARD;
+    return end == l->arena->base + l->arena->size ? NULL : end;
+}
+
+static void paint_guard(const struct lent *l, uint8_t *guard) {
+    for (size_t i = 0; guard && i < GUARD; i += 8) {
+        uint64_t word = guard_word(l, i);
+        memcpy(guard + i, &word, 8);
+    }
+}
+
+static int guard_holds(const struct lent *l, const uint8_t *guard) {
+    for (size_t i = 0; guard && i < GUARD; i += 8) {
+        uint64_t word;
+        memcpy(&word, guard + i, 8);
+        if (word != guard_word(l, i)) return 0;
+    }
+    return 1;
 }
 
 struct lent lend(const struct arena *arena, enum place place, size_t len) {
@@ -50,19 +69,9 @@ struct lent lend(const struct arena *arena, enum place place, size_t len) {
     l.at = arena->base;
     if (place == HIGH) l.at += arena->size - len;
     if (place == MIDDLE) l.at += GUARD + turn++ % 16;
-    uint8_t *low, *high;
-    guard_bounds(&l, &low, &high);
-    for (uint8_t *p = low; p < l.at; p++) *p = guard_octet(&l, p);
-    for (uint8_t *p = l.at + len; p < high; p++) *p = guard_octet(&l, p);
+    paint_guard(&l, guard_before(&l));
+    paint_guard(&l, guard_after(&l));
     return l;
 }
 
-int guards_hold(const struct lent *l) {
-    uint8_t *low, *high;
-    guard_bounds(l, &low, &high);
-    for (uint8_t *p = low; p < l->at; p++)
-        if (*p != guard_octet(l, p)) return 0;
-    for (uint8_t *p = l->at + l->len; p < high; p++)
-        if (*p != guard_octet(l, p)) return 0;
-    return 1;
-}
+int guards_hold(const struct lent *l) { return guard_holds(l, guard_before(l)) && guard_holds(l, guard_after(l)); }

@@ -6,9 +6,14 @@
 int main() {
     const uint8_t frame[] = {0x8E, 0x82, 0xAA, 0x8E, 0x8A, 0x40, 0xE0, 0x84, 0x9E, 0xB0, 0x62, 0x64, 0x40, 0x67, 0x01, 0xAA};
     uint8_t out[sizeof frame] = {};
+    uint8_t routed[] = {0x8E, 0x82, 0xAA, 0x8E, 0x8A, 0x40, 0xE0, 0x84, 0x9E, 0xB0, 0x62, 0x64, 0x40, 0x66,
+                        0x90, 0x92, 0x98, 0x98, 0x62, 0x40, 0x65, 0x01};
+    const uint8_t hill[] = {'H', 'I', 'L', 'L', '1'};
     bool held = ax25_decode(frame, sizeof frame) == AX25_ACCEPTED && ax25_canonical(frame, sizeof frame) == 0 &&
                 ax25_reencoded_length(frame, sizeof frame) == 15 && ax25_reencode(frame, sizeof frame, out, 15) == AX25_ACCEPTED &&
-                ax25_reencode(frame, sizeof frame, out, 14) == AX25_NO_ROOM && out[14] == 0x01 && out[15] == 0;
+                ax25_reencode(frame, sizeof frame, out, 14) == AX25_NO_ROOM && out[14] == 0x01 && out[15] == 0 &&
+                ax25_relay(hill, sizeof hill, 2, routed, sizeof routed) == AX25_ACCEPTED && routed[20] == 0xE5 &&
+                ax25_relay(hill, sizeof hill, 2, routed, sizeof routed) == AX25_ROUTE_USED_UP;
     printf("%s: a C++ program links the archive\n", held ? "ok" : "FAILED");
     return held ? 0 : 1;
 }

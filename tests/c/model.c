@@ -11,6 +11,7 @@ struct station {
 };
 
 struct fields {
+    size_t start;                           /* of the frame in the input */
     struct station destination, source, repeaters[8];
     size_t repeater_count;
     enum mark mark;
@@ -101,6 +102,7 @@ static unsigned read_frame(struct fields *f, const uint8_t *in, size_t len) {
     size_t count = (span - 14) / 7;
     if (count >= 9) return 9;
 
+    f->start = start;
     f->destination = read_station(in + start);
     f->source = read_station(in + start + 7);
     f->repeater_count = count;
@@ -165,4 +167,50 @@ struct answer model(const uint8_t *in, size_t len) {
     a.length = written_len;
     a.canonical = written_len == len && memcmp(written, in, len) == 0;
     return a;
+}
+
+/* Hops: the due place equals the hops used, which is the number of marks. */
+static size_t due_place(const struct fields *f) {
+    size_t used = 0;
+    for (size_t i = 0; i < f->repeater_count; i++) used += f->repeaters[i].mark;
+    return used;
+}
+
+static int is_encodable(const struct address *own) {
+    int holds = own->len <= 6 && own->ssid <= 15;
+    for (size_t i = 0; holds && i < own->len; i++) holds = own->callsign[i] < 128;
+    return holds;
+}
+
+static int is_ours(const struct address *own, const struct station *s) {
+    uint8_t padded[6] = {' ', ' ', ' ', ' ', ' ', ' '};
+    memcpy(padded, own->callsign, own->len);
+    return memcmp(padded, s->callsign, 6) == 0 && own->ssid == s->ssid;
+}
+
+struct relayed model_relay(const struct address *own, const uint8_t *in, size_t len, uint8_t *out) {
+    struct fields f;
+    struct relayed r = {22, out, 0};
+    memcpy(out, in, len);
+    if (!is_encodable(own)) return r;
+    r.number = read_frame(&f, in, len);
+    if (r.number != 0) return r;
+    size_t due = due_place(&f);
+    if (due == f.repeater_count) r.number = 41;
+    else if (!is_ours(own, &f.repeaters[due])) r.number = 42;
+    else {
+        r.due = due;
+        out[f.start + 7 * (2 + due) + 6] |= 0x80;
+    }
+    return r;
+}
+
+uint8_t model_station(const uint8_t *in, size_t len, uint8_t callsign[6]) {
+    struct fields f;
+    memset(&f, 0, sizeof f);
+    read_frame(&f, in, len);
+    size_t due = due_place(&f);
+    const struct station *s = due < f.repeater_count ? &f.repeaters[due] : due > 0 ? &f.repeaters[due - 1] : &f.source;
+    memcpy(callsign, s->callsign, 6);
+    return (uint8_t)s->ssid;
 }

@@ -1,4 +1,5 @@
-/* Document 01's rules of reading and writing, written once more in C from its words: what the calls must say of any octets. */
+/* Document 01's rules of reading and writing and document 02's of relaying, written once more in C from their words: what the
+   calls must say of any octets. */
 #ifndef MODEL_H
 #define MODEL_H
 
@@ -16,5 +17,25 @@ struct answer {
 
 /* The answer for any octets up to LONGEST. What `reencoded` points to holds until the next call. */
 struct answer model(const uint8_t *in, size_t len);
+
+/* A station's address, as ax25_relay is given its own. */
+struct address {
+    const uint8_t *callsign;
+    size_t len;
+    uint8_t ssid;
+};
+
+struct relayed {
+    unsigned number;
+    const uint8_t *octets; /* what the buffer holds afterwards, as many as before */
+    size_t due;            /* the due place; 0 where the number is not 0 */
+};
+
+/* The answer for relaying any octets up to LONGEST. `out`, which has room for them, gets what `octets` then points to. */
+struct relayed model_relay(const struct address *own, const uint8_t *in, size_t len, uint8_t *out);
+
+/* The six characters and, as its result, the SSID of the station to ask for relaying these octets: the one at the due place, or
+   where no place is due the last that sent the frame. */
+uint8_t model_station(const uint8_t *in, size_t len, uint8_t callsign[6]);
 
 #endif

@@ -1,4 +1,4 @@
-/* Compiles only where the header's numbers are document 01's. */
+/* Compiles only where the header's numbers are those of documents 01 and 02. */
 #include "ax25.h"
 
 #define IS(name, number) _Static_assert((name) == (number), #name " is not " #number)
@@ -22,5 +22,7 @@ IS(AX25_INVALID_FORMAT, 32);
 IS(AX25_INVALID_SSID, 33);
 IS(AX25_SSID_OUT_OF_RANGE, 34);
 IS(AX25_NOT_ASCII, 35);
+IS(AX25_ROUTE_USED_UP, 41);
+IS(AX25_ANOTHER_STATION, 42);
 IS(AX25_INPUT_TOO_LONG, 50);
 IS(AX25_STACK <= 3072, 1);

@@ -13,8 +13,8 @@
 
 static _Alignas(16) uint8_t stack[SIZE];
 
-/* Calls `call` with four arguments on the stack that ends at `top`, which is aligned to 16. */
-uint64_t on_stack(uint8_t *top, uint64_t call, uint64_t a, uint64_t b, uint64_t c, uint64_t d);
+/* Calls `call` with five arguments on the stack that ends at `top`, which is aligned to 16. */
+uint64_t on_stack(uint8_t *top, uint64_t call, uint64_t a, uint64_t b, uint64_t c, uint64_t d, uint64_t e);
 __asm__(".text\n"
         ".type on_stack, @function\n"
         "on_stack:\n"
@@ -26,14 +26,15 @@ __asm__(".text\n"
         "    movq %rcx, %rsi\n"
         "    movq %r8, %rdx\n"
         "    movq %r9, %rcx\n"
+        "    movq 16(%rbp), %r8\n"
         "    callq *%rax\n"
         "    movq %rbp, %rsp\n"
         "    popq %rbp\n"
         "    retq\n"
         ".size on_stack, . - on_stack\n");
 
-enum call { DECODE, CANONICAL, LENGTH, REENCODE, CALLS };
-static const char *const names[CALLS] = {"ax25_decode", "ax25_canonical", "ax25_reencoded_length", "ax25_reencode"};
+enum call { DECODE, CANONICAL, LENGTH, REENCODE, RELAY, CALLS };
+static const char *const names[CALLS] = {"ax25_decode", "ax25_canonical", "ax25_reencoded_length", "ax25_reencode", "ax25_relay"};
 static size_t deepest[CALLS];
 
 static uint8_t in[1024], out[1024];
@@ -44,22 +45,33 @@ static uint64_t address_of(enum call call) {
     case DECODE: return (uint64_t)(uintptr_t)ax25_decode;
     case CANONICAL: return (uint64_t)(uintptr_t)ax25_canonical;
     case LENGTH: return (uint64_t)(uintptr_t)ax25_reencoded_length;
-    default: return (uint64_t)(uintptr_t)ax25_reencode;
+    case REENCODE: return (uint64_t)(uintptr_t)ax25_reencode;
+    default: return (uint64_t)(uintptr_t)ax25_relay;
     }
 }
 
-static size_t used_by(enum call call, size_t room, uint8_t paint) {
+static uint64_t pointer(const void *at) { return (uint64_t)(uintptr_t)at; }
+
+/* The relay is by AAAAAA, the callsign of every repeater of `make`, whose SSID is 0. */
+static size_t used_by(enum call call, size_t room, uint8_t ssid, uint8_t paint) {
     memset(stack + SIZE - PAINTED, paint, PAINTED);
-    on_stack(stack + SIZE, address_of(call), (uint64_t)(uintptr_t)in, in_len, (uint64_t)(uintptr_t)out, room);
+    if (call == RELAY) {
+        memcpy(out, in, in_len);
+        on_stack(stack + SIZE, address_of(call), pointer("AAAAAA"), 6, ssid, pointer(out), in_len);
+    } else {
+        on_stack(stack + SIZE, address_of(call), pointer(in), in_len, pointer(out), room, 0);
+    }
     size_t low = SIZE - PAINTED;
     while (low < SIZE && stack[low] == paint) low++;
     return SIZE - low;
 }
 
+/* The relay by the station that is due, by another, and by one that is none. */
 static void measure(size_t room) {
+    static const uint8_t ssids[] = {0, 1, 16};
     for (int call = 0; call < CALLS; call++) {
-        for (int turn = 0; turn < 2; turn++) {
-            size_t used = used_by((enum call)call, room, turn ? 0x5A : 0xA5);
+        for (int turn = 0; turn < (call == RELAY ? 6 : 2); turn++) {
+            size_t used = used_by((enum call)call, room, ssids[turn / 2], turn % 2 ? 0x5A : 0xA5);
             if (used > deepest[call]) deepest[call] = used;
         }
     }

@@ -1,0 +1,261 @@
+#include "relays.h"
+
+#include <stdio.h>
+#include <string.h>
+
+#include "ax25.h"
+#include "examine.h"
+
+/* GAUGE and BOX12-3; repeaters without their last octet, which has the SSID, the mark and the end bit; four repeaters HILL1-2. */
+#define PEERS "8E 82 AA 8E 8A 40 E0 84 9E B0 62 64 40 66 "
+#define HILL1 "90 92 98 98 62 40 "
+#define HILL2 "90 92 98 98 64 40 "
+#define SPACES "40 40 40 40 40 40 "
+#define FOUR HILL1 "64 " HILL1 "64 " HILL1 "64 " HILL1 "64 "
+
+/* Document 02, M-100: what it says of each, worked out by hand. A refusal leaves the frame as it was. */
+static const struct {
+    const char *name, *input, *callsign;
+    uint8_t ssid;
+    unsigned number;
+    const char *after;
+} examples[] = {
+    {"relayed: a PID of 20 hex stays", PEERS HILL1 "65 03 20 4F 4B", "HILL1", 2, 0, PEERS HILL1 "E5 03 20 4F 4B"},
+    {"relayed: as the second of two", PEERS HILL2 "E4 " HILL1 "65 01", "HILL1", 2, 0, PEERS HILL2 "E4 " HILL1 "E5 01"},
+    {"relayed: as the first of two", PEERS HILL1 "64 " HILL2 "65 01", "HILL1", 2, 0, PEERS HILL1 "E4 " HILL2 "65 01"},
+    {"relayed: twice in one route", PEERS HILL1 "64 " HILL1 "65 01", "HILL1", 2, 0, PEERS HILL1 "E4 " HILL1 "65 01"},
+    {"relayed: nulls stay", "00 00 00 " PEERS HILL1 "65 01", "HILL1", 2, 0, "00 00 00 " PEERS HILL1 "E5 01"},
+    {"relayed: leftover octets stay", PEERS HILL1 "64 00 41 01", "HILL1", 2, 0, PEERS HILL1 "E4 00 41 01"},
+    {"relayed: a tail stays", PEERS HILL1 "65 01 AA 55", "HILL1", 2, 0, PEERS HILL1 "E5 01 AA 55"},
+    {"relayed: clear reserved bits stay", PEERS HILL1 "05 01", "HILL1", 2, 0, PEERS HILL1 "85 01"},
+    {"relayed: FRMR's unnamed bits stay", PEERS HILL1 "65 87 F1 03 44", "HILL1", 2, 0, PEERS HILL1 "E5 87 F1 03 44"},
+    {"relayed: a callsign with its padding", PEERS HILL1 "65 01", "HILL1 ", 2, 0, PEERS HILL1 "E5 01"},
+    {"relayed: a callsign of spaces, as an empty one", PEERS SPACES "65 01", "", 2, 0, PEERS SPACES "E5 01"},
+    {"relayed: broken marks, where ours is set already", PEERS HILL2 "E4 " HILL2 "64 " HILL1 "E5 01", "HILL1", 2, 0,
+        PEERS HILL2 "E4 " HILL2 "64 " HILL1 "E5 01"},
+    {"not relayed: broken marks, where ours is the first without", PEERS HILL2 "E4 " HILL1 "64 " HILL2 "E5 01", "HILL1", 2, 42, NULL},
+    {"not relayed: nothing", "", "HILL1", 2, 1, NULL},
+    {"not relayed: no end of the addresses", PEERS HILL1 "64 02 20", "HILL1", 2, 2, NULL},
+    {"not relayed: too short an address field", "8E 82 AA 8E 8A 40 E0 84 9E B0 62 64 41 03 20", "HILL1", 2, 3, NULL},
+    {"not relayed: no content", PEERS HILL1 "65", "HILL1", 2, 4, NULL},
+    {"not relayed: nine repeaters", PEERS FOUR FOUR HILL1 "65 01", "HILL1", 2, 9, NULL},
+    {"not relayed: UI without PID", PEERS HILL1 "65 03", "HILL1", 2, 5, NULL},
+    {"not relayed: SREJ", PEERS HILL1 "65 0D", "HILL1", 2, 6, NULL},
+    {"not relayed: SABME", PEERS HILL1 "65 6F", "HILL1", 2, 7, NULL},
+    {"not relayed: FRMR of three octets", PEERS HILL1 "65 87 01 02", "HILL1", 2, 8, NULL},
+    {"not relayed: no repeater", "8E 82 AA 8E 8A 40 E0 84 9E B0 62 64 40 67 03 20", "BOX12", 3, 41, NULL},
+    {"not relayed: six octets left over are no repeater", PEERS "90 92 98 98 62 41 03 20", "HILL1", 2, 41, NULL},
+    {"not relayed: every repeater is marked", PEERS HILL2 "E4 " HILL1 "E5 01", "HILL1", 2, 41, NULL},
+    {"not relayed: another callsign", PEERS HILL2 "65 01", "HILL1", 2, 42, NULL},
+    {"not relayed: another SSID", PEERS HILL1 "65 01", "HILL1", 3, 42, NULL},
+    {"not relayed: lower case", PEERS HILL1 "65 01", "hill1", 2, 42, NULL},
+    {"not relayed: ours is next but one", PEERS HILL2 "64 " HILL1 "65 01", "HILL1", 2, 42, NULL},
+    {"not relayed: a callsign cut short", PEERS HILL1 "65 01", "HILL", 2, 42, NULL},
+};
+
+/* Own addresses that are none. The first six octets and the low bits of each are HILL1-2, so that nothing else tells. */
+static const struct {
+    const char *name, *callsign;
+    uint8_t ssid;
+} none[] = {
+    {"seven octets", "HILL1  ", 2},
+    {"an octet of 128 or more", "HILL\xB1", 2},
+    {"an SSID over 15", "HILL1", 18},
+};
+
+static struct address station(const char *callsign, uint8_t ssid) {
+    struct address a = {(const uint8_t *)callsign, strlen(callsign), ssid};
+    return a;
+}
+
+static void run_examples(void) {
+    uint8_t in[128], after[128], modelled[128];
+    int agree = 1;
+    for (size_t i = 0; i < sizeof examples / sizeof *examples; i++) {
+        struct address own = station(examples[i].callsign, examples[i].ssid);
+        size_t len = from_hex(examples[i].input, in);
+        from_hex(examples[i].after ? examples[i].after : examples[i].input, after);
+        struct relayed model_says = model_relay(&own, in, len, modelled);
+        struct relayed want = {examples[i].number, after, model_says.due};
+        agree = agree && model_says.number == want.number && memcmp(modelled, after, len) == 0;
+        set_begin(examples[i].name);
+        examine_relay_everywhere(&own, in, len, &want);
+        set_end_brief();
+    }
+    say(agree, "the model that relaying is held to gives these examples");
+}
+
+/* An own address that is none comes before every number of the frame. */
+static void run_none(void) {
+    uint8_t in[128];
+    for (size_t n = 0; n < sizeof none / sizeof *none; n++) {
+        char name[80];
+        struct address own = station(none[n].callsign, none[n].ssid);
+        snprintf(name, sizeof name, "an own address with %s, on each of these", none[n].name);
+        set_begin(name);
+        for (size_t i = 0; i < sizeof examples / sizeof *examples; i++) {
+            size_t len = from_hex(examples[i].input, in);
+            struct relayed want = {AX25_NOT_ENCODABLE, in, 0};
+            examine_relay_everywhere(&own, in, len, &want);
+        }
+        set_end_brief();
+    }
+}
+
+/* Eight stations, each near to another: by SSID, by case, by length. */
+static const struct {
+    const char *callsign;
+    uint8_t ssid;
+} route[8] = {{"HILL1", 2}, {"HILL1", 3}, {"HILL11", 2}, {"HILL", 2}, {"hill1", 2}, {"", 0}, {"", 15}, {"1", 0}};
+
+struct frame {
+    size_t nulls, repeaters, leftover;
+    unsigned marks, reserved; /* bit i: the mark of place i; the reserved bits of each address, 0 to 3 */
+    const char *content;
+};
+
+/* A group without end bit: the callsign, padded. */
+static size_t put_group(uint8_t *out, const struct address *of, unsigned mark, unsigned reserved) {
+    for (size_t i = 0; i < 6; i++) out[i] = (uint8_t)((i < of->len ? of->callsign[i] : ' ') << 1);
+    out[6] = (uint8_t)(mark << 7 | reserved << 5 | of->ssid << 1);
+    return 7;
+}
+
+static size_t make(const struct frame *f, uint8_t *out) {
+    const struct address gauge = station("GAUGE", 0), box = station("BOX12", 3);
+    size_t len = f->nulls;
+    memset(out, 0, len);
+    len += put_group(out + len, &gauge, 1, f->reserved);
+    len += put_group(out + len, &box, 0, f->reserved);
+    for (size_t i = 0; i < f->repeaters; i++) {
+        const struct address repeater = station(route[i].callsign, route[i].ssid);
+        len += put_group(out + len, &repeater, f->marks >> i & 1, f->reserved);
+    }
+    for (size_t i = 0; i < f->leftover; i++) out[len++] = 0x80;
+    out[len - 1] |= 1;
+    return len + from_hex(f->content, out + len);
+}
+
+static unsigned ones(unsigned marks) { return marks ? (marks & 1) + ones(marks >> 1) : 0; }
+
+/* One frame, relayed by one station of the route. */
+static void relay_made(const struct frame *f, size_t who) {
+    static unsigned turn;
+    uint8_t in[256], after[256];
+    size_t len = make(f, in), due = ones(f->marks);
+    struct address own = station(route[who].callsign, route[who].ssid);
+    struct frame marked = *f;
+    struct relayed want = {due == f->repeaters ? 41 : who == due ? 0 : 42, after, due};
+    if (want.number == 0) marked.marks |= 1u << due;
+    make(&marked, after);
+    examine_relay(&own, in, len, &want, turn++ % RELAY_PLACES);
+}
+
+/* Marks in order, broken marks, all of them and none. */
+static void run_marks(void) {
+    struct frame f = {0, 0, 0, 0, 3, "03 20 67"};
+    set_begin("every set of marks of 1 to 8 repeaters, by each of eight stations");
+    for (f.repeaters = 1; f.repeaters <= 8; f.repeaters++)
+        for (f.marks = 0; f.marks < 1u << f.repeaters; f.marks++)
+            for (size_t who = 0; who < 8; who++) relay_made(&f, who);
+    set_end();
+}
+
+/* All that re-encoding changes: nulls, leftover octets, reserved bits, a layer 3 PID, tails, FRMR's unnamed bits. */
+static void run_kept(void) {
+    static const char *const contents[] = {"03 20 67", "00 9A", "21", "09 AA 55", "63 00", "3F FF", "87 F1 03 44"};
+    struct frame f;
+    set_begin("what re-encoding changes");
+    for (f.repeaters = 1; f.repeaters <= 8; f.repeaters += 7)
+        for (f.nulls = 0; f.nulls <= 9; f.nulls += 3)
+            for (f.leftover = 0; f.leftover <= 6; f.leftover++)
+                for (f.reserved = 0; f.reserved <= 3; f.reserved++)
+                    for (size_t i = 0; i < sizeof contents / sizeof *contents; i++) {
+                        f.marks = (1u << (i + f.leftover) % f.repeaters) - 1;
+                        f.content = contents[i];
+                        relay_made(&f, ones(f.marks));
+                    }
+    set_end();
+}
+
+/* A frame with one repeater, of a callsign of six octets and an SSID, relayed by an own address. */
+static void relay_alone(const uint8_t *callsign, uint8_t ssid, const struct address *own, unsigned number) {
+    static unsigned turn;
+    uint8_t in[32], after[32];
+    const struct address repeater = {callsign, 6, ssid};
+    size_t len = from_hex(PEERS, in);
+    len += put_group(in + len, &repeater, 0, 3);
+    in[len - 1] |= 1;
+    in[len++] = 0x01;
+    memcpy(after, in, len);
+    if (number == 0) after[20] |= 0x80;
+    struct relayed want = {number, after, 0};
+    examine_relay(own, in, len, &want, turn++ % RELAY_PLACES);
+}
+
+/* A callsign of any number of octets stands for that with spaces after it, up to six; more are refused. */
+static void run_lengths(void) {
+    static uint8_t callsign[65542];
+    static const size_t too_long[] = {7, 8, 255, 256, 262, 65536, 65542};
+    set_begin("callsigns of 0 to 6 octets, and of 7 and more");
+    for (size_t letters = 0; letters <= 6; letters++) {
+        memset(callsign, ' ', sizeof callsign);
+        memcpy(callsign, "ABCDEF", letters);
+        struct address own = {callsign, 0, 7};
+        for (; own.len <= 6; own.len++) relay_alone(callsign, 7, &own, own.len < letters ? 42 : 0);
+        for (size_t i = 0; i < sizeof too_long / sizeof *too_long; i++) {
+            own.len = too_long[i];
+            relay_alone(callsign, 7, &own, 22);
+        }
+    }
+    set_end();
+}
+
+static void run_characters(void) {
+    set_begin("every character at every place, and each that differs in one bit");
+    for (size_t at = 0; at < 6; at++)
+        for (unsigned character = 0; character < 128; character++) {
+            uint8_t repeater[6] = "ABCDEF", callsign[6];
+            repeater[at] = (uint8_t)character;
+            memcpy(callsign, repeater, 6);
+            struct address own = {callsign, 6, 7};
+            relay_alone(repeater, 7, &own, 0);
+            for (unsigned bit = 0; bit < 8; bit++) {
+                callsign[at] = (uint8_t)(character ^ 1u << bit);
+                relay_alone(repeater, 7, &own, bit < 7 ? 42 : 22);
+            }
+        }
+    set_end();
+}
+
+static void run_ssids(void) {
+    uint8_t callsign[6] = "ABCDEF";
+    set_begin("every SSID by every SSID");
+    for (uint8_t ssid = 0; ssid < 16; ssid++)
+        for (unsigned ours = 0; ours < 256; ours++) {
+            struct address own = {callsign, 6, (uint8_t)ours};
+            relay_alone(callsign, ssid, &own, ours > 15 ? 22 : ours == ssid ? 0 : 42);
+        }
+    set_end();
+}
+
+/* Where a length is 0, any pointer that is not null will do. */
+static void run_empty(void) {
+    uint8_t *nowhere = (uint8_t *)(uintptr_t)1, frame[32];
+    size_t len = from_hex(PEERS SPACES "65 01", frame);
+    say(ax25_relay(nowhere, 0, 2, nowhere, 0) == 1, "ax25_relay of nothing by an empty callsign is 1");
+    say(ax25_relay(nowhere, 0, 16, nowhere, 0) == 22, "ax25_relay of nothing by an SSID of 16 is 22");
+    say(ax25_relay(nowhere, 0, 2, frame, len) == 0 && frame[20] == 0xE5,
+        "ax25_relay by an empty callsign at a pointer that leads nowhere marks the repeater whose callsign is spaces");
+}
+
+void run_relays(void) {
+    run_examples();
+    run_none();
+    run_marks();
+    run_kept();
+    run_lengths();
+    run_characters();
+    run_ssids();
+    run_empty();
+}
