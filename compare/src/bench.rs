@@ -144,44 +144,51 @@ fn reencode(inputs: &[Vec<u8>]) -> [f64; 2] {
     race(inputs.len(), [&mut timed(port), &mut timed(rust)])
 }
 
+/// So many copies of a frame are passed on in turn, after their marks were cleared: a processor that is to read octets just as one of
+/// them was stored waits for that, which is no part of a relay.
+const COPIES: usize = 64;
+
 /// Passing a frame on, by the station that is due; none where some input has no place that is due and not marked. The mark is cleared
 /// again before each run, so that each sets it: that one store is part of the port's time. The Rust has no relay: its caller would
 /// decode the frame, set the mark in its route, and write it anew.
 fn relay(inputs: &[Vec<u8>]) -> Option<[f64; 2]> {
-    let mut passed_on = inputs.iter().map(|input| PassedOn::of(input)).collect::<Option<Vec<_>>>()?;
-    let rust: Vec<_> = passed_on.iter().map(|frame| (frame.octets.clone(), frame.due)).collect();
-    let port = move || passed_on.iter_mut().for_each(|frame| keep(&frame.relay()));
-    let rust = move || {
-        for (input, due) in &rust {
-            keep(&Ax25Frame::from_bytes(input).map(|mut frame| {
+    let copies = inputs.iter().flat_map(|input| std::iter::repeat(input).take(COPIES));
+    let mut frames = copies.map(|input| OnItsWay::of(input)).collect::<Option<Vec<_>>>()?;
+    let received: Vec<_> = frames.iter().map(|frame| (frame.octets.clone(), frame.due)).collect();
+    assert!(frames.iter_mut().all(|frame| frame.relay() == 0));
+    let port = move || {
+        frames.iter_mut().for_each(|frame| frame.octets[frame.mark] &= 0x7F);
+        frames.iter_mut().for_each(|frame| keep(&frame.relay()));
+    };
+    let rust = || {
+        for (octets, due) in &received {
+            keep(&Ax25Frame::from_bytes(octets).map(|mut frame| {
                 frame.route[*due].has_repeated = true;
                 frame.to_bytes()
             }));
         }
     };
-    Some(race(inputs.len(), [&mut timed(port), &mut timed(rust)]))
+    let times = race(received.len(), [&mut timed(port), &mut timed(rust)]);
+    Some(times)
 }
 
-/// A frame on its way, the place that is due, where its mark stands, and who is there.
-struct PassedOn {
+/// A frame, the place that is due and not marked, where its mark stands, and who is there.
+struct OnItsWay {
     octets: Vec<u8>,
     due: usize,
     mark: usize,
     own: Own,
 }
 
-impl PassedOn {
-    fn of(input: &[u8]) -> Option<PassedOn> {
+impl OnItsWay {
+    fn of(input: &[u8]) -> Option<OnItsWay> {
         let frame = Ax25Frame::from_bytes(input).ok()?;
         let [_, _, due] = domain::hops(&flat::of_frame(&frame));
         let own = relays::of_route(&frame).into_iter().nth(due).filter(|_| !frame.route[due].has_repeated)?;
-        let mut passed_on = PassedOn { octets: input.to_vec(), due, mark: domain::mark_at(input, due), own };
-        assert_eq!(passed_on.relay(), 0);
-        Some(passed_on)
+        Some(OnItsWay { octets: input.to_vec(), due, mark: domain::mark_at(input, due), own })
     }
 
     fn relay(&mut self) -> u32 {
-        self.octets[self.mark] &= 0x7F;
         bare::relay(&self.own.callsign, self.own.ssid, &mut self.octets)
     }
 }
