@@ -104,7 +104,7 @@ def listed(part):
 
 
 def relays(part):
-    return f"{part['relayed_routes']} frames with a route were relayed by each of their repeaters, which makes {part['relays']} relays, {part['relayed']} of them passed on."
+    return f"{part['relayed_routes']} frames with a route were relayed by each of their repeaters: {part['relays']} relays, {part['relayed']} of them passed on."
 
 
 def rooms(part):

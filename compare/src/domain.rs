@@ -1,5 +1,5 @@
-//! Document 01's domain of equality, and what the port owes outside it (docs/DIFFERENCES.md, B). And
-//! what the relay owes, which the Rust lacks. Written from the words of documents 01 and 02; neither the Rust nor the port is asked.
+//! Document 01's domain of equality, and what the port owes outside it (docs/DIFFERENCES.md, B); and what the hops and the
+//! relay owe, which the Rust lacks. Written from the words of documents 01 and 02; neither the Rust nor the port is asked.
 
 use crate::flat::{self, Flat, FlatAddress, ADDRESS, COUNT, ENTRY, FRMR, KIND, REPEATERS, ROUTE, RR};
 

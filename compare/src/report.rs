@@ -110,7 +110,8 @@ fn mismatch_json(mismatch: &Mismatch) -> String {
 /// The totals of a run, printed and for the JSON.
 pub fn totals(report: &mut Report, seen: &Seen) {
     let (relays, relayed) = seen.relay_counts();
-    println!("decodes compared: {}; writes compared: {}; relays compared: {}, {} of them passed on", seen.decodes, seen.writes, relays, relayed);
+    println!("decodes compared: {}; writes compared: {}", seen.decodes, seen.writes);
+    println!("relays compared: {}, {} of them passed on", relays, relayed);
     let numbers = seen.number_counts();
     let said: Vec<String> = numbers.iter().map(|(number, count)| format!("{}: {}", number, count)).collect();
     println!("decode numbers: {}", said.join(", "));
