@@ -142,8 +142,9 @@ unsafe extern "C" fn __wrap_ax25_relay(callsign: *const u8, callsign_len: usize,
         let passed_on = (0..16).any(|ssid| __real_ax25_relay(callsign, callsign_len, ssid, frame, frame_len) == 0);
         return if passed_on { 0 } else { 42 };
     }
-    if is("the relay looks at the frame before our own address") && number == 22 {
-        return [__real_ax25_decode(frame, frame_len), number].into_iter().find(|&number| number != 0).unwrap_or(0);
+    let decoded = __real_ax25_decode(frame, frame_len);
+    if is("the relay looks at the frame before our own address") && decoded != 0 {
+        return decoded;
     }
     match octets.iter().zip(&before).position(|(after, before)| after != before) {
         Some(at) if is("the relay marks the next place") && at + 7 < frame_len => {

@@ -15,31 +15,7 @@ pub fn with_content(content: &[u8]) -> Vec<u8> {
     [&FRAME[..FIELD], content].concat()
 }
 
-/// Document 01's example with repeaters, each named after a number, and marked or not.
-pub fn with_route(route: impl Iterator<Item = (usize, bool)>, content: &[u8]) -> Vec<u8> {
-    let last = |i: usize, marked| 0x30 | (i % 16) as u8 | if marked { 0x40 } else { 0 };
-    let name = |i: usize| b'0' + (i % 10) as u8;
-    with_groups(route.map(|(i, marked)| [b'R', b'E', b'L', b'A', b'Y', name(i), last(i, marked)]), content)
-}
-
-/// One repeater that is not marked: this address, or what its bits leave of it.
-pub fn with_repeater(address: &FlatAddress, content: &[u8]) -> Vec<u8> {
-    let mut group = *address;
-    group[6] = 0x30 | group[6] & 0x0F;
-    with_groups(std::iter::once(group), content)
-}
-
-/// Document 01's example with repeaters, each group given before it is shifted.
-fn with_groups(groups: impl Iterator<Item = [u8; 7]>, content: &[u8]) -> Vec<u8> {
-    let mut octets = FRAME[..FIELD].to_vec();
-    octets[FIELD - 1] &= 0xFE;
-    octets.extend(groups.flatten().map(|character| character << 1));
-    *octets.last_mut().expect("the field is not empty") |= 1;
-    octets.extend(content);
-    octets
-}
-
-/// This many repeaters, named after their places, every second one marked.
+/// Document 01's example with this many repeaters, named after their places, every second one marked.
 pub fn with_repeaters(count: usize, content: &[u8]) -> Vec<u8> {
     with_route((0..count).map(|i| (i, i % 2 == 0)), content)
 }
@@ -47,6 +23,30 @@ pub fn with_repeaters(count: usize, content: &[u8]) -> Vec<u8> {
 /// The same on its way to the last of them: all others are marked.
 pub fn before_the_last(count: usize, content: &[u8]) -> Vec<u8> {
     with_route((0..count).map(|i| (i, i + 1 < count)), content)
+}
+
+/// The same with any repeaters, each named after a number, and marked or not.
+pub fn with_route(route: impl Iterator<Item = (usize, bool)>, content: &[u8]) -> Vec<u8> {
+    let last = |i: usize, marked| 0x30 | (i % 16) as u8 | if marked { 0x40 } else { 0 };
+    let name = |i: usize| b'0' + (i % 10) as u8;
+    with_groups(route.map(|(i, marked)| [b'R', b'E', b'L', b'A', b'Y', name(i), last(i, marked)]), content)
+}
+
+/// The same with one repeater that is not marked: this address, or what the field's bits leave of it.
+pub fn with_repeater(address: &FlatAddress, content: &[u8]) -> Vec<u8> {
+    let mut group = *address;
+    group[6] = 0x30 | group[6] & 0x0F;
+    with_groups(std::iter::once(group), content)
+}
+
+/// Each group is given as it is before it is shifted.
+fn with_groups(groups: impl Iterator<Item = [u8; 7]>, content: &[u8]) -> Vec<u8> {
+    let mut octets = FRAME[..FIELD].to_vec();
+    octets[FIELD - 1] &= 0xFE;
+    octets.extend(groups.flatten().map(|character| character << 1));
+    *octets.last_mut().expect("the field is not empty") |= 1;
+    octets.extend(content);
+    octets
 }
 
 /// One content of each kind, with P/F both ways, and some that are refused.

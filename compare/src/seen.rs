@@ -15,6 +15,7 @@ const PRINT_NUMBERS: [u32; 2] = [0, 22];
 const CONTENT_NUMBERS: [u32; 7] = [0, 4, 5, 6, 7, 8, 23];
 /// The numbers that writing an input again, side by side with it, can give.
 const BESIDE_NUMBERS: [u32; 11] = [0, 1, 2, 3, 4, 5, 6, 7, 8, 9, 24];
+/// Those of the relay: the refusals in their order.
 const RELAY_NUMBERS: [u32; 13] = [0, 22, 1, 2, 3, 4, 9, 5, 6, 7, 8, 41, 42];
 const TABLE: usize = 64;
 /// The places of a search by eights that are looked at: three turns.
