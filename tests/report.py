@@ -103,6 +103,10 @@ def listed(part):
     return "Listed differences met (docs/DIFFERENCES.md): " + ", ".join(f"{n} {k} times" for n, k in part["listed"].items()) + "."
 
 
+def relays(part):
+    return f"{part['relayed_routes']} frames with a route were relayed by each of their repeaters: {part['relays']} relays, {part['relayed']} of them passed on."
+
+
 def rooms(part):
     return "Room lent to writers: " + ", ".join(f"{name} {count} times" for name, count in part["rooms"].items()) + "."
 
@@ -128,13 +132,14 @@ def markdown(report):
     if report["captures"]:
         part = report["captures"]
         out += table(["file", "format", "frames", "passed over"], [(c["file"], c["format"], c["frames"], len(c["passed_over"])) for c in part["captures"]])
-        out += ["", f"{part['decodes']} decodes and {part['writes']} writes compared; {part['accepted']} accepted, {part['canonical']} of them canonical. " + listed(part), ""]
+        out += ["", f"{part['decodes']} decodes and {part['writes']} writes compared; {part['accepted']} accepted, {part['canonical']} of them canonical. " + relays(part) + " " + listed(part), ""]
     else:
         out += ["Not compared.", ""]
     out += ["## The Rust beside the port", ""]
     if report["compared"]:
         out += classes(report["compared"])
-        out += ["", f"{report['compared']['decodes']} decodes and {report['compared']['writes']} writes compared. " + rooms(report["compared"]) + " " + listed(report["compared"]), ""]
+        part = report["compared"]
+        out += ["", f"{part['decodes']} decodes, {part['writes']} writes and {part['relays']} relays compared, {part['relayed']} of the relays passed on. " + rooms(part) + " " + listed(part), ""]
     else:
         out += ["Not compared.", ""]
     if report["ratios"]:

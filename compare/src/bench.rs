@@ -1,9 +1,11 @@
 //! Times of the port and the Rust in one process, on the same inputs, in turns. Only their ratios say something, above all
 //! where the program is emulated; no time is asserted.
 
+use crate::domain;
 use crate::flat;
 use crate::inputs;
 use crate::port::bare;
+use crate::relays::{self, Own};
 use crate::report::{self, Report};
 use ax25::frame::Ax25Frame;
 use std::time::{Duration, Instant};
@@ -59,11 +61,12 @@ struct Case {
 
 fn cases() -> Vec<Case> {
     let long_info = [&[0x03, 0xF0][..], &[0x41; 256]].concat();
-    let mut with_route = inputs::with_repeaters(8, &[0xA6, 0xF0]);
+    let mut with_route = inputs::before_the_last(8, &[0xA6, 0xF0]);
     with_route.resize(100, 0x42);
     let case = |name, input: Vec<u8>| Case { name, inputs: vec![input] };
     let mut all = vec![
         case("UI of 18 octets", inputs::FRAME.to_vec()),
+        case("UI of 25 octets, 1 repeater", inputs::before_the_last(1, &inputs::FRAME[inputs::FIELD..])),
         case("I of 100 octets, 8 repeaters", with_route),
         case("UI with 256 octets of info", inputs::with_content(&long_info)),
         case("40 nulls, refused", vec![0; 40]),
@@ -85,6 +88,9 @@ pub fn run() -> Report {
     for case in cases() {
         for (name, call) in CALLS {
             row(&mut rows, case.name, name, call(&case.inputs), &[]);
+        }
+        if let Some(times) = relay(&case.inputs) {
+            row(&mut rows, case.name, "relay", times, &[]);
         }
         if let Some([gross, reading, rust]) = encode(&case.inputs) {
             row(&mut rows, case.name, "encode", [gross - reading, rust], &[("gross_ns", format!("{:.1}", gross))]);
@@ -136,6 +142,55 @@ fn reencode(inputs: &[Vec<u8>]) -> [f64; 2] {
     let port = move || inputs.iter().for_each(|input| keep(&bare::reencode(input, &mut output)));
     let rust = || inputs.iter().for_each(|input| keep(&Ax25Frame::from_bytes(input).map(|frame| frame.to_bytes())));
     race(inputs.len(), [&mut timed(port), &mut timed(rust)])
+}
+
+/// So many copies of a frame are passed on in turn, after their marks were cleared: a processor that is to read octets just as one of
+/// them was stored waits for that, which is no part of a relay.
+const COPIES: usize = 64;
+
+/// Passing a frame on, by the station that is due; none where some input has no place that is due and not marked. The mark is cleared
+/// again before each run, so that each sets it: that one store is part of the port's time. The Rust has no relay: its caller would
+/// decode the frame, set the mark in its route, and write it anew.
+fn relay(inputs: &[Vec<u8>]) -> Option<[f64; 2]> {
+    let copies = inputs.iter().flat_map(|input| std::iter::repeat(input).take(COPIES));
+    let mut frames = copies.map(|input| OnItsWay::of(input)).collect::<Option<Vec<_>>>()?;
+    let received: Vec<_> = frames.iter().map(|frame| (frame.octets.clone(), frame.due)).collect();
+    assert!(frames.iter_mut().all(|frame| frame.relay() == 0));
+    let port = move || {
+        frames.iter_mut().for_each(|frame| frame.octets[frame.mark] &= 0x7F);
+        frames.iter_mut().for_each(|frame| keep(&frame.relay()));
+    };
+    let rust = || {
+        for (octets, due) in &received {
+            keep(&Ax25Frame::from_bytes(octets).map(|mut frame| {
+                frame.route[*due].has_repeated = true;
+                frame.to_bytes()
+            }));
+        }
+    };
+    let times = race(received.len(), [&mut timed(port), &mut timed(rust)]);
+    Some(times)
+}
+
+/// A frame, the place that is due and not marked, where its mark stands, and who is there.
+struct OnItsWay {
+    octets: Vec<u8>,
+    due: usize,
+    mark: usize,
+    own: Own,
+}
+
+impl OnItsWay {
+    fn of(input: &[u8]) -> Option<OnItsWay> {
+        let frame = Ax25Frame::from_bytes(input).ok()?;
+        let [_, _, due] = domain::hops(&flat::of_frame(&frame));
+        let own = relays::of_route(&frame).into_iter().nth(due).filter(|_| !frame.route[due].has_repeated)?;
+        Some(OnItsWay { octets: input.to_vec(), due, mark: domain::mark_at(input, due), own })
+    }
+
+    fn relay(&mut self) -> u32 {
+        bare::relay(&self.own.callsign, self.own.ssid, &mut self.octets)
+    }
 }
 
 /// Writing what was decoded: the port with the reading of the flat record, that reading alone, and the Rust. A record with nine

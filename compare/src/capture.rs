@@ -31,6 +31,8 @@ pub fn compare(list: &str) -> Result<(Report, usize), String> {
         println!("REFUSED: {}: {}", file, problem);
     }
     report::totals(&mut report, &checker.seen);
+    println!("frames with a route, relayed by each of their repeaters: {}", checker.seen.relayed_routes);
+    report.extra("relayed_routes", checker.seen.relayed_routes.to_string());
     report.extra("captures", report::list(read.captures.iter().map(capture_json)));
     report.extra("refused_captures", report::list(read.refused.iter().map(refused_json)));
     Ok((report, read.refused.len()))

@@ -8,6 +8,7 @@ use crate::lent::{rooms, Room, Tried, LONGER};
 use crate::oracle::{self, Refusal};
 use crate::port::{Beside, Port, HOPS, PLACES};
 use crate::records;
+use crate::relays::{self, Own};
 use crate::rng::Rng;
 use crate::seen::{Seen, Writer};
 use crate::show;
@@ -82,7 +83,7 @@ impl Checker {
         format!("{} and then, {}, {}", show::left(owed), touched, show::hex(rest))
     }
 
-    /// Octets off the air: decoded, written again, and by the loader's four calls.
+    /// Octets off the air: decoded, written again, and by the loader's calls but the relay.
     pub fn octets(&mut self, input: &[u8]) -> Vec<Difference> {
         let rust = oracle::read(input);
         self.seen.decodes += 1;
@@ -243,10 +244,9 @@ impl Checker {
 
     /// Writing an input again with the input, or its info, close to the output; or refusing to, and leaving all as it was.
     pub fn beside(&mut self, input: &[u8], beside: &Beside) -> Vec<Difference> {
-        match oracle::read(input) {
-            _ if domain::repeaters(input) > flat::REPEATERS => self.refused_beside(input, 9, beside),
+        match decoded(input) {
             Ok(frame) => self.accepted_beside(input, &frame, beside),
-            Err(refusal) => self.refused_beside(input, refusal.number, beside),
+            Err(number) => self.refused_beside(input, number, beside),
         }
         self.finish()
     }
@@ -535,6 +535,54 @@ impl Checker {
         self.finish()
     }
 
+    /// An input passed on by each of its repeaters.
+    pub fn relays(&mut self, input: &[u8]) -> Vec<Difference> {
+        let read = decoded(input);
+        let route = read.as_ref().map_or(Vec::new(), relays::of_route);
+        self.seen.relayed_routes += u64::from(!route.is_empty());
+        route.iter().flat_map(|own| self.relay(own, input, &read)).collect()
+    }
+
+    /// An input, which was decoded, passed on by a station: the number, and every octet. The Rust has no relay: what is owed follows
+    /// from its decode and document 02's words.
+    pub fn relay(&mut self, own: &Own, input: &[u8], read: &Result<Ax25Frame, u32>) -> Vec<Difference> {
+        let owed = owed_of_relay(own, read);
+        let owed_number = owed.err().unwrap_or(0);
+        self.seen.relay(own, input, read, owed);
+        let mut octets = input.to_vec();
+        if let Ok(due) = owed {
+            octets[domain::mark_at(input, due)] |= 0x80;
+        }
+        let number = self.port.relay(&own.callsign, own.ssid, input);
+        if number != owed_number || !self.port.output_is(&octets) {
+            let owes = || show::written(owed_number, octets.len(), &octets);
+            self.differ(&format!("relay by {}", own.words()), owes, |me| me.relayed(number));
+        }
+        if let (Ok(frame), Ok(due)) = (read, owed) {
+            self.passed_on(frame, due);
+        }
+        self.finish()
+    }
+
+    fn relayed(&self, number: u32) -> String {
+        let octets = self.port.output();
+        let beside = if self.port.rest_is_as_it_was(octets.len()) { "" } else { ", and octets beside them" };
+        show::written(number, octets.len(), octets) + beside
+    }
+
+    /// Whether both read what the relay left as the frame that came, with this mark set.
+    fn passed_on(&mut self, frame: &Ax25Frame, due: usize) {
+        let octets = self.port.output().to_vec();
+        let mut owed = frame.clone();
+        owed.route[due].has_repeated = true;
+        let rust = oracle::read(&octets);
+        if rust.as_ref() != Ok(&owed) {
+            self.differ("the relayed frame, read by the Rust", || format!("{:?}", owed), |_| format!("{:?}", rust));
+        }
+        let owed = oracle::accepted(&octets, &owed);
+        self.decode(&octets, 0, [0, 0, 0, owed.info_start, owed.info_len], &owed.record);
+    }
+
     /// The refusals that are `probe`'s own: a lent buffer shorter than what is to be left there.
     pub fn short_buffers(&mut self, input: &[u8], short: usize) -> Vec<Difference> {
         let record = short % FLAT;
@@ -571,6 +619,21 @@ impl Checker {
             self.differ(what, || "number 24, nothing touched".to_string(), says);
         }
     }
+}
+
+/// What decoding owes: the Rust's frame, or the number of its refusal; 9 for nine or more repeaters.
+pub fn decoded(input: &[u8]) -> Result<Ax25Frame, u32> {
+    match oracle::read(input) {
+        _ if domain::repeaters(input) > flat::REPEATERS => Err(9),
+        read => read.map_err(|refusal| refusal.number),
+    }
+}
+
+/// The due place, which is to be marked, or the number of the first refusal that holds.
+fn owed_of_relay(own: &Own, read: &Result<Ax25Frame, u32>) -> Result<usize, u32> {
+    let address = domain::own_address(&own.callsign, own.ssid).ok_or(22_u32)?;
+    let frame = read.as_ref().map_err(|&number| number)?;
+    domain::relay(&flat::of_frame(frame), &address)
 }
 
 /// The octets, and 0 past their end.

@@ -1,11 +1,14 @@
 //! `compare test`: every class of inputs, each through its comparison.
 
-use crate::check::{Checker, Difference};
+use crate::check::{self, padded, Checker, Difference};
+use crate::flat::FlatAddress;
 use crate::port::Beside;
+use crate::relays::{self, Own};
 use crate::report::{self, Line, Report};
 use crate::rng::Rng;
 use crate::show;
 use crate::{inputs, records, texts};
+use ax25::frame::Ax25Frame;
 
 /// A class under way.
 pub struct Class<'a> {
@@ -42,13 +45,30 @@ impl Class<'_> {
 
     pub fn octets(&mut self, input: &[u8]) {
         let found = self.checker.octets(input);
-        self.done(found, || (show::hex(input), report::again(input)));
+        self.done(found, || (show::hex(input), report::again("compare one", input)));
     }
 
-    /// Octets that stand somewhere in a capture.
+    /// Octets that stand somewhere in a capture, and are passed on by each of their repeaters too.
     pub fn octets_at(&mut self, place: &str, input: &[u8]) {
-        let found = self.checker.octets(input);
-        self.done(found, || (format!("{}: {}", place, show::hex(input)), report::again(input)));
+        let mut found = self.checker.octets(input);
+        found.extend(self.checker.relays(input));
+        self.done(found, || (format!("{}: {}", place, show::hex(input)), report::again("compare one", input)));
+    }
+
+    /// Octets off the air, passed on by the stations of their route and by others.
+    fn relays(&mut self, input: &[u8], draw: &mut Rng) {
+        let read = check::decoded(input);
+        for own in relays::around(&read, draw) {
+            self.relay(&own, input, &read);
+        }
+    }
+
+    fn relay(&mut self, own: &Own, input: &[u8], read: &Result<Ax25Frame, u32>) {
+        let found = self.checker.relay(own, input, read);
+        self.done(found, || {
+            let command = format!("compare relay '{}' {}", show::hex(&own.callsign), own.ssid);
+            (format!("{} relays {}", own.words(), show::hex(input)), report::again(&command, input))
+        });
     }
 
     fn beside(&mut self, input: &[u8], beside: &Beside) {
@@ -158,8 +178,9 @@ pub fn test(scale: usize, seed: u64, only: Option<String>) -> Report {
     contents(&mut checker, &mut report, scale, &mut seeds);
     hops_and_stations(&mut checker, &mut report, scale, &mut seeds);
     address_texts(&mut checker, &mut report, scale, &mut seeds);
+    frames_passed_on(&mut checker, &mut report, scale, &mut seeds);
     let missing = checker.seen.missing();
-    class(&mut checker, &mut report, "met: every number, kind, mark, PID, route length, room, search and listed difference", |c| c.missing(missing));
+    class(&mut checker, &mut report, "met: every number, kind, mark, PID, route length, room, search, due place and listed difference", |c| c.missing(missing));
     report::totals(&mut report, &checker.seen);
     report.extra("seed", seed.to_string());
     report.extra("scale", scale.to_string());
@@ -304,5 +325,38 @@ fn hops_and_stations(checker: &mut Checker, report: &mut Report, scale: usize, s
     });
     class(checker, report, "same station: each octet changed, every two SSIDs, seeded", |class| {
         texts::stations(b, 30_000 * scale, &mut |one, other| class.same_station(one, other));
+    });
+}
+
+/// Most inputs are relayed by several stations, and each relay counts as one.
+fn frames_passed_on(checker: &mut Checker, report: &mut Report, scale: usize, seeds: &mut Rng) {
+    let [a, b, c, d, e, draws] = [0; 6].map(|_: u64| seeds.next());
+    let mut draw = Rng::new(draws);
+    let mut run = |name: &str, body: &mut dyn FnMut(inputs::Each)| {
+        class(checker, report, name, |c| body(&mut |input| c.relays(input, &mut draw)));
+    };
+    run("relay: every way to mark 0 to 8 repeaters", &mut |each| inputs::marks(each));
+    run("relay: every octet at every address place, 0 to 9 repeaters", &mut |each| inputs::address_places(each));
+    run("relay: two repeaters and every control octet, content of 0 to 6", &mut |each| {
+        inputs::controls(a, &mut |content| each(&inputs::with_repeaters(2, content)));
+    });
+    run("relay: leading nulls, prefixes, every bit damaged, long inputs", &mut |each| {
+        inputs::leading_nulls(each);
+        inputs::prefixes(each);
+        inputs::single_bits(each);
+        inputs::long(b, each);
+    });
+    run("relay: seeded frames around every boundary", &mut |each| inputs::frames(c, 120_000 * scale, each));
+    run("relay: damaged copies", &mut |each| inputs::damaged(d, 100_000 * scale, each));
+    class(checker, report, "relay: own addresses, every octet at every place, every SSID, lengths 0 to 12", |class| {
+        let content = [0x03, 0xF0, 0x41];
+        let mut each = |own: &Own, address: &FlatAddress| {
+            let input = inputs::with_repeater(address, &content);
+            class.relay(own, &input, &check::decoded(&input));
+        };
+        texts::addresses(e, 20_000 * scale, &mut |address| each(&Own::of(&padded(address)), &padded(address)));
+        for length in 0..=12 {
+            each(&Own::new(&b"BOX12 BOX12 "[..length], 0), b"BOX12 \0");
+        }
     });
 }

@@ -1,5 +1,5 @@
-//! Document 01's domain of equality, and what the port owes outside it (docs/DIFFERENCES.md, B). Written from document 01's
-//! words; neither the Rust nor the port is asked.
+//! Document 01's domain of equality, and what the port owes outside it (docs/DIFFERENCES.md, B); and what the hops and the
+//! relay owe, which the Rust lacks. Written from the words of documents 01 and 02; neither the Rust nor the port is asked.
 
 use crate::flat::{self, Flat, FlatAddress, ADDRESS, COUNT, ENTRY, FRMR, KIND, REPEATERS, ROUTE, RR};
 
@@ -74,4 +74,30 @@ pub fn hops(record: &Flat) -> [usize; 3] {
     let marked = (0..count).filter(|i| record[ROUTE + ENTRY * i + ADDRESS] != 0);
     let (set, used) = marked.fold((0, 0), |(set, used), i| (set | 1 << i, used + 1));
     [set, used, used]
+}
+
+/// Our own address, of the callsign and the SSID that the relay is given; none where that is refused by 22.
+pub fn own_address(callsign: &[u8], ssid: u8) -> Option<FlatAddress> {
+    let mut own = *b"      \0";
+    own[..6].get_mut(..callsign.len())?.copy_from_slice(callsign);
+    own[6] = ssid;
+    Some(own).filter(encodable)
+}
+
+/// The due place of a frame that is ours to pass on, or the number that refuses it (document 02, M-100).
+pub fn relay(record: &Flat, own: &FlatAddress) -> Result<usize, u32> {
+    let [_, _, due] = hops(record);
+    if due == usize::from(record[COUNT]) {
+        Err(41)
+    } else if flat::repeater(record, due) != *own {
+        Err(42)
+    } else {
+        Ok(due)
+    }
+}
+
+/// Where the mark of this repeater stands in an input that has it: bit 7 of the last octet of its group.
+pub fn mark_at(input: &[u8], place: usize) -> usize {
+    let (start, _) = field(input).expect("an address field");
+    start + 14 + 7 * place + 6
 }

@@ -6,7 +6,7 @@ use std::slice::{from_raw_parts, from_raw_parts_mut};
 use std::sync::atomic::{AtomicUsize, Ordering};
 
 /// What each fault does, from 1 on, and words in the name of a class that has to find it.
-const FAULTS: [(&str, &str); 26] = [
+const FAULTS: [(&str, &str); 32] = [
     ("re-encoding writes the address field, then answers 24", "every prefix"),
     ("re-encoding writes the address field, then refuses the content", "every prefix"),
     ("re-encoding into no room at all answers 0", "every prefix"),
@@ -33,6 +33,12 @@ const FAULTS: [(&str, &str); 26] = [
     ("refused content leaves its kind", "content alone"),
     ("writing content touches room that is short", "content written alone"),
     ("writing RNR's content with N(R) over 7 goes on after its end", "content written alone"),
+    ("the relay marks the next place", "relay: every way to mark"),
+    ("the relay sets the end bit", "relay: every way to mark"),
+    ("the relay does not compare SSIDs", "relay: every way to mark"),
+    ("the relay answers 42 for 41", "relay: every way to mark"),
+    ("the relay clears a mark that was set", "relay: every way to mark"),
+    ("the relay looks at the frame before our own address", "relay: leading nulls"),
 ];
 
 /// A line for each fault: its number, the words, and what it does.
@@ -56,6 +62,7 @@ fn is(what: &str) -> bool {
 extern "C" {
     fn __real_ax25_decode(input: *const u8, input_len: usize) -> u32;
     fn __real_ax25_reencode(input: *const u8, input_len: usize, out: *mut u8, out_len: usize) -> u32;
+    fn __real_ax25_relay(callsign: *const u8, callsign_len: usize, ssid: u8, frame: *mut u8, frame_len: usize) -> u32;
     fn __real_probe_decode(input: *const u8, input_len: usize, record: *mut u8, record_len: usize, places: *mut usize, places_len: usize) -> u32;
     fn __real_probe_encode(record: *const u8, record_len: usize, info: *const u8, info_len: usize, out: *mut u8, out_len: usize, length: *mut usize, length_len: usize) -> u32;
     fn __real_probe_from_parts(callsign: *const u8, callsign_len: usize, ssid: u8, address: *mut u8, address_len: usize) -> u32;
@@ -119,6 +126,37 @@ unsafe extern "C" fn __wrap_ax25_reencode(input: *const u8, input_len: usize, ou
     }
     if is("re-encoding answers 24 before 9") && number == 9 && out_len < input_len {
         return 24;
+    }
+    number
+}
+
+#[no_mangle]
+unsafe extern "C" fn __wrap_ax25_relay(callsign: *const u8, callsign_len: usize, ssid: u8, frame: *mut u8, frame_len: usize) -> u32 {
+    let octets = from_raw_parts_mut(frame, frame_len);
+    let before = octets.to_vec();
+    let number = __real_ax25_relay(callsign, callsign_len, ssid, frame, frame_len);
+    if is("the relay answers 42 for 41") && number == 41 {
+        return 42;
+    }
+    if is("the relay does not compare SSIDs") && number == 42 {
+        let passed_on = (0..16).any(|ssid| __real_ax25_relay(callsign, callsign_len, ssid, frame, frame_len) == 0);
+        return if passed_on { 0 } else { 42 };
+    }
+    let decoded = __real_ax25_decode(frame, frame_len);
+    if is("the relay looks at the frame before our own address") && decoded != 0 {
+        return decoded;
+    }
+    match octets.iter().zip(&before).position(|(after, before)| after != before) {
+        Some(at) if is("the relay marks the next place") && at + 7 < frame_len => {
+            octets[at] &= 0x7F;
+            octets[at + 7] |= 0x80;
+        }
+        Some(at) if is("the relay sets the end bit") => octets[at] |= 0x01,
+        None if is("the relay clears a mark that was set") && number == 0 => {
+            let marked = octets.iter_mut().skip(14).find(|octet| **octet >= 0xE0);
+            marked.into_iter().for_each(|octet| *octet &= 0x7F);
+        }
+        _ => {}
     }
     number
 }

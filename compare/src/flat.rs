@@ -196,10 +196,15 @@ fn address_at(flat: &Flat, at: usize) -> FlatAddress {
     address
 }
 
+/// The repeater at a place of the route.
+pub fn repeater(flat: &Flat, place: usize) -> FlatAddress {
+    address_at(flat, ROUTE + ENTRY * place)
+}
+
 /// The addresses in use: destination, source, and as many repeaters as the record counts, eight at most.
 pub fn in_use(flat: &Flat) -> Vec<FlatAddress> {
     let count = usize::from(flat[COUNT]).min(REPEATERS);
-    let route = (0..count).map(|i| address_at(flat, ROUTE + ENTRY * i));
+    let route = (0..count).map(|i| repeater(flat, i));
     [address_at(flat, DESTINATION), address_at(flat, SOURCE)].into_iter().chain(route).collect()
 }
 

@@ -1,5 +1,6 @@
 //! Octets off the air: all of them where they are short, seeded ones around every boundary, and damaged copies.
 
+use crate::flat::FlatAddress;
 use crate::rng::Rng;
 
 /// Document 01's example frame, GAUGE from BOX12-3 with a UI frame, and its address field.
@@ -16,13 +17,33 @@ pub fn with_content(content: &[u8]) -> Vec<u8> {
 
 /// Document 01's example with this many repeaters, named after their places, every second one marked.
 pub fn with_repeaters(count: usize, content: &[u8]) -> Vec<u8> {
+    with_route((0..count).map(|i| (i, i % 2 == 0)), content)
+}
+
+/// The same on its way to the last of them: all others are marked.
+pub fn before_the_last(count: usize, content: &[u8]) -> Vec<u8> {
+    with_route((0..count).map(|i| (i, i + 1 < count)), content)
+}
+
+/// The same with any repeaters, each named after a number, and marked or not.
+pub fn with_route(route: impl Iterator<Item = (usize, bool)>, content: &[u8]) -> Vec<u8> {
+    let last = |i: usize, marked| 0x30 | (i % 16) as u8 | if marked { 0x40 } else { 0 };
+    let name = |i: usize| b'0' + (i % 10) as u8;
+    with_groups(route.map(|(i, marked)| [b'R', b'E', b'L', b'A', b'Y', name(i), last(i, marked)]), content)
+}
+
+/// The same with one repeater that is not marked: this address, or what the field's bits leave of it.
+pub fn with_repeater(address: &FlatAddress, content: &[u8]) -> Vec<u8> {
+    let mut group = *address;
+    group[6] = 0x30 | group[6] & 0x0F;
+    with_groups(std::iter::once(group), content)
+}
+
+/// Each group is given as it is before it is shifted.
+fn with_groups(groups: impl Iterator<Item = [u8; 7]>, content: &[u8]) -> Vec<u8> {
     let mut octets = FRAME[..FIELD].to_vec();
     octets[FIELD - 1] &= 0xFE;
-    for i in 0..count {
-        let mark = if i % 2 == 0 { 0x80 } else { 0 };
-        octets.extend(b"RELAY".iter().map(|c| c << 1));
-        octets.extend([(b'0' + (i % 10) as u8) << 1, 0x60 | mark | ((i % 16) as u8) << 1]);
-    }
+    octets.extend(groups.flatten().map(|character| character << 1));
     *octets.last_mut().expect("the field is not empty") |= 1;
     octets.extend(content);
     octets
@@ -135,6 +156,17 @@ pub fn address_places(each: Each) {
                 let mut input = base.clone();
                 input[at] = octet;
                 each(&input);
+            }
+        }
+    }
+}
+
+/// Every way to mark none to eight repeaters, who are all different, two in turns, or one alone.
+pub fn marks(each: Each) {
+    for count in 0..=8 {
+        for marks in 0..1 << count {
+            for names in [8, 2, 1] {
+                each(&with_route((0..count).map(|i| (i % names, marks >> i & 1 == 1)), &[0x03, 0xF0, 0x41]));
             }
         }
     }

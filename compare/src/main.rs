@@ -14,6 +14,7 @@ mod lines;
 mod oracle;
 mod port;
 mod records;
+mod relays;
 mod replay;
 mod report;
 mod rng;
@@ -22,6 +23,7 @@ mod show;
 mod single;
 mod texts;
 
+use relays::Own;
 use report::Report;
 use std::io::Read;
 use std::process::exit;
@@ -49,6 +51,7 @@ compare content HEX                content alone, from its control octet on
 compare content-record HEX INFO    flat content (a record's last twelve octets) and info (hex), written alone
 compare hops HEX                   the hops of a flat record
 compare same-station HEX HEX       two addresses of seven flat octets
+compare relay HEX SSID HEX         our own callsign and SSID, and a frame to pass on ('-': hex on standard input)
 compare bench                      times of both, and their ratios
 compare replay-list [N]            about N (3000) lines of the Rust's answers, for the program replay
   --json FILE    leave counts, mismatches and ratios there (test, captures, frames, bench)
@@ -89,6 +92,10 @@ fn word(argument: std::ffi::OsString) -> String {
 
 fn number(text: &str) -> u64 {
     text.parse().unwrap_or_else(|_| refuse(&format!("'{}' is no number", text)))
+}
+
+fn ssid_of(text: &str) -> u8 {
+    u8::try_from(number(text)).unwrap_or_else(|_| refuse("an SSID is an octet"))
 }
 
 fn octets(hex: &str) -> Vec<u8> {
@@ -132,10 +139,7 @@ fn main() {
         ["one", hex] => status(single::one(&hex_argument(hex))),
         ["text", ref texts @ ..] if !texts.is_empty() => status(single::each(texts, |t| single::text(t.as_bytes()))),
         ["text-hex", ref texts @ ..] if !texts.is_empty() => status(single::each(texts, |t| single::text(&octets(t)))),
-        ["parts-hex", callsign, ssid] => match u8::try_from(number(ssid)) {
-            Ok(ssid) => status(single::parts(&octets(callsign), ssid)),
-            Err(_) => refuse("an SSID is an octet"),
-        },
+        ["parts-hex", callsign, ssid] => status(single::parts(&octets(callsign), ssid_of(ssid))),
         ["print", address] => status(single::print(&octets(address))),
         ["record", record, info] => status(single::record(&octets(record), &octets(info))),
         ["simple-ui", source, destination, info] => {
@@ -145,6 +149,9 @@ fn main() {
         ["content-record", content, info] => status(single::content_record(&octets(content), &octets(info))),
         ["hops", record] => status(single::hops(&octets(record))),
         ["same-station", one, other] => status(single::same_station(&octets(one), &octets(other))),
+        ["relay", callsign, ssid, frame] => {
+            status(single::relay(&Own::new(&octets(callsign), ssid_of(ssid)), &hex_argument(frame)))
+        }
         #[cfg(feature = "faults")]
         ["faults"] => faults::list(),
         ["bench"] => leave(&bench::run(), &options.json),

@@ -8,6 +8,7 @@ extern "C" {
     fn ax25_canonical(input: *const u8, input_len: usize) -> u32;
     fn ax25_reencoded_length(input: *const u8, input_len: usize) -> usize;
     fn ax25_reencode(input: *const u8, input_len: usize, output: *mut u8, output_len: usize) -> u32;
+    fn ax25_relay(callsign: *const u8, callsign_len: usize, ssid: u8, frame: *mut u8, frame_len: usize) -> u32;
 }
 
 #[link(name = "probe", kind = "static")]
@@ -154,6 +155,16 @@ impl Port {
         self.output.room(room);
         let number = unsafe { ax25_reencode(self.input.ptr(), self.input.len(), self.output.mut_ptr(), room) };
         self.see_input(input);
+        number
+    }
+
+    /// The frame is lent as the output, which holds it before and after.
+    pub fn relay(&mut self, callsign: &[u8], ssid: u8, frame: &[u8]) -> u32 {
+        self.input.hold(callsign);
+        self.output.hold(frame);
+        let number =
+            unsafe { ax25_relay(self.input.ptr(), self.input.len(), ssid, self.output.mut_ptr(), self.output.len()) };
+        self.see_input(callsign);
         number
     }
 
@@ -404,6 +415,10 @@ pub mod bare {
 
     pub fn reencode(input: &[u8], output: &mut [u8]) -> u32 {
         unsafe { super::ax25_reencode(input.as_ptr(), input.len(), output.as_mut_ptr(), output.len()) }
+    }
+
+    pub fn relay(callsign: &[u8], ssid: u8, frame: &mut [u8]) -> u32 {
+        unsafe { super::ax25_relay(callsign.as_ptr(), callsign.len(), ssid, frame.as_mut_ptr(), frame.len()) }
     }
 
     pub fn encode(record: &[u8], info: &[u8], output: &mut [u8], length: &mut [usize]) -> u32 {

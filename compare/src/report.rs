@@ -109,7 +109,9 @@ fn mismatch_json(mismatch: &Mismatch) -> String {
 
 /// The totals of a run, printed and for the JSON.
 pub fn totals(report: &mut Report, seen: &Seen) {
+    let (relays, relayed) = seen.relay_counts();
     println!("decodes compared: {}; writes compared: {}", seen.decodes, seen.writes);
+    println!("relays compared: {}, {} of them passed on", relays, relayed);
     let numbers = seen.number_counts();
     let said: Vec<String> = numbers.iter().map(|(number, count)| format!("{}: {}", number, count)).collect();
     println!("decode numbers: {}", said.join(", "));
@@ -124,6 +126,8 @@ pub fn totals(report: &mut Report, seen: &Seen) {
     }
     report.extra("decodes", seen.decodes.to_string());
     report.extra("writes", seen.writes.to_string());
+    report.extra("relays", relays.to_string());
+    report.extra("relayed", relayed.to_string());
     report.extra("canonical", seen.canonical[1].to_string());
     report.extra("accepted", (seen.canonical[0] + seen.canonical[1]).to_string());
     report.extra("decode_numbers", counts(numbers.iter().map(|(number, count)| (number.to_string(), *count))));
@@ -160,11 +164,11 @@ pub fn string(text: &str) -> String {
     json
 }
 
-/// How to look at one input again.
-pub fn again(input: &[u8]) -> String {
+/// How to look at one input again, by this command.
+pub fn again(command: &str, input: &[u8]) -> String {
     if input.len() <= 4096 {
-        format!("compare one '{}'", show::hex(input))
+        format!("{} '{}'", command, show::hex(input))
     } else {
-        "compare one -    (and the input's hex digits on standard input)".to_string()
+        format!("{} -    (and the input's hex digits on standard input)", command)
     }
 }

@@ -1,8 +1,10 @@
 //! What a run has met, so that a run that never met a case says so.
 
-use crate::domain::{Listed, LISTED};
+use crate::domain::{self, Listed, LISTED};
 use crate::flat::*;
 use crate::lent::{Room, ROOMS};
+use crate::relays::Own;
+use ax25::frame::Ax25Frame;
 
 /// The numbers of document 01 that each kind of input can give.
 const DECODE_NUMBERS: [u32; 10] = [0, 1, 2, 3, 4, 5, 6, 7, 8, 9];
@@ -13,6 +15,8 @@ const PRINT_NUMBERS: [u32; 2] = [0, 22];
 const CONTENT_NUMBERS: [u32; 7] = [0, 4, 5, 6, 7, 8, 23];
 /// The numbers that writing an input again, side by side with it, can give.
 const BESIDE_NUMBERS: [u32; 11] = [0, 1, 2, 3, 4, 5, 6, 7, 8, 9, 24];
+/// Those of the relay: the refusals in their order.
+const RELAY_NUMBERS: [u32; 13] = [0, 22, 1, 2, 3, 4, 9, 5, 6, 7, 8, 41, 42];
 const TABLE: usize = 64;
 /// The places of a search by eights that are looked at: three turns.
 const SEARCHED: usize = 24;
@@ -91,6 +95,19 @@ pub struct Seen {
     hop_counts: [u64; 2],
     /// Pairs that the Rust can't hold, and those that it can; other stations, and the same.
     stations: [[u64; 2]; 2],
+    /// Inputs that each of their repeaters relayed.
+    pub relayed_routes: u64,
+    relay_numbers: [u64; TABLE],
+    /// By the due place of a relayed frame, whether it was marked before.
+    due_places: [[u64; 2]; REPEATERS],
+    /// By the length of the callsign that relayed a frame.
+    callsigns: [u64; 7],
+    /// Whether a relayed frame had nulls before it, and octets left over in its address field.
+    around_relayed: [[u64; 2]; 2],
+    /// 22 for a callsign that is too long, an octet of 128 or more, an SSID over 15.
+    not_own: [u64; 3],
+    /// By whether the callsign is another, 42 for a station with the same SSID and with another.
+    others: [[u64; 2]; 2],
 }
 
 fn count(table: &mut [u64], at: usize) {
@@ -155,6 +172,13 @@ impl Seen {
             hops_used: [0; REPEATERS + 1],
             hop_counts: [0; 2],
             stations: [[0; 2]; 2],
+            relayed_routes: 0,
+            relay_numbers: [0; TABLE],
+            due_places: [[0; 2]; REPEATERS],
+            callsigns: [0; 7],
+            around_relayed: [[0; 2]; 2],
+            not_own: [0; 3],
+            others: [[0; 2]; 2],
         }
     }
 
@@ -241,6 +265,35 @@ impl Seen {
         self.stations[usize::from(held)][usize::from(same)] += 1;
     }
 
+    /// A relay, which owes this due place or this number.
+    pub fn relay(&mut self, own: &Own, input: &[u8], read: &Result<Ax25Frame, u32>, owed: Result<usize, u32>) {
+        count(&mut self.relay_numbers, owed.err().unwrap_or(0) as usize);
+        match (owed, read) {
+            (Ok(due), Ok(frame)) => {
+                self.due_places[due][usize::from(frame.route[due].has_repeated)] += 1;
+                count(&mut self.callsigns, own.callsign.len());
+                let (start, end) = domain::field(input).unwrap_or((0, 0));
+                self.around_relayed[usize::from(start > 0)][usize::from((end - start + 1) % 7 > 0)] += 1;
+            }
+            (Err(22), _) => {
+                let causes = [own.callsign.len() > 6, domain::is_wide(&own.callsign), own.ssid > 15];
+                self.not_own.iter_mut().zip(causes).for_each(|(cell, cause)| *cell += u64::from(cause));
+            }
+            (Err(42), Ok(frame)) => {
+                let record = of_frame(frame);
+                let due = repeater(&record, domain::hops(&record)[2]);
+                let callsign = domain::own_address(&own.callsign, due[6]) != Some(due);
+                self.others[usize::from(callsign)][usize::from(own.ssid != due[6])] += 1;
+            }
+            _ => {}
+        }
+    }
+
+    /// How often a relay was tried, and how often the frame was passed on.
+    pub fn relay_counts(&self) -> (u64, u64) {
+        (self.relay_numbers.iter().sum(), self.relay_numbers[0])
+    }
+
     pub fn listed(&mut self, which: Listed) {
         self.listed[which as usize] += 1;
     }
@@ -291,6 +344,7 @@ impl Seen {
         missing.cases("hops of a count to 8 and over it, case", &self.hop_counts);
         missing.cases("stations that the Rust can't hold, other or same: case", &self.stations[0]);
         missing.cases("stations that the Rust can hold, other or same: case", &self.stations[1]);
+        self.missing_relays(&mut missing);
         for number in 1..self.refused_rooms.len() {
             missing.cases(&format!("re-encoding refused by {} with no room, less than the input, more: case", number), &self.refused_rooms[number]);
         }
@@ -305,6 +359,21 @@ impl Seen {
         }
         self.missing_writes(&mut missing);
         missing.0
+    }
+
+    fn missing_relays(&self, missing: &mut Missing) {
+        missing.numbers("relay number", &RELAY_NUMBERS, &self.relay_numbers);
+        // Where the first place is due, none is marked.
+        missing.cases("relay at the first place, case", &self.due_places[0][..1]);
+        for (place, marked) in self.due_places.iter().enumerate().skip(1) {
+            missing.cases(&format!("relay at place {}, not marked or marked before: case", place), marked);
+        }
+        missing.cases("relay by a callsign of length", &self.callsigns);
+        missing.cases("relay without nulls before, with none or some octets left over: case", &self.around_relayed[0]);
+        missing.cases("relay with nulls before, with none or some octets left over: case", &self.around_relayed[1]);
+        missing.cases("relay refused by 22 for a long callsign, a wide octet, an SSID: case", &self.not_own);
+        missing.cases("relay refused by 42 for the SSID alone, case", &self.others[0][1..]);
+        missing.cases("relay refused by 42 for the callsign, with the same SSID or another: case", &self.others[1]);
     }
 
     /// The same of what was written: no case, and no writer of a class, lacks a kind of room.

@@ -1,11 +1,12 @@
 //! One input at a time: both sides in full, and then whether they differ.
 
-use crate::check::{padded, Checker, Difference};
+use crate::check::{self, padded, Checker, Difference};
 use crate::domain;
 use crate::flat::{self, ADDRESS, FLAT};
 use crate::inputs;
 use crate::oracle;
 use crate::port::{Port, HOPS, PLACES};
+use crate::relays::Own;
 use crate::show;
 use ax25::frame::{Address, Ax25Frame};
 
@@ -35,7 +36,9 @@ pub fn one(input: &[u8]) -> bool {
     }
     show_rust(input);
     show_port(&mut checker, input);
-    verdict(checker.octets(input))
+    let mut found = checker.octets(input);
+    found.extend(checker.relays(input));
+    verdict(found)
 }
 
 fn show_rust(input: &[u8]) {
@@ -192,4 +195,13 @@ pub fn same_station(one: &[u8], other: &[u8]) -> bool {
     let mut checker = Checker::thorough();
     println!("port: {}", checker.port.same_station(one, other));
     verdict(checker.same_station(one, other))
+}
+
+pub fn relay(own: &Own, input: &[u8]) -> bool {
+    println!("{} relays {} octets: {}", own.words(), input.len(), show::hex(input));
+    show_rust(input);
+    let mut checker = Checker::thorough();
+    let number = checker.port.relay(&own.callsign, own.ssid, input);
+    println!("port: number {} octets {}", number, show::hex(checker.port.output()));
+    verdict(checker.relay(own, input, &check::decoded(input)))
 }
