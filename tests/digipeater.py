@@ -23,16 +23,16 @@ import threading
 from outside import Count, Dice, Layout, group, hex_line, made_callsign, made_contents
 
 OWN, OWN_SSID = 'HILL1', 2
-# The longest that anything is waited for, in seconds: only a failure takes so long.
+# The longest that anything is waited for, in seconds. Only a failure takes so long.
 PATIENCE = 20
 
 
 # The frames
 
 UI = b'\x03\xF0'
-# The frame, the number that ax25_relay owes it, and what the digipeaters named in `sent` are known to do otherwise, by an entry of D:
-# the octets that they send, or None where they send nothing.
-Case = collections.namedtuple('Case', 'frame number entry sent', defaults=(None, {}))
+# The frame and the number that ax25_relay owes it. What the digipeaters named in `sent` are known to do otherwise, by an entry of D: the
+# octets that they send, or None where they send nothing. What ax25_relay leaves if it relays a frame of which no digipeater sends anything.
+Case = collections.namedtuple('Case', 'frame number entry sent left', defaults=(None, {}, None))
 
 
 def spelled(route, content=UI + b'LEVEL', source='BOX12-3', reserved=3):
@@ -75,10 +75,11 @@ def both(octets):
 def otherwise():
     """The entries of D but D2, which is a rule of its own: see wanted()."""
     yield Case(spelled('HILL5-1*,HILL1-2,HILL6-1*'), 42, 'D1', both(spelled('HILL5-1*,HILL1-2*,HILL6-1*')))
-    yield Case(spelled('HILL5-1*,HILL6-1,HILL1-2*'), 0, 'D1', both(None))
+    yield Case(spelled('HILL5-1*,HILL6-1,HILL1-2*'), 0, 'D1', both(None), spelled('HILL5-1*,HILL6-1,HILL1-2*'))
     for nulls in (1, 7):
-        yield Case(bytes(nulls) + spelled('HILL1-2'), 0, 'D3', both(None))
-    yield Case(spelled('HILL1-2,HILL2-1')[:21] + b'\x01' + UI, 0, 'D4', both(None))
+        yield Case(bytes(nulls) + spelled('HILL1-2'), 0, 'D3', both(None), bytes(nulls) + spelled('HILL1-2*'))
+    # The address field ends with an octet after that of the last repeater.
+    yield Case(spelled('HILL1-2,HILL2-1')[:21] + b'\x01' + UI, 0, 'D4', both(None), spelled('HILL1-2*,HILL2-1')[:21] + b'\x01' + UI)
     for content, number in ((b'', 4), (b'\x03', 5), (b'\x00', 5), (b'\x0D', 6), (b'\x6F', 7), (b'\xAF', 7), (b'\xE3', 7), (b'\x87\x01', 8)):
         yield Case(spelled('HILL1-2', content), number, 'D5', {'connected mode': spelled('HILL1-2*', content)})
     yield Case(spelled('HILL1\0-2'), 42, 'D6', both(spelled('HILL1-2*')))
@@ -233,10 +234,11 @@ class Direwolf:
 @contextlib.contextmanager
 def running(program, folder, digipeater):
     """direwolf as one of its digipeaters, which the end of the test ends."""
-    (folder / 'asound.conf').write_text('pcm.null { type null }\n')
-    (folder / 'direwolf.conf').write_text(SETTINGS + DIGIPEATERS[digipeater] + '\n')
-    command = [program, '-c', str(folder / 'direwolf.conf'), '-t', '0', '-q', 'hd', '-d', 'p']
-    process = subprocess.Popen(command, cwd=folder, env={**os.environ, 'ALSA_CONFIG_PATH': str(folder / 'asound.conf')},
+    sounds, settings = folder / 'asound.conf', folder / f'{digipeater}.conf'
+    sounds.write_text('pcm.null { type null }\n')
+    settings.write_text(SETTINGS + DIGIPEATERS[digipeater] + '\n')
+    command = [program, '-c', str(settings), '-t', '0', '-q', 'hd', '-d', 'p']
+    process = subprocess.Popen(command, cwd=folder, env={**os.environ, 'ALSA_CONFIG_PATH': str(sounds)},
                                stdin=subprocess.PIPE, stdout=subprocess.PIPE, stderr=subprocess.STDOUT)
     try:
         yield Direwolf(process)
@@ -255,14 +257,32 @@ def answers(command, cases):
     lines = ''.join(f'{OWN} {OWN_SSID} {case.frame.hex()}\n' for case in cases)
     printed = subprocess.run(command, input=lines, stdout=subprocess.PIPE, text=True, check=True).stdout
     pairs = [line.split() for line in printed.splitlines()]
+    if len(pairs) != len(cases):
+        sys.exit(f'ax25_relay answers {len(pairs)} of {len(cases)} frames')
     return [(int(number), bytes.fromhex(octets)) for number, octets in pairs]
 
 
-def wanted(digipeater, case, number, relayed):
+def told(number, octets):
+    return f'{number} and {hex_line(octets)}'
+
+
+def check_ours(count, cases, ours):
+    """A refusal leaves the frame as it was; what else is left is compared with what the digipeaters send, or with the case."""
+    wrong = []
+    for case, (number, octets) in zip(cases, ours):
+        left = case.frame if case.number else case.left or octets
+        if (number, octets) != (case.number, left):
+            wrong.append(f'ax25_relay owes {told(case.number, left)} to {hex_line(case.frame)}, and gives {told(number, octets)}')
+    count.fail_all(wrong)
+    if not wrong:
+        count.ok(f'ax25_relay gives the number that it owes, and refuses without a change (frames: {len(cases)})')
+
+
+def wanted(digipeater, case, relayed):
     """What a digipeater is to send, or None, and in words how that compares with ax25_relay."""
     if digipeater in case.sent:
         return case.sent[digipeater], AS_LISTED + case.entry
-    if number != 0:
+    if case.number != 0:
         return None, 'sends nothing where ax25_relay refuses'
     if digipeater == 'APRS' and not Layout(case.frame).content.startswith(UI):
         return None, AS_LISTED + 'D2'
@@ -272,9 +292,9 @@ def wanted(digipeater, case, number, relayed):
 def compare(count, digipeater, direwolf, cases, ours):
     tally, wrong, given = collections.Counter(), [], b''
     try:
-        for case, (number, relayed) in zip(cases, ours):
+        for case, (_, relayed) in zip(cases, ours):
             before, given = given, case.frame
-            owed, outcome = wanted(digipeater, case, number, relayed)
+            owed, outcome = wanted(digipeater, case, relayed)
             wrong += [f'nothing is owed to {hex_line(before)}, and it sends {hex_line(octets)}' for octets in direwolf.give(given)]
             sent = None if owed is None else direwolf.sent()
             if sent != owed:
@@ -293,12 +313,10 @@ def main():
     program, folder, command = sys.argv[1], pathlib.Path(sys.argv[2]), sys.argv[3:]
     count, cases = Count(), all_cases()
     ours = answers(command, cases)
-    pairs = [(case, number) for case, (number, _) in zip(cases, ours) if number != case.number]
-    count.fail_all([f'ax25_relay gives {number}, not {case.number}, to {hex_line(case.frame)}' for case, number in pairs])
-    if not pairs and len(ours) == len(cases):
-        count.ok(f'ax25_relay gives the number that is owed (frames: {len(cases)})')
-    for digipeater in DIGIPEATERS:
-        with running(program, folder, digipeater) as direwolf:
+    check_ours(count, cases, ours)
+    with contextlib.ExitStack() as stack:
+        started = {digipeater: stack.enter_context(running(program, folder, digipeater)) for digipeater in DIGIPEATERS}
+        for digipeater, direwolf in started.items():
             compare(count, digipeater, direwolf, cases, ours)
     count.end()
 
