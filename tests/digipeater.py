@@ -35,7 +35,7 @@ UI = b'\x03\xF0'
 Case = collections.namedtuple('Case', 'frame number entry sent left', defaults=(None, {}, None))
 
 
-def spelled(route, content=UI + b'LEVEL', source='BOX12-3', reserved=3):
+def spelled(route, content=UI, source='BOX12-3', reserved=3):
     """A frame to GAUGE, as Command. In the route `*` follows a repeater that is marked."""
     stations = ['GAUGE*', source] + (route.split(',') if route else [])
     groups = []
@@ -54,7 +54,7 @@ def alike():
     for route in ('HILL1-2', 'HILL1-2,HILL2-1', 'HILL5-1*,HILL1-2', 'HILL1-2,HILL1-2', 'HILL1-2*,HILL1-2', EARLIER + 'HILL1-2',
                   'HILL1-2' + LATER):
         yield Case(spelled(route), 0)
-    for content in (b'\x03\x20LEVEL', b'\x00\xF0LEVEL', b'\x3F', b'\x63\xAA', b'\x01', b'\x87\xF1\x03\x44', UI, UI + bytes(256)):
+    for content in (b'\x03\x20LEVEL', b'\x00\xF0LEVEL', b'\x3F', b'\x63\xAA', b'\x01', b'\x87\xF1\x03\x44', UI + b'LEVEL', UI + bytes(256)):
         yield Case(spelled('HILL1-2', content), 0)
     for reserved in range(3):
         yield Case(spelled('HILL5-1*,HILL1-2', reserved=reserved), 0)
@@ -73,21 +73,23 @@ def both(octets):
 
 
 def otherwise():
-    """The entries of D but D2, which is a rule of its own: see wanted()."""
+    """The entries of D, each by the frame that stands there and then by others."""
     yield Case(spelled('HILL5-1*,HILL1-2,HILL6-1*'), 42, 'D1', both(spelled('HILL5-1*,HILL1-2*,HILL6-1*')))
     yield Case(spelled('HILL5-1*,HILL6-1,HILL1-2*'), 0, 'D1', both(None), spelled('HILL5-1*,HILL6-1,HILL1-2*'))
+    for content in (b'\x03\x20', b'\x13\xF0', b'\x00\xF0', b'\x01'):
+        yield Case(spelled('HILL1-2', content), 0, 'D2', {'APRS': None})
     for nulls in (1, 7):
         yield Case(bytes(nulls) + spelled('HILL1-2'), 0, 'D3', both(None), bytes(nulls) + spelled('HILL1-2*'))
-    # The address field ends with an octet after that of the last repeater.
     yield Case(spelled('HILL1-2,HILL2-1')[:21] + b'\x01' + UI, 0, 'D4', both(None), spelled('HILL1-2*,HILL2-1')[:21] + b'\x01' + UI)
-    for content, number in ((b'', 4), (b'\x03', 5), (b'\x00', 5), (b'\x0D', 6), (b'\x6F', 7), (b'\xAF', 7), (b'\xE3', 7), (b'\x87\x01', 8)):
+    for content, number in ((b'\x0D', 6), (b'', 4), (b'\x03', 5), (b'\x00', 5), (b'\x6F', 7), (b'\xAF', 7), (b'\xE3', 7), (b'\x87\x01', 8)):
         yield Case(spelled('HILL1-2', content), number, 'D5', {'connected mode': spelled('HILL1-2*', content)})
     yield Case(spelled('HILL1\0-2'), 42, 'D6', both(spelled('HILL1-2*')))
-    for route, sent in (('WIDE1-1', 'HILL1-2*'), ('WIDE2-2', 'HILL1-2*,WIDE2-1'), (EARLIER + 'WIDE2-2', EARLIER + 'WIDE2-1')):
-        # Each with info of its own, since the same would not be sent again.
-        yield Case(spelled(route, UI + route.encode()), 42, 'D7', {'APRS': spelled(sent, UI + route.encode())})
-    yield Case(spelled('WIDE1-1', UI + b'WIDE1-1'), 42, 'D7', {'APRS': None})
-    yield Case(spelled('WIDE1-1', source='HILL1-2'), 42, 'D7', {'APRS': None})
+    # Each of the three has an info that was not sent before.
+    routes = (('WIDE1-1', 'HILL1-2*'), ('WIDE2-2', 'HILL1-2*,WIDE2-1'), (EARLIER + 'WIDE2-2', EARLIER + 'WIDE2-1'))
+    for (route, sent), info in zip(routes, (b'1', b'2', b'3')):
+        yield Case(spelled(route, UI + info), 42, 'D7', {'APRS': spelled(sent, UI + info)})
+    yield Case(spelled('WIDE1-1', UI + b'1'), 42, 'D7', {'APRS': None})
+    yield Case(spelled('WIDE1-1', UI + b'4', source='HILL1-2'), 42, 'D7', {'APRS': None})
 
 
 def made():
@@ -262,6 +264,20 @@ def answers(command, cases):
     return [(int(number), bytes.fromhex(octets)) for number, octets in pairs]
 
 
+def check_docs(count):
+    """The row of each entry of D has the octets of its first case: what is given, and what a digipeater sends."""
+    text = (pathlib.Path(__file__).resolve().parent.parent / 'docs' / 'DIFFERENCES.md').read_text('utf-8')
+    for name, octets in (('[R]', spelled('HILL1-2')[:14]), ('[H]', spelled('HILL1-2')[14:20])):
+        text = text.replace(name, hex_line(octets))
+    rows = dict(re.findall(r'^\| (D\d+) \|(.*)', text.replace('`', ''), re.M))
+    first = {case.entry: case for case in reversed([*otherwise()])}
+    for entry, case in sorted(first.items()):
+        lacking = [hex_line(octets) for octets in (case.frame, *case.sent.values()) if octets and f' {hex_line(octets)} ' not in rows[entry]]
+        count.fail_all([f'docs/DIFFERENCES.md, {entry}: {octets} is not there' for octets in lacking])
+        if not lacking:
+            count.ok(f'docs/DIFFERENCES.md, {entry}: the octets are those of the test')
+
+
 def told(number, octets):
     return f'{number} and {hex_line(octets)}'
 
@@ -313,6 +329,7 @@ def main():
     program, folder, command = sys.argv[1], pathlib.Path(sys.argv[2]), sys.argv[3:]
     count, cases = Count(), all_cases()
     ours = answers(command, cases)
+    check_docs(count)
     check_ours(count, cases, ours)
     with contextlib.ExitStack() as stack:
         started = {digipeater: stack.enter_context(running(program, folder, digipeater)) for digipeater in DIGIPEATERS}
