@@ -30,8 +30,8 @@ PATIENCE = 20
 # The frames
 
 UI = b'\x03\xF0'
-# The frame and the number that ax25_relay owes it. What the digipeaters named in `sent` are known to do otherwise, by an entry of D: the
-# octets that they send, or None where they send nothing. What ax25_relay leaves if it relays a frame of which no digipeater sends anything.
+# The frame and the number that ax25_relay owes it. By an entry of D, what the digipeaters named in `sent` do otherwise: the octets
+# that they send, or None where they send nothing. What ax25_relay leaves, where it relays and they send nothing.
 Case = collections.namedtuple('Case', 'frame number entry sent left', defaults=(None, {}, None))
 
 
@@ -54,7 +54,8 @@ def alike():
     for route in ('HILL1-2', 'HILL1-2,HILL2-1', 'HILL5-1*,HILL1-2', 'HILL1-2,HILL1-2', 'HILL1-2*,HILL1-2', EARLIER + 'HILL1-2',
                   'HILL1-2' + LATER):
         yield Case(spelled(route), 0)
-    for content in (b'\x03\x20LEVEL', b'\x00\xF0LEVEL', b'\x3F', b'\x63\xAA', b'\x01', b'\x87\xF1\x03\x44', UI + b'LEVEL', UI + bytes(256)):
+    for content in (b'\x03\x20LEVEL', b'\x00\xF0LEVEL', b'\x3F', b'\x63\xAA', b'\x01', b'\x87\xF1\x03\x44', UI + b'LEVEL',
+                    UI + bytes(256)):
         yield Case(spelled('HILL1-2', content), 0)
     for reserved in range(3):
         yield Case(spelled('HILL5-1*,HILL1-2', reserved=reserved), 0)
@@ -81,7 +82,8 @@ def otherwise():
     for nulls in (1, 7):
         yield Case(bytes(nulls) + spelled('HILL1-2'), 0, 'D3', both(None), bytes(nulls) + spelled('HILL1-2*'))
     yield Case(spelled('HILL1-2,HILL2-1')[:21] + b'\x01' + UI, 0, 'D4', both(None), spelled('HILL1-2*,HILL2-1')[:21] + b'\x01' + UI)
-    for content, number in ((b'\x0D', 6), (b'', 4), (b'\x03', 5), (b'\x00', 5), (b'\x6F', 7), (b'\xAF', 7), (b'\xE3', 7), (b'\x87\x01', 8)):
+    for content, number in ((b'\x0D', 6), (b'', 4), (b'\x03', 5), (b'\x00', 5), (b'\x6F', 7), (b'\xAF', 7), (b'\xE3', 7),
+                            (b'\x87\x01', 8)):
         yield Case(spelled('HILL1-2', content), number, 'D5', {'connected mode': spelled('HILL1-2*', content)})
     yield Case(spelled('HILL1\0-2'), 42, 'D6', both(spelled('HILL1-2*')))
     # Each of the three has an info that was not sent before.
@@ -93,16 +95,16 @@ def otherwise():
 
 
 def made():
-    """Routes of 0 to 8 repeaters with the first ones marked. Every third frame is one that the APRS digipeater takes."""
+    """Routes of 0 to 8 repeaters in turn, with the first ones marked. Every third turn has frames that the APRS digipeater takes."""
     dice = Dice(100)
     for number, content in enumerate(made_contents(dice)[::3]):
-        repeaters = number % 9
+        turn, repeaters = divmod(number, 9)
         due, ours = dice.roll(repeaters + 1), dice.roll(3)
         groups = [group(made_callsign(dice), dice.roll(16), dice.roll(2), place == repeaters + 1, dice.roll(4)) for place in (0, 1)]
         for place in range(repeaters):
             callsign, ssid = (OWN.encode(), OWN_SSID) if place == due and ours else (made_callsign(dice), dice.roll(16))
             groups.append(group(callsign, ssid, place < due, place == repeaters - 1, dice.roll(4)))
-        yield Case(b''.join(groups) + (content if number % 3 else UI + content), 41 if due == repeaters else 0 if ours else 42)
+        yield Case(b''.join(groups) + (content if turn % 3 else UI + content), 41 if due == repeaters else 0 if ours else 42)
 
 
 def all_cases():
@@ -150,6 +152,7 @@ def sound(frame):
 
 # direwolf
 
+# No network. It sends at once, while it hears, and by a fast modem, since sending takes it as long as on the air.
 SETTINGS = f"""ADEVICE stdin null
 ARATE {ARATE}
 AGWPORT 0
@@ -178,7 +181,7 @@ def dumps(lines):
         begun = line if complaint else ''
         if complaint:
             continue
-        named = re.match(r'\[0(?:\.\d+)?(H|L)?\] ', line)
+        named, dumped = re.match(r'\[0(?:\.\d+)?(H|L)?\] ', line), re.match('  [0-9a-f]+: ((?: [0-9a-f]{2}){1,16})', line)
         if named:
             event, octets = SENT if named[1] else HEARD, None
         elif line == '------\n' and event:
@@ -187,8 +190,8 @@ def dumps(lines):
             else:
                 yield event, octets
                 event = None
-        elif octets is not None and re.match('  [0-9a-f]+:  ', line):
-            octets += bytes.fromhex(line.partition(':')[2][:50])
+        elif dumped and octets is not None:
+            octets += bytes.fromhex(dumped[1])
 
 
 class Direwolf:
@@ -272,7 +275,8 @@ def check_docs(count):
     rows = dict(re.findall(r'^\| (D\d+) \|(.*)', text.replace('`', ''), re.M))
     first = {case.entry: case for case in reversed([*otherwise()])}
     for entry, case in sorted(first.items()):
-        lacking = [hex_line(octets) for octets in (case.frame, *case.sent.values()) if octets and f' {hex_line(octets)} ' not in rows[entry]]
+        owed = [hex_line(octets) for octets in (case.frame, *case.sent.values()) if octets]
+        lacking = [octets for octets in owed if f' {octets} ' not in rows[entry]]
         count.fail_all([f'docs/DIFFERENCES.md, {entry}: {octets} is not there' for octets in lacking])
         if not lacking:
             count.ok(f'docs/DIFFERENCES.md, {entry}: the octets are those of the test')
