@@ -68,10 +68,13 @@ def made_contents(dice):
     return dice.shuffled(ours)
 
 
-def made_group(dice, ssid, mark, last):
+def group(callsign, ssid, mark, last, reserved=3):
+    return bytes(octet << 1 for octet in callsign.ljust(6)) + bytes([mark << 7 | reserved << 5 | ssid << 1 | last])
+
+
+def made_callsign(dice):
     letters = b'ABCDEFGHIJKLMNOPQRSTUVWXYZ0123456789'
-    callsign = bytes(letters[dice.roll(len(letters))] for _ in range(1 + dice.roll(6)))
-    return bytes(octet << 1 for octet in callsign.ljust(6)) + bytes([mark << 7 | 0x60 | ssid << 1 | last])
+    return bytes(letters[dice.roll(len(letters))] for _ in range(1 + dice.roll(6)))
 
 
 def made_frames():
@@ -82,7 +85,7 @@ def made_frames():
         turn, repeaters = divmod(number, 9)
         command = dice.roll(2)
         marks = [command, 1 - command] + [dice.roll(2) for _ in range(repeaters)]
-        groups = [made_group(dice, (turn + 5 * place) % 16, mark, place == repeaters + 1) for place, mark in enumerate(marks)]
+        groups = [group(made_callsign(dice), (turn + 5 * place) % 16, mark, place == repeaters + 1) for place, mark in enumerate(marks)]
         frames.append(b''.join(groups) + content)
     return frames
 
@@ -440,6 +443,13 @@ class Count:
         self.failed += 1
         print('FAILED:', text)
 
+    def fail_all(self, texts):
+        """One line each for the first five, and one that says how many more."""
+        for text in texts[:5]:
+            self.fail(text)
+        if len(texts) > 5:
+            self.fail(f'and so in {len(texts) - 5} frames more')
+
     def end(self):
         print(f'{self.passed} passed, {self.failed} failed')
         sys.exit(1 if self.failed else 0)
@@ -498,12 +508,8 @@ class Comparison:
 
     def report(self, count):
         for field in FIELDS:
-            shown, more = self.wrong[field][:5], len(self.wrong[field]) - 5
-            for line in shown:
-                count.fail(f'{field}: {line}')
-            if more > 0:
-                count.fail(f'{field}: and so in {more} frames more')
-            if self.agreed[field] and not shown:
+            count.fail_all([f'{field}: {line}' for line in self.wrong[field]])
+            if self.agreed[field] and not self.wrong[field]:
                 count.ok(f'{self.program}, {field}: {self.agreed[field]} frames agree')
         print(f'{self.program}: {self.frames} frames and {sum(self.agreed.values())} of their fields compared; not compared: '
               f'{sum(self.whole.values())} frames, and {sum(self.left_out.values())} fields of others')
@@ -537,8 +543,7 @@ def made(folder):
             ([frame for frame in made_frames() if not plain(frame)], 'no', 'frames that are plain but for their layer 3 PID'),
             (spoilt_frames(), 'no', 'frames with equal marks, a reserved bit clear or a tail')):
         wrong = [frame for frame in frames if readings[frame].get('canonical') != wanted]
-        for frame in wrong[:5]:
-            count.fail(f'the dumper should accept this and say canonical={wanted}: {hex_line(frame)}')
+        count.fail_all([f'the dumper should accept this and say canonical={wanted}: {hex_line(frame)}' for frame in wrong])
         if not wrong:
             count.ok(f'the dumper accepts {len(frames)} {what} and says canonical={wanted}')
     count.end()
@@ -556,4 +561,5 @@ def main():
         compare(folder, sys.argv[1])
 
 
-main()
+if __name__ == '__main__':
+    main()
