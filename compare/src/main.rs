@@ -14,6 +14,7 @@ mod lines;
 mod oracle;
 mod port;
 mod records;
+mod relay_list;
 mod relays;
 mod replay;
 mod report;
