@@ -549,10 +549,7 @@ impl Checker {
         let owed = owed_of_relay(own, read);
         let owed_number = owed.err().unwrap_or(0);
         self.seen.relay(own, input, read, owed);
-        let mut octets = input.to_vec();
-        if let Ok(due) = owed {
-            octets[domain::mark_at(input, due)] |= 0x80;
-        }
+        let octets = domain::relayed(input, owed);
         let number = self.port.relay(&own.callsign, own.ssid, input);
         if number != owed_number || !self.port.output_is(&octets) {
             let owes = || show::written(owed_number, octets.len(), &octets);
@@ -629,8 +626,8 @@ pub fn decoded(input: &[u8]) -> Result<Ax25Frame, u32> {
     }
 }
 
-/// The due place, which is to be marked, or the number of the first refusal that holds.
-fn owed_of_relay(own: &Own, read: &Result<Ax25Frame, u32>) -> Result<usize, u32> {
+/// What relaying owes: the due place, which is to be marked, or the number of the first refusal that holds.
+pub fn owed_of_relay(own: &Own, read: &Result<Ax25Frame, u32>) -> Result<usize, u32> {
     let address = domain::own_address(&own.callsign, own.ssid).ok_or(22_u32)?;
     let frame = read.as_ref().map_err(|&number| number)?;
     domain::relay(&flat::of_frame(frame), &address)

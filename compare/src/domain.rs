@@ -96,6 +96,15 @@ pub fn relay(record: &Flat, own: &FlatAddress) -> Result<usize, u32> {
     }
 }
 
+/// What is left of an input that owes this: the mark of the due place set, or all as it was.
+pub fn relayed(input: &[u8], owed: Result<usize, u32>) -> Vec<u8> {
+    let mut octets = input.to_vec();
+    if let Ok(due) = owed {
+        octets[mark_at(input, due)] |= 0x80;
+    }
+    octets
+}
+
 /// Where the mark of this repeater stands in an input that has it: bit 7 of the last octet of its group.
 pub fn mark_at(input: &[u8], place: usize) -> usize {
     let (start, _) = field(input).expect("an address field");

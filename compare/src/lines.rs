@@ -1,24 +1,28 @@
 //! The lines of the list for `replay`: each an input with the answer that is owed to it. On document 01's domain of equality that is
-//! the Rust's; elsewhere it is worked out here from document 01's rules, and the port is not asked.
+//! the Rust's; elsewhere it is worked out from the rules of documents 01 and 02, and the port is not asked.
 
+use crate::check;
 use crate::domain;
 use crate::flat::{self, Flat, FlatAddress, ADDRESS, FLAT, KIND, REPEATERS};
 use crate::inputs;
 use crate::oracle::{self, Refusal};
 use crate::records;
+use crate::relays::Own;
 use crate::show;
 use ax25::frame::Ax25Frame;
 
 pub const HEADING: &str = "\
 # Inputs and the answers that are owed to them, by the Rust crate ax25 0.4.0, unchanged. Made by 'compare/build' and
 # 'target/compare/compare replay-list'; never edited by hand. Where a heading says 'document 01', the Rust has no such answer, and
-# the lines under it were worked out from that paper's rules. So is what is left in lent octets, everywhere.
+# the lines under it were worked out from that paper's rules. So is what is left in lent octets, everywhere. Where it says
+# 'document 02', they were worked out from what the Rust decodes and that paper's rules (M-100).
 # Words are separated by one space; octets are hex digits, and - is none of them; numbers are decimal. A record is 92 octets:
 # destination and source of 7 each (six characters and the SSID); eight places of 8 (an address and its mark); the route count; the
 # mark (0 Command, 1 Response, 2 absent); then the content's 12: kind (0 I, 1 RR, 2 RNR, 3 REJ, 4 SABM, 5 DISC, 6 DM, 7 UA, 8 FRMR,
 # 9 UI, 10 unknown), PID case and octet, P/F, N(R), N(S), Z, Y, X, W, FRMR's response, the rejected control octet.
 # Octets that are lent are EE before the call. Behind a number stands what it left there: a dot where it touched none, else all of
-# them, and three more after them, which have to stay.
+# them, and three more after them, which have to stay. A frame to be relayed is lent itself, and stands there untouched too; a dot
+# where it is empty.
 # D input: number start end length info_start info_length record; by the loader's calls: number canonical number length octets
 # K content: number flat_content                   content read alone
 # E flat_content info room: number length octets   content written alone, into room for so many octets
@@ -30,7 +34,8 @@ pub const HEADING: &str = "\
 # H record: number hop_set hops_used due_place
 # Q address address: 1 where both are one station, else 0
 # U source destination: number record              new_simple_ui_frame
-# Z: number record                                 the default frame";
+# Z: number record                                 the default frame
+# R callsign frame ssid: number frame              a frame relayed by this station";
 
 /// A lent octet before the call, and how many of them are shown beyond the room.
 const LENT: u8 = 0xEE;
@@ -153,6 +158,14 @@ impl List {
     /// Document 01: two stations are equal when callsign and SSID are.
     pub fn same_station(&mut self, one: &FlatAddress, other: &FlatAddress) {
         self.line(format!("Q {} {} {}", hex(one), hex(other), u8::from(one == other)));
+    }
+
+    /// A refusal leaves the frame as it was, and it is shown all the same.
+    pub fn relay(&mut self, own: &Own, frame: &[u8]) {
+        let owed = check::owed_of_relay(own, &check::decoded(frame));
+        let number = owed.err().unwrap_or(0);
+        let left = domain::relayed(frame, owed);
+        self.line(format!("R {} {} {} {} {}", hex(&own.callsign), hex(frame), own.ssid, number, lent(&left, left.len())));
     }
 
     pub fn simple_ui(&mut self, source: &FlatAddress, destination: &FlatAddress) {

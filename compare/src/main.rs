@@ -14,6 +14,7 @@ mod lines;
 mod oracle;
 mod port;
 mod records;
+mod relay_list;
 mod relays;
 mod replay;
 mod report;
@@ -53,7 +54,7 @@ compare hops HEX                   the hops of a flat record
 compare same-station HEX HEX       two addresses of seven flat octets
 compare relay HEX SSID HEX         our own callsign and SSID, and a frame to pass on ('-': hex on standard input)
 compare bench                      times of both, and their ratios
-compare replay-list [N]            about N (3000) lines of the Rust's answers, for the program replay
+compare replay-list [N]            about N (5000) lines of the Rust's answers, for the program replay
   --json FILE    leave counts, mismatches and ratios there (test, captures, frames, bench)
   --seed N       another seed for test
   --only WORDS   only the classes of test with these words in their name

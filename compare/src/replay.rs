@@ -6,13 +6,15 @@ use crate::flat::{self, Flat, FlatAddress, ADDRESS, COUNT, ENTRY, KIND, MARK, NO
 use crate::inputs;
 use crate::lines::{List, HEADING};
 use crate::records;
+use crate::relay_list;
 use crate::rng::Rng;
 use crate::texts;
 
 /// Seeded inputs, info and texts are shorter than this, to keep the lines short.
-const LONGEST: usize = 120;
+pub const LONGEST: usize = 120;
 
-/// Prints about this many lines: what is always there, and seeded inputs up to the number.
+/// Prints about this many lines: what is always there, and seeded inputs up to the number. The relay's lines come on top of these,
+/// so that no other line hangs on how many they are.
 pub fn list(lines: usize) {
     println!("{}", HEADING);
     let mut list = List { lines: 0 };
@@ -35,6 +37,7 @@ pub fn list(lines: usize) {
     };
     inputs::frames(1, left / 2, &mut keep);
     inputs::damaged(2, left / 2, &mut keep);
+    relay_list::relaying(&mut list);
 }
 
 /// Document 01's examples, each under its name there.
@@ -197,7 +200,7 @@ fn departures() -> Vec<Vec<u8>> {
 }
 
 /// Document 01's example with an address field of this span, and this content.
-fn spanned(span: usize, content: &[u8]) -> Vec<u8> {
+pub fn spanned(span: usize, content: &[u8]) -> Vec<u8> {
     let mut input = inputs::with_repeaters(11, &[]);
     input.truncate(span);
     input[span - 1] |= 1;
@@ -207,7 +210,7 @@ fn spanned(span: usize, content: &[u8]) -> Vec<u8> {
 
 /// GAUGE, BOX12-3 and eight repeaters: RELAY1-1*, HILL-15*, quay7-2, the empty callsign with SSID 4*, PIER-9 with its reserved bits
 /// clear, "A B"-5*, LOCK22-14, MAST-7*.
-const STATIONS: &[u8; 76] = b"\x8E\x82\xAA\x8E\x8A\x40\xE0\x84\x9E\xB0\x62\x64\x40\x66\xA4\x8A\x98\x82\xB2\x62\xE2\
+pub const STATIONS: &[u8; 76] = b"\x8E\x82\xAA\x8E\x8A\x40\xE0\x84\x9E\xB0\x62\x64\x40\x66\xA4\x8A\x98\x82\xB2\x62\xE2\
     \x90\x92\x98\x98\x40\x40\xFE\xE2\xEA\xC2\xF2\x6E\x40\x64\x40\x40\x40\x40\x40\x40\xE8\xA0\x92\x8A\xA4\x40\x40\x12\
     \x82\x40\x84\x40\x40\x40\xEA\x98\x9E\x86\x96\x64\x64\x7C\x9A\x82\xA6\xA8\x40\x40\xEE\x88\xB2\x96\x8A\x62\x62";
 

@@ -1,5 +1,5 @@
-// The code's answer to one line, printed as the list has it. Lent octets are EE before a call; what stands behind those that a call
-// may write is shown too, three octets of it.
+// The code's answer to one line, printed as the list has it. Lent octets are EE before a call, or a frame that is relayed; what stands
+// behind those that a call may write, EE too, is shown as well, three octets of it.
 use crate::words::first;
 use crate::words::show_lent;
 use crate::words::show_number;
@@ -102,6 +102,21 @@ fn hops(record: &[u8]) {
     show_number(numbers[2]);
 }
 
+// The frame to be relayed is the first octets of the buffer.
+fn relay_in(callsign: &[u8], ssid: u8, out: &mut [u8], length: usize) {
+    if out.len() < length {
+        return;
+    }
+    show_answer(loader::ax25_relay(callsign, ssid, &mut out[..length]));
+    show_lent(first(out, shown(length)));
+}
+
+fn relay(callsign: &[u8], frame: &[u8], ssid: u8) {
+    let mut out = [0xEEu8; 515];
+    lent::put(&mut out, 0, frame);
+    relay_in(callsign, ssid, &mut out, frame.len());
+}
+
 // What a line has: its letter, two words of octets and a number, each none or 0 where it lacks it.
 pub(crate) fn answer(letter: u8, one: &[u8], other: &[u8], n: usize) {
     match letter {
@@ -115,6 +130,7 @@ pub(crate) fn answer(letter: u8, one: &[u8], other: &[u8], n: usize) {
         b'S' => write(letter, one, other, n),
         b'H' => hops(one),
         b'Q' => show_answer(probe::probe_same_station(one, other)),
+        b'R' => relay(one, other, (n % 256) as u8),
         _ => leave(letter, one, other, (n % 256) as u8),
     }
 }
