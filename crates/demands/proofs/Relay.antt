@@ -1,8 +1,8 @@
 -- Document 02, M-100, proved: each number of relaying is given exactly when its row is the first that holds; a refusal leaves the
 -- octets; what is relayed is as `Relayed` says; and what a second relay by the same station answers.
-use Prim.Native.Nat.{ℕ, zero, suc, _+_, _*_, _<_}
+use Prim.Native.Nat.{ℕ, zero, suc, _+_, _<_}
 use mathlib.Core.Path.{_≡_, refl, ap, sym, _∙_}
-use mathlib.Core.Bool.{Bool, true, false, true≢false, false≢true, cond, not, _&&_, _||_}
+use mathlib.Core.Bool.{Bool, true, false, true≢false, false≢true, cond, not, _||_}
 use mathlib.Core.List.{List, [], _∷_, _++_}
 use mathlib.Core.Logic.{_↔_}
 use native.Mathlib.Omega.{arith}
@@ -13,14 +13,14 @@ use lib.Seq.{getD-set-same, getD-set-other, set-getD, ext-getD}
 use Rattle.octets.specs.Octet.{Octets, field, bit}
 use Rattle.octets.specs.All.{all}
 use Rattle.octets.proofs.Choice.{by}
+use Rattle.octets.proofs.Place.{of-eight}
 use Rattle.address.specs.Address.{low, encodable}
-use Rattle.address.specs.Group.{markSet}
 use Rattle.address.specs.declared.Address.{Address}
 use Rattle.frame.specs.Spell.{repeaterAt, past}
 use Rattle.frame.specs.declared.RouteEntry.{RouteEntry}
 use Rattle.frame.specs.declared.Ax25Frame.{Ax25Frame}
 use Rattle.decode.specs.Answer.{numberOf, isAccepted}
-use Rattle.decode.specs.Read.{startOf, decode, infoIn}
+use Rattle.decode.specs.Read.{startOf, decode}
 use Rattle.decode.specs.declared.Decoded.{Decoded}
 use Rattle.decode.specs.declared.DecodeAnswer.{DecodeAnswer}
 use Rattle.decode.specs.declared.DecodeAnswer.the-variants as read
@@ -164,18 +164,6 @@ mark-bits b (suc (suc (suc (suc (suc zero))))) h = let e : field 5 1 (withMark b
 mark-bits b (suc (suc (suc (suc (suc (suc zero)))))) h = let e : field 6 1 (withMark b) ≡ field 6 1 b = omega arith in rw e refl
 mark-bits b (suc (suc (suc (suc (suc (suc (suc j))))))) h = absurd (omega arith)
 
--- a route with one entry marked, place by place
-eight : (f : ℕ → RouteEntry) (k : ℕ) → k < 8 → repeaterAt (f 0 ∷ f 1 ∷ f 2 ∷ f 3 ∷ f 4 ∷ f 5 ∷ f 6 ∷ f 7 ∷ []) k ≡ f k
-eight f zero h = refl
-eight f (suc zero) h = refl
-eight f (suc (suc zero)) h = refl
-eight f (suc (suc (suc zero))) h = refl
-eight f (suc (suc (suc (suc zero)))) h = refl
-eight f (suc (suc (suc (suc (suc zero))))) h = refl
-eight f (suc (suc (suc (suc (suc (suc zero)))))) h = refl
-eight f (suc (suc (suc (suc (suc (suc (suc zero))))))) h = refl
-eight f (suc (suc (suc (suc (suc (suc (suc (suc k)))))))) h = absurd (omega arith)
-
 or-true : (b : Bool) → (b || true) ≡ true
 or-true true = refl
 or-true false = refl
@@ -184,6 +172,7 @@ or-false : (b : Bool) → (b || false) ≡ b
 or-false true = refl
 or-false false = refl
 
+-- a route with one entry marked, place by place
 places-marked : (route : List RouteEntry) (i : ℕ) → length route ≡ 8 → i < 8
     → set route i (record { repeater = repeaterAt route i .repeater; «has_repeated» = true })
     ≡ placeMarked route i 0 ∷ placeMarked route i 1 ∷ placeMarked route i 2 ∷ placeMarked route i 3
@@ -193,8 +182,8 @@ places-marked route i l h =
     (λ k b. let k8 : k < 8 = rw (length-set, l) at b in
     by (eqb k i)
     (λ q. let e : k ≡ i = eqb-true k i q in
-    rw e (getD-set-same route i _ past (rw l h) ∙ sym (eight (placeMarked route i) i h ∙ rw (eq-eqb i i refl, or-true) refl)))
-    (λ q. getD-set-other route i k _ past (eqb-false k i q) ∙ sym (eight (placeMarked route i) k k8 ∙ rw (q, or-false) refl)))
+    rw e (getD-set-same route i _ past (rw l h) ∙ sym (of-eight (placeMarked route i) past i h ∙ rw (eq-eqb i i refl, or-true) refl)))
+    (λ q. getD-set-other route i k _ past (eqb-false k i q) ∙ sym (of-eight (placeMarked route i) past k k8 ∙ rw (q, or-false) refl)))
 
 module _ (own : Address) (s : List ℕ) (z : numbered (relayAnswer own s) ≡ 0) where
   abbrev f : Ax25Frame

@@ -15,6 +15,7 @@ use Rattle.octets.specs.Octet.{Octets, bit}
 use Rattle.octets.proofs.Choice.{by, both}
 use Rattle.octets.proofs.Octet.{octets-drop, octets-take}
 use Rattle.octets.proofs.First.{first-passes, first-before, first-is}
+use Rattle.octets.proofs.Place.{of-eight}
 use Rattle.address.specs.Group.{groupOf, markOf, markSet, reserved, reservedSet}
 use Rattle.address.proofs.Laws.{group-reserved, mark-written, written-exact, reserved-last, mark-last}
 use Rattle.content.specs.Spell.{hasInfo, front}
@@ -23,7 +24,7 @@ use Rattle.content.specs.declared.FrameContent.{FrameContent}
 use Rattle.lean.proofs.Laws.{content-exact, front-some}
 use Rattle.lean.proofs.Lean.{lean-spelled}
 use Rattle.decode.specs.Read.{nonzero, startOf, endOf, groupAt, parsedAt, entryAt, placeAt, routeAt, commandOf, frameAt, acceptedWith, decode, infoIn}
-use Rattle.frame.specs.Spell.{repeaterAt, groupsOf, destinationMark, sourceMark, addressField, spell, marked, Plain, inUse}
+use Rattle.frame.specs.Spell.{past, repeaterAt, groupsOf, destinationMark, sourceMark, addressField, spell, marked, Plain, inUse}
 use Rattle.frame.proofs.Write.{spell-length}
 use Rattle.frame.specs.declared.Mark.{Mark}
 use Rattle.frame.specs.declared.Mark.the-variants.{Command, Response, Absent}
@@ -94,18 +95,15 @@ marks-back true false e = (refl, refl)
 marks-back false true e = (refl, refl)
 marks-back false false e = absurd (false≢true e)
 
+-- the places of a route that is read, used or not
+pub place-at : (s : List ℕ) (at n k : ℕ) → k < 8 → repeaterAt (routeAt s at n) k ≡ placeAt s at n k
+unfolding routeAt
+place-at s at n k h = of-eight (placeAt s at n) past k h
+
 -- a place in use is read from its group
 pub route-at : (s : List ℕ) (at n k : ℕ) → k < n → n ≤ 8 → repeaterAt (routeAt s at n) k ≡ entryAt s (at + 7 * k)
-unfolding routeAt placeAt
-route-at s at n zero h l = simp (lt-ltb 0 n h)
-route-at s at n (suc zero) h l = simp (lt-ltb 1 n h)
-route-at s at n (suc (suc zero)) h l = simp (lt-ltb 2 n h)
-route-at s at n (suc (suc (suc zero))) h l = simp (lt-ltb 3 n h)
-route-at s at n (suc (suc (suc (suc zero)))) h l = simp (lt-ltb 4 n h)
-route-at s at n (suc (suc (suc (suc (suc zero))))) h l = simp (lt-ltb 5 n h)
-route-at s at n (suc (suc (suc (suc (suc (suc zero)))))) h l = simp (lt-ltb 6 n h)
-route-at s at n (suc (suc (suc (suc (suc (suc (suc zero))))))) h l = simp (lt-ltb 7 n h)
-route-at s at n (suc (suc (suc (suc (suc (suc (suc (suc k)))))))) h l = absurd (omega arith)
+unfolding placeAt
+route-at s at n k h l = place-at s at n k (omega arith) ∙ rw (lt-ltb k n h) refl
 
 zero-sym : (n : ℕ) → eqb 0 n ≡ eqb n 0
 zero-sym zero = refl

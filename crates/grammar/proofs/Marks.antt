@@ -1,12 +1,12 @@
 -- The repeaters' marks in the octets of an accepted input: where they stand, and what an input with another mark is read as.
-use Prim.Native.Nat.{ℕ, zero, suc, _+_, _-_, _*_, _/_, _%_, _≤_, _<_}
+use Prim.Native.Nat.{ℕ, zero, suc, _+_, _-_, _*_, _≤_, _<_}
 use mathlib.Core.Path.{_≡_, refl, ap, sym, subst, _∙_}
-use mathlib.Core.Bool.{Bool, true, false, cond, _&&_}
+use mathlib.Core.Bool.{Bool, true}
 use mathlib.Core.List.{List}
 use native.Mathlib.Omega.{arith}
 use borrow.Author.Tests.{ne-eqb, lt-ltb, le-ltb, eqb-true, eqb-false, ltb-true, ltb-false}
 use lib.Dec.{eqb, ltb}
-use lib.ListN.{length, length-set, length-drop, getD, set, take, drop}
+use lib.ListN.{length, length-set, length-drop, getD, set, drop}
 use lib.Seq.{getD-set-same, getD-set-other, getD-take, getD-drop, take-set-le, take-set-lt, drop-set-lt, drop-set-add, length-take-le, ext-getD}
 use Rattle.octets.specs.Octet.{field, bit}
 use Rattle.octets.proofs.Choice.{by}
@@ -23,7 +23,7 @@ use Rattle.decode.specs.Read.{nonzero, startOf, endOf, groupAt, parsedAt, entry
 use Rattle.decode.specs.declared.Decoded.{Decoded}
 use Rattle.decode.proofs.Accepts.{Accepts, accepts}
 use Rattle.grammar.specs.Direct.{reservedGroups, direct}
-use Rattle.grammar.proofs.Direct.{route-at, reserved-at, direct-is}
+use Rattle.grammar.proofs.Direct.{place-at, route-at, reserved-at, direct-is}
 
 -- where a group and its parts stand
 pub parsed-is : (s : List ℕ) (at : ℕ) → parsedAt s at ≡ record { address = addressOf (groupAt s at); «high_bit» = markOf (groupAt s at) }
@@ -58,19 +58,6 @@ place-read s at n i h l =
       ap (λ (x : RouteEntry). x .«has_repeated») e ∙ mark-last (groupAt s (at + 7 * i))
           ∙ ap markSet (getD-take 7 (drop (at + 7 * i) s) 6 0 (omega arith) ∙ getD-drop (at + 7 * i) s 6 0),
     )
-
--- the places of a route, used or not
-place-at : (s : List ℕ) (at n k : ℕ) → k < 8 → repeaterAt (routeAt s at n) k ≡ placeAt s at n k
-unfolding routeAt
-place-at s at n zero h = refl
-place-at s at n (suc zero) h = refl
-place-at s at n (suc (suc zero)) h = refl
-place-at s at n (suc (suc (suc zero))) h = refl
-place-at s at n (suc (suc (suc (suc zero)))) h = refl
-place-at s at n (suc (suc (suc (suc (suc zero))))) h = refl
-place-at s at n (suc (suc (suc (suc (suc (suc zero)))))) h = refl
-place-at s at n (suc (suc (suc (suc (suc (suc (suc zero))))))) h = refl
-place-at s at n (suc (suc (suc (suc (suc (suc (suc (suc k)))))))) h = absurd (omega arith)
 
 pub route-length : (s : List ℕ) (at n : ℕ) → length (routeAt s at n) ≡ 8
 unfolding routeAt

@@ -2,7 +2,7 @@
 -- place by the marks, and what one mark more makes of it.
 use Prim.Native.Nat.{ℕ, zero, suc, _+_, _-_, _*_, _/_, _%_, _^_, _≤_, _<_}
 use mathlib.Core.Path.{_≡_, refl, ap, sym, _∙_}
-use mathlib.Core.Bool.{Bool, true, false, true≢false, _&&_}
+use mathlib.Core.Bool.{Bool, true, false, true≢false}
 use mathlib.Core.List.{List, [], _∷_}
 use native.Mathlib.Nat.{pow-suc, zero-div}
 use native.Mathlib.Numerals.{one-add}
@@ -18,6 +18,7 @@ use Rattle.octets.specs.Octet.{bit, flag}
 use Rattle.octets.specs.Same.{same}
 use Rattle.octets.proofs.Choice.{by, both}
 use Rattle.octets.proofs.Count.{count-within, count-set}
+use Rattle.octets.proofs.Place.{of-eight}
 use Rattle.octets.proofs.Same.{same-refl, same-eq}
 use Rattle.address.specs.declared.Address.{Address}
 use Rattle.frame.specs.Spell.{repeaterAt, past}
@@ -34,15 +35,7 @@ set-below (false ∷ ms) = rw (pow-suc 2 (length ms)) (omega (arith, set-below m
 
 pub marks-at : (route : List RouteEntry) (count i : ℕ) → i < 8 → getD (marks route count) i false ≡ markedAt route count i
 unfolding marks
-marks-at route count zero h = refl
-marks-at route count (suc zero) h = refl
-marks-at route count (suc (suc zero)) h = refl
-marks-at route count (suc (suc (suc zero))) h = refl
-marks-at route count (suc (suc (suc (suc zero)))) h = refl
-marks-at route count (suc (suc (suc (suc (suc zero))))) h = refl
-marks-at route count (suc (suc (suc (suc (suc (suc zero)))))) h = refl
-marks-at route count (suc (suc (suc (suc (suc (suc (suc zero))))))) h = refl
-marks-at route count (suc (suc (suc (suc (suc (suc (suc (suc i)))))))) h = absurd (omega arith)
+marks-at route count i h = of-eight (markedAt route count) false i h
 
 pub marks-length : (route : List RouteEntry) (count : ℕ) → length (marks route count) ≡ 8
 unfolding marks

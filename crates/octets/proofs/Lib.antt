@@ -5,4 +5,5 @@ pub mod First
 pub mod Splice
 pub mod All
 pub mod Same
+pub mod Place
 pub mod Count

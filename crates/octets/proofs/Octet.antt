@@ -7,7 +7,7 @@ use mathlib.Core.Logic.{⊎-elim}
 use native.Mathlib.Omega.{arith}
 use native.Mathlib.Nat.{eq-or-lt-of-le, le-of-suc-le-suc, not-suc-le-zero}
 use lib.Dec.{T, eqb, eqb→eq}
-use lib.ListN.{length, getD, drop, take}
+use lib.ListN.{drop, take}
 use lib.Seq.{getD-drop}
 use Rattle.octets.specs.Octet.{Octets}
 use Rattle.octets.proofs.Choice.{so}
@@ -94,9 +94,3 @@ octets-take s zero o k = omega arith
 octets-take [] (suc n) o k = omega arith
 octets-take (x ∷ s) (suc n) o zero = o 0
 octets-take (x ∷ s) (suc n) o (suc k) = octets-take s n (λ j. o (suc j)) k
-
--- what stands past the end does not matter within
-pub getD-within : (s : List ℕ) (k d e : ℕ) → k < length s → getD s k d ≡ getD s k e
-getD-within [] k d e h = absurd (omega arith)
-getD-within (x ∷ s) zero d e h = refl
-getD-within (x ∷ s) (suc k) d e h = getD-within s k d e (omega arith)

@@ -1,7 +1,7 @@
 -- What the functions' proofs share: one place of the route as the loop counts it, the octet that a mark is set in, the parts of a
 -- frame that decodes. And the answers in their order, for the crates above.
 use Prim.Native.Nat.{ℕ, suc, _+_, _*_, _/_, _≤_, _<_}
-use mathlib.Core.Path.{_≡_, refl, ap, sym, _∙_}
+use mathlib.Core.Path.{_≡_, refl, sym, _∙_}
 use mathlib.Core.Bool.{Bool, true, false, cond, _&&_}
 use mathlib.Core.List.{List, [], _∷_}
 use native.Mathlib.Omega.{arith}

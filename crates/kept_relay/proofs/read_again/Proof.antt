@@ -1,5 +1,5 @@
 -- What is decoded is what was relayed.
-use mathlib.Core.Path.{refl, ap, _∙_}
+use mathlib.Core.Path.{refl, ap}
 use Rattle.decode.specs.Read.{decode}
 use Rattle.demands.proofs.Relay.{refused-relay, relayed-is}
 use borrow.Author.Needs.{needs}

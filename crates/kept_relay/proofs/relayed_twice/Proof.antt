@@ -1,5 +1,5 @@
 -- The second relay is of what the first left.
-use mathlib.Core.Path.{_∙_, refl}
+use mathlib.Core.Path.{refl}
 use Rattle.demands.proofs.Relay.{relayed-again}
 use borrow.Author.Needs.{needs}
 use Rattle.kept_relay.proofs.relayed_twice.Statement.{statement}

@@ -3,7 +3,7 @@ use mathlib.Core.Path.{sym}
 use native.Mathlib.Omega.{arith}
 use borrow.Author.Needs.{needs}
 use lib.ListN.{List·getD-eq-default}
-use Rattle.octets.proofs.Octet.{getD-within}
+use Rattle.octets.proofs.Place.{getD-within}
 use Rattle.relay.proofs.character_at.Statement.{statement}
 use Rattle.relay.proofs.character_at.Tie as tie
 

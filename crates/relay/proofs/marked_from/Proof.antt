@@ -1,6 +1,6 @@
 -- What is counted so far and the marks from place i on are all the marks.
 use Prim.Native.Nat.{_+_, _-_, _*_, _≤_, _<_}
-use mathlib.Core.Path.{_≡_, refl, sym, _∙_}
+use mathlib.Core.Path.{_≡_}
 use mathlib.Core.Bool.{Bool}
 use native.Mathlib.Nat.{zero-add}
 use native.Mathlib.Omega.{arith}

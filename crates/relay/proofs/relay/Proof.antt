@@ -1,6 +1,6 @@
 -- Each refusal by its own test; of an accepted frame the due place decides.
 use mathlib.Core.Path.{_≡_, refl, ap, sym, _∙_}
-use mathlib.Core.Bool.{true, false}
+use mathlib.Core.Bool.{true}
 use borrow.Author.Tests.{not-true, not-false}
 use Rattle.address.specs.Address.{encodable}
 use Rattle.decode.specs.Answer.{isAccepted}

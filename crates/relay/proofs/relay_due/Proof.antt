@@ -1,11 +1,10 @@
 -- The count is the due place; the group there is the repeater's; where it is ours its mark is set.
 use Prim.Native.Nat.{_+_, _*_, _≤_, _<_}
 use mathlib.Core.Path.{_≡_, refl, ap, sym, _∙_}
-use mathlib.Core.Bool.{true, false}
 use native.Mathlib.Omega.{arith}
 use borrow.Author.Tests.{not-true, not-false}
 use lib.ListN.{length}
-use Rattle.decode.specs.Read.{startOf, decode}
+use Rattle.decode.specs.Read.{decode}
 use Rattle.hops.specs.Hops.{duePlace}
 use Rattle.hops.specs.Station.{sameStation}
 use Rattle.hops.proofs.Laws.{due-within}

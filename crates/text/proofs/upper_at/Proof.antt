@@ -4,7 +4,7 @@ use native.Mathlib.Omega.{arith}
 use borrow.Author.Needs.{needs}
 use lib.ListN.{List·getD-eq-default}
 use Rattle.text.specs.Text.{upper}
-use Rattle.octets.proofs.Octet.{getD-within}
+use Rattle.octets.proofs.Place.{getD-within}
 use Rattle.text.proofs.upper_at.Statement.{statement}
 use Rattle.text.proofs.upper_at.Tie as tie
 
