@@ -89,8 +89,8 @@ pub fn run() -> Report {
         for (name, call) in CALLS {
             row(&mut rows, case.name, name, call(&case.inputs), &[]);
         }
-        if let Some(times) = relay(&case.inputs) {
-            row(&mut rows, case.name, "relay", times, &[]);
+        if let Some([port, decode, rust]) = relay(&case.inputs) {
+            row(&mut rows, case.name, "relay", [port, rust], &[("decode_ns", format!("{:.1}", decode))]);
         }
         if let Some([gross, reading, rust]) = encode(&case.inputs) {
             row(&mut rows, case.name, "encode", [gross - reading, rust], &[("gross_ns", format!("{:.1}", gross))]);
@@ -148,18 +148,25 @@ fn reencode(inputs: &[Vec<u8>]) -> [f64; 2] {
 /// them was stored waits for that, which is no part of a relay.
 const COPIES: usize = 64;
 
-/// Passing a frame on, by the station that is due; none where some input has no place that is due and not marked. The mark is cleared
-/// again before each run, so that each sets it: that one store is part of the port's time. The Rust has no relay: its caller would
+/// Passing a frame on, by the station that is due: the port's relay, its decode of the same frames, and the Rust; none where some input
+/// has no place that is due and not marked. The marks are cleared again before each run, so that each sets them. What that and the
+/// going from frame to frame take is measured beside and taken off both of the port's times. The Rust has no relay: its caller would
 /// decode the frame, set the mark in its route, and write it anew.
-fn relay(inputs: &[Vec<u8>]) -> Option<[f64; 2]> {
-    let copies = inputs.iter().flat_map(|input| std::iter::repeat(input).take(COPIES));
-    let mut frames = copies.map(|input| OnItsWay::of(input)).collect::<Option<Vec<_>>>()?;
+fn relay(inputs: &[Vec<u8>]) -> Option<[f64; 3]> {
+    let copies = || inputs.iter().flat_map(|input| std::iter::repeat(input).take(COPIES)).map(|input| OnItsWay::of(input));
+    let mut frames = copies().collect::<Option<Vec<_>>>()?;
     let received: Vec<_> = frames.iter().map(|frame| (frame.octets.clone(), frame.due)).collect();
     assert!(frames.iter_mut().all(|frame| frame.relay() == 0));
-    let port = move || {
-        frames.iter_mut().for_each(|frame| frame.octets[frame.mark] &= 0x7F);
-        frames.iter_mut().for_each(|frame| keep(&frame.relay()));
+    let side = |mut call: fn(&mut OnItsWay)| {
+        let mut frames: Vec<_> = copies().flatten().collect();
+        timed(move || {
+            frames.iter_mut().for_each(|frame| frame.octets[frame.mark] &= 0x7F);
+            frames.iter_mut().for_each(&mut call);
+        })
     };
+    let mut relaying = side(|frame| keep(&frame.relay()));
+    let mut decoding = side(|frame| keep(&bare::decode(&frame.octets)));
+    let mut clearing = side(|frame| keep(&frame.octets));
     let rust = || {
         for (octets, due) in &received {
             keep(&Ax25Frame::from_bytes(octets).map(|mut frame| {
@@ -168,8 +175,8 @@ fn relay(inputs: &[Vec<u8>]) -> Option<[f64; 2]> {
             }));
         }
     };
-    let times = race(received.len(), [&mut timed(port), &mut timed(rust)]);
-    Some(times)
+    let [relay, decode, clear, rust] = race(received.len(), [&mut relaying, &mut decoding, &mut clearing, &mut timed(rust)]);
+    Some([relay - clear, decode - clear, rust])
 }
 
 /// A frame, the place that is due and not marked, where its mark stands, and who is there.

@@ -29,7 +29,7 @@ use Rattle.grammar.proofs.Marks.{remarked, route, route-length, decode-marked, 
 use Rattle.hops.specs.Hops.{duePlace}
 use Rattle.hops.specs.Station.{sameStation}
 use Rattle.hops.proofs.Laws.{due-within, due-next}
-use Rattle.relay.specs.Relay.{reportOf, usedUp, ours, dueAnswer, relayAnswer, markPlace, withMark, leftBy, relayed, stationOf, relayAnswerAs, relayedAs}
+use Rattle.relay.specs.Relay.{reportOf, usedUp, ours, dueAnswer, relayAnswer, dueMark, orMark, leftBy, relayed, stationOf, relayAnswerAs, relayedAs}
 use Rattle.relay.specs.declared.RelayAnswer.{RelayAnswer}
 use Rattle.relay.specs.declared.RelayAnswer.the-variants as relay
 use Rattle.relay.proofs.Laws.{groups-inside, due-none, due-other, due-ours, relay-stranger, relay-refused, relay-accepted, relayed-by, station-encodable, as-station, as-refused, left-as}
@@ -148,20 +148,20 @@ pub refused-relay : (own : Address) (s : List ℕ) → (numbered (relayAnswer ow
 refused-relay own s n = relayed-by own s _ refl ∙ left-refused (relayAnswer own s) s n
 
 -- the octet that the mark is set in
-mark-low : (b : ℕ) → field 0 7 (withMark b) ≡ field 0 7 b
+mark-low : (b : ℕ) → field 0 7 (orMark b) ≡ field 0 7 b
 mark-low b = omega arith
 
-mark-high : (b : ℕ) → bit 7 (withMark b) ≡ true
-mark-high b = eq-eqb (field 7 1 (withMark b)) 1 (omega arith)
+mark-high : (b : ℕ) → bit 7 (orMark b) ≡ true
+mark-high b = eq-eqb (field 7 1 (orMark b)) 1 (omega arith)
 
-mark-bits : (b j : ℕ) → j < 7 → bit j (withMark b) ≡ bit j b
-mark-bits b zero h = let e : field 0 1 (withMark b) ≡ field 0 1 b = omega arith in rw e refl
-mark-bits b (suc zero) h = let e : field 1 1 (withMark b) ≡ field 1 1 b = omega arith in rw e refl
-mark-bits b (suc (suc zero)) h = let e : field 2 1 (withMark b) ≡ field 2 1 b = omega arith in rw e refl
-mark-bits b (suc (suc (suc zero))) h = let e : field 3 1 (withMark b) ≡ field 3 1 b = omega arith in rw e refl
-mark-bits b (suc (suc (suc (suc zero)))) h = let e : field 4 1 (withMark b) ≡ field 4 1 b = omega arith in rw e refl
-mark-bits b (suc (suc (suc (suc (suc zero))))) h = let e : field 5 1 (withMark b) ≡ field 5 1 b = omega arith in rw e refl
-mark-bits b (suc (suc (suc (suc (suc (suc zero)))))) h = let e : field 6 1 (withMark b) ≡ field 6 1 b = omega arith in rw e refl
+mark-bits : (b j : ℕ) → j < 7 → bit j (orMark b) ≡ bit j b
+mark-bits b zero h = let e : field 0 1 (orMark b) ≡ field 0 1 b = omega arith in rw e refl
+mark-bits b (suc zero) h = let e : field 1 1 (orMark b) ≡ field 1 1 b = omega arith in rw e refl
+mark-bits b (suc (suc zero)) h = let e : field 2 1 (orMark b) ≡ field 2 1 b = omega arith in rw e refl
+mark-bits b (suc (suc (suc zero))) h = let e : field 3 1 (orMark b) ≡ field 3 1 b = omega arith in rw e refl
+mark-bits b (suc (suc (suc (suc zero)))) h = let e : field 4 1 (orMark b) ≡ field 4 1 b = omega arith in rw e refl
+mark-bits b (suc (suc (suc (suc (suc zero))))) h = let e : field 5 1 (orMark b) ≡ field 5 1 b = omega arith in rw e refl
+mark-bits b (suc (suc (suc (suc (suc (suc zero)))))) h = let e : field 6 1 (orMark b) ≡ field 6 1 b = omega arith in rw e refl
 mark-bits b (suc (suc (suc (suc (suc (suc (suc j))))))) h = absurd (omega arith)
 
 or-true : (b : Bool) → (b || true) ≡ true
@@ -193,13 +193,13 @@ module _ (own : Address) (s : List ℕ) (z : numbered (relayAnswer own s) ≡ 0)
   i = duePlace f
 
   abbrev p : ℕ
-  p = markPlace (startOf s) i
+  p = dueMark s
 
   abbrev b : ℕ
   b = getD s p 0
 
   abbrev t : List ℕ
-  t = set s p (withMark b)
+  t = set s p (orMark b)
 
   d : Due own s
   d = due-by own s z
@@ -219,7 +219,7 @@ module _ (own : Address) (s : List ℕ) (z : numbered (relayAnswer own s) ≡ 0)
     «info_start» = decode s .«info_start»;
     «info_len» = decode s .«info_len»;
   }
-  read-again = decode-marked s (d .accepted) i (withMark b) (d .inner) (mark-low b) ∙ rw (mark-high b) refl
+  read-again = decode-marked s (d .accepted) i (orMark b) (d .inner) (mark-low b) ∙ rw (mark-high b) refl
 
   frame-again : remarked f i true ≡ frameMarked f i
   unfolding frameMarked
@@ -231,32 +231,32 @@ module _ (own : Address) (s : List ℕ) (z : numbered (relayAnswer own s) ≡ 0)
   octets-again : Octets s → Octets t
   octets-again o k =
       by (eqb k p)
-      (λ e. let q : k ≡ p = eqb-true k p e in rw (q, getD-set-same s p (withMark b) 0 (within .1)) (omega arith))
-      (λ e. rw (getD-set-other s p k (withMark b) 0 (eqb-false k p e)) (o k))
+      (λ e. let q : k ≡ p = eqb-true k p e in rw (q, getD-set-same s p (orMark b) 0 (within .1)) (omega arith))
+      (λ e. rw (getD-set-other s p k (orMark b) 0 (eqb-false k p e)) (o k))
 
   same-canonical : Octets s → canonical t ≡ canonical s
   same-canonical o =
       canonical-direct t (octets-again o) again-accepted
-      ∙ rw read-again (direct-marked s (d .accepted) i (withMark b) (d .inner) (mark-low b))
+      ∙ rw read-again (direct-marked s (d .accepted) i (orMark b) (d .inner) (mark-low b))
       ∙ sym (canonical-direct s o (d .accepted))
 
   -- what is relayed
   pub relayed-is : Octets s → Relayed s (relayed own s)
   relayed-is o = rw left (record {
-    length = length-set s p (withMark b);
-    others = λ k n. getD-set-other s p k (withMark b) 0 n;
-    bits = λ j h. rw (getD-set-same s p (withMark b) 0 (within .1)) (mark-bits b j h);
-    mark = rw (getD-set-same s p (withMark b) 0 (within .1)) (mark-high b);
+    length = length-set s p (orMark b);
+    others = λ k n. getD-set-other s p k (orMark b) 0 n;
+    bits = λ j h. rw (getD-set-same s p (orMark b) 0 (within .1)) (mark-bits b j h);
+    mark = rw (getD-set-same s p (orMark b) 0 (within .1)) (mark-high b);
     answer = ap (λ (x : Decoded). x .answer) read-again;
     frame = ap (λ (x : Decoded). x .frame) read-again ∙ frame-again;
-    info = rw read-again (info-marked s (d .accepted) i (withMark b) (d .inner) (mark-low b));
+    info = rw read-again (info-marked s (d .accepted) i (orMark b) (d .inner) (mark-low b));
     canonical = same-canonical o;
   })
 
   -- where the due place is ours and marked already, nothing changes
   pub relayed-marked : Octets s → bit 7 b ≡ true → relayed own s ≡ s
   relayed-marked o m =
-      let same : withMark b ≡ b = omega (arith, o p, eqb-true (field 7 1 b) 1 m) in
+      let same : orMark b ≡ b = omega (arith, o p, eqb-true (field 7 1 b) 1 m) in
       left ∙ rw same (set-getD s p 0)
 
   -- a second relay by the same station, of a frame whose marks were in order

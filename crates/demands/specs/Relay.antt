@@ -12,10 +12,10 @@ use Rattle.address.specs.declared.Address.{Address}
 use Rattle.frame.specs.Spell.{repeaterAt}
 use Rattle.frame.specs.declared.RouteEntry.{RouteEntry}
 use Rattle.frame.specs.declared.Ax25Frame.{Ax25Frame}
-use Rattle.decode.specs.Read.{startOf, decode, infoIn}
+use Rattle.decode.specs.Read.{decode, infoIn}
 use Rattle.hops.specs.Hops.{markedAt, duePlace}
 use Rattle.hops.specs.Station.{sameStation}
-use Rattle.relay.specs.Relay.{usedUp, ours, markPlace}
+use Rattle.relay.specs.Relay.{usedUp, ours, dueMark}
 use Rattle.spelling.specs.Canonical.{canonical}
 use Rattle.demands.specs.Table.{Table}
 use Rattle.demands.specs.Numbers.{decodeTable}
@@ -53,11 +53,11 @@ frameMarked f due = record {
 pub record Relayed (s t : List ℕ) : Type 0 where
   pub length : length t ≡ length s
   -- every other octet
-  pub others : (k : ℕ) → (k ≡ markPlace (startOf s) (duePlace (decode s .frame)) → ⊥) → getD t k 0 ≡ getD s k 0
+  pub others : (k : ℕ) → (k ≡ dueMark s → ⊥) → getD t k 0 ≡ getD s k 0
   -- every other bit of that octet
-  pub bits : (j : ℕ) → j < 7 → bit j (getD t (markPlace (startOf s) (duePlace (decode s .frame))) 0) ≡ bit j (getD s (markPlace (startOf s) (duePlace (decode s .frame))) 0)
+  pub bits : (j : ℕ) → j < 7 → bit j (getD t (dueMark s) 0) ≡ bit j (getD s (dueMark s) 0)
   -- its mark
-  pub mark : bit 7 (getD t (markPlace (startOf s) (duePlace (decode s .frame))) 0) ≡ true
+  pub mark : bit 7 (getD t (dueMark s) 0) ≡ true
   -- a further decode: the same answer, the same frame with that one mark set, the same info octets
   pub answer : decode t .answer ≡ decode s .answer
   pub frame : decode t .frame ≡ frameMarked (decode s .frame) (duePlace (decode s .frame))

@@ -28,7 +28,7 @@ use Rattle.hops.proofs.Laws.{marks-at, marks-length, marked-in, due-marks}
 use Rattle.grammar.proofs.Marks.{route, place-read}
 use Rattle.relay.specs.declared.RelayAnswer.{RelayAnswer}
 use Rattle.relay.specs.declared.RelayAnswer.the-variants.{Relayed, NotEncodable, Refused, RouteUsedUp, AnotherStation}
-use Rattle.relay.specs.Relay.{withMark, ours, dueAnswer, relayAnswer, leftBy, relayed, stationOf, relayAnswerAs, relayedAs}
+use Rattle.relay.specs.Relay.{orMark, ours, dueAnswer, relayAnswer, leftBy, relayed, stationOf, relayAnswerAs, relayedAs}
 
 -- the mark, shifted down, adds what it counts
 shifted : (b n : ℕ) → b < 256 → cond (markSet b) (suc n) n ≡ b / 128 + n
@@ -48,8 +48,8 @@ marks-turn s at n i h l o =
     ∙ rw mark (shifted (getD s (at + 7 * i + 6) 0) (count (λ (m : Bool). m) (drop (i + 1) (marks (routeAt s at n) n))) o)
 
 -- the code's or
-pub or-mark : (b : ℕ) → b < 256 → bitOr b 0x80 ≡ withMark b
-or-mark b h = octet-same (λ n. bitOr n 0x80) withMark tt b h
+pub or-mark : (b : ℕ) → b < 256 → bitOr b 0x80 ≡ orMark b
+or-mark b h = octet-same (λ n. bitOr n 0x80) orMark tt b h
 
 -- of an accepted input: its groups stand in it; the marks that the loop counts tell the due place; the group there is the repeater's
 module _ (s : List ℕ) (e : isAccepted (decode s .answer) ≡ true) where

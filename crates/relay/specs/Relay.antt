@@ -44,22 +44,18 @@ relayAnswer own s =
     (cond (isAccepted (decode s .answer)) (dueAnswer own (decode s .frame)) (Refused (decode s .answer)))
     NotEncodable
 
--- where the mark of place i stands, of a frame that starts at `start`: in the seventh octet of its group, which follows
--- destination, source and i repeaters (document 01, rules 2 and 3)
-abbrev pub markPlace : ℕ → ℕ → ℕ
-markPlace start i = start + 14 + 7 * i + 6
+-- where the mark of the due place stands: in the seventh octet of its group, which follows destination, source and the repeaters
+-- before it (document 01, rules 2 and 3)
+abbrev pub dueMark : List ℕ → ℕ
+dueMark s = startOf s + 14 + 7 * duePlace (decode s .frame) + 6
 
 -- an octet or-ed with 80 hex: bit 7 set, the other bits as they were
-abbrev pub withMark : ℕ → ℕ
-withMark b = flag 7 true + field 0 7 b
+abbrev pub orMark : ℕ → ℕ
+orMark b = flag 7 true + field 0 7 b
 
--- the octets with the mark of place i set
-abbrev pub markedAt : List ℕ → ℕ → List ℕ
-markedAt s i = set s (markPlace (startOf s) i) (withMark (getD s (markPlace (startOf s) i) 0))
-
--- what is left in the buffer: the mark of the due place is set in it, or it is as it was
+-- what is left in the buffer: that octet or-ed with 80 hex, or all as it was
 abbrev pub leftBy : RelayAnswer → List ℕ → List ℕ
-leftBy Relayed s = markedAt s (duePlace (decode s .frame))
+leftBy Relayed s = set s (dueMark s) (orMark (getD s (dueMark s) 0))
 leftBy NotEncodable s = s
 leftBy (Refused a) s = s
 leftBy RouteUsedUp s = s

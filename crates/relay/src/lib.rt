@@ -12,7 +12,7 @@ ghost use Rattle.decode.specs.Answer.{isAccepted};
 ghost use Rattle.decode.specs.Read.{startOf, parsedAt, routeAt, decode};
 ghost use Rattle.hops.specs.Hops.{marks};
 ghost use Rattle.hops.specs.Station.{sameStation};
-ghost use Rattle.relay.specs.Relay.{reportOf, dueAnswer, relayAnswer, withMark, leftBy, relayed, stationOf, relayAnswerAs, relayedAs};
+ghost use Rattle.relay.specs.Relay.{reportOf, dueAnswer, relayAnswer, orMark, leftBy, relayed, stationOf, relayAnswerAs, relayedAs};
 
 pub enum RelayAnswer {
     Relayed,
@@ -71,7 +71,7 @@ fn is_ours(own: Address, bytes: &[u8], at: usize) -> bool
 // The mark set in the last octet of a group.
 fn set_mark(bytes: &mut [u8], last: usize)
     requires { ⌜ last < length (now bytes) ⌝ }
-    ensures { λ r. ⌜ now (bytes .exit) ≡ set (now (bytes .entry)) last (withMark (getD (now (bytes .entry)) last 0)) ⌝ }
+    ensures { λ r. ⌜ now (bytes .exit) ≡ set (now (bytes .entry)) last (orMark (getD (now (bytes .entry)) last 0)) ⌝ }
 {
     let octet = bytes[last];
     bytes[last] = octet | 0b1000_0000;
