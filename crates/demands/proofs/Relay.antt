@@ -243,7 +243,7 @@ module _ (own : Address) (s : List ℕ) (z : numbered (relayAnswer own s) ≡ 0)
   -- what is relayed
   pub relayed-is : Octets s → Relayed s (relayed own s)
   relayed-is o = rw left (record {
-    length = length-set s p (orMark b);
+    as-long = length-set s p (orMark b);
     others = λ k n. getD-set-other s p k (orMark b) 0 n;
     bits = λ j h. rw (getD-set-same s p (orMark b) 0 (within .1)) (mark-bits b j h);
     mark = rw (getD-set-same s p (orMark b) 0 (within .1)) (mark-high b);

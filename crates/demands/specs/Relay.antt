@@ -51,7 +51,7 @@ frameMarked f due = record {
 
 -- t is s relayed: the mark of the due place is set in it, and all else is as it was received
 pub record Relayed (s t : List ℕ) : Type 0 where
-  pub length : length t ≡ length s
+  pub as-long : length t ≡ length s
   -- every other octet
   pub others : (k : ℕ) → (k ≡ dueMark s → ⊥) → getD t k 0 ≡ getD s k 0
   -- every other bit of that octet

@@ -138,13 +138,19 @@ remarked f i m = record {
   content = f .content;
 }
 
-count-read : (s : List ℕ) (a : Accepts s (decode s)) → decode s .frame .«route_count» ≡ a .count
-unfolding acceptedWith frameAt
-count-read s a = ap (λ (d : Decoded). d .frame .«route_count») (a .made)
-
 -- what is read where the mark of one repeater is another, and every other bit the same
-module _ (s : List ℕ) (a : Accepts s (decode s)) (i v : ℕ) (h : i < a .count)
+module _ (s : List ℕ) (e : isAccepted (decode s .answer) ≡ true) (i v : ℕ) (h : i < decode s .frame .«route_count»)
     (low : field 0 7 v ≡ field 0 7 (getD s (startOf s + 14 + 7 * i + 6) 0)) where
+  abbrev a : Accepts s (decode s)
+  a = accepts s e
+
+  count-read : decode s .frame .«route_count» ≡ a .count
+  unfolding acceptedWith frameAt
+  count-read = ap (λ (d : Decoded). d .frame .«route_count») (a .made)
+
+  inner : i < a .count
+  inner = rw count-read at h
+
   abbrev p : ℕ
   p = startOf s + 14 + 7 * i + 6
 
@@ -152,7 +158,7 @@ module _ (s : List ℕ) (a : Accepts s (decode s)) (i v : ℕ) (h : i < a .count
   u = set s p v
 
   p-in : (p ≤ endOf s) × (endOf s < length s)
-  p-in = let counted = a .counted in let long = a .long in (omega arith, a .end-in)
+  p-in = let counted = a .counted in let long = a .long in (omega (arith, inner), a .end-in)
 
   -- a test that does not look at bit 7 passes wherever it passed
   same-test : (test : ℕ → Bool) → test v ≡ test (getD s p 0) → (k : ℕ) → test (getD u k 0) ≡ test (getD s k 0)
@@ -189,7 +195,7 @@ module _ (s : List ℕ) (a : Accepts s (decode s)) (i v : ℕ) (h : i < a .count
       rw (
         group-before s (startOf s) p v (omega arith),
         group-before s (startOf s + 7) p v (omega arith),
-        route-marked s (startOf s + 14) v (a .count) i h (a .few) fits low,
+        route-marked s (startOf s + 14) v (a .count) i inner (a .few) fits low,
       )
       refl
 
@@ -209,14 +215,15 @@ module _ (s : List ℕ) (a : Accepts s (decode s)) (i v : ℕ) (h : i < a .count
         a .read,
       ) (rw length-set refl))
 
-  decode-again : decode u ≡ record {
+  -- the same answer, the same place of info, the same frame but for that mark
+  pub decode-marked : decode u ≡ record {
     answer = decode s .answer;
     frame = remarked (decode s .frame) i (markSet v);
     «info_start» = decode s .«info_start»;
     «info_len» = decode s .«info_len»;
   }
   unfolding acceptedWith frameAt
-  decode-again = read-marked ∙ rw (frame-marked, a .made) refl
+  decode-marked = read-marked ∙ rw (frame-marked, a .made) refl
 
   -- reserved bits, group by group
   same-reserved : (m : ℕ) → reservedGroups u m ≡ reservedGroups s m
@@ -224,9 +231,11 @@ module _ (s : List ℕ) (a : Accepts s (decode s)) (i v : ℕ) (h : i < a .count
   same-reserved zero = refl
   same-reserved (suc m) = rw (same-reserved m, reserved-at u m, reserved-at s m, same-reserves (7 * m + 6)) refl
 
-  direct-again : direct u (a .count) ≡ direct s (a .count)
-  direct-again =
-      direct-is u (a .count)
+  -- the direct look passes where it passed
+  pub direct-marked : direct u (decode s .frame .«route_count») ≡ direct s (decode s .frame .«route_count»)
+  direct-marked =
+      rw count-read
+      (direct-is u (a .count)
       ∙ rw (
         getD-set-other s p 0 v 0 (λ e. omega (arith, e)),
         getD-set-other s p 6 v 0 (λ e. omega (arith, e)),
@@ -237,41 +246,14 @@ module _ (s : List ℕ) (a : Accepts s (decode s)) (i v : ℕ) (h : i < a .count
       (by (nonzero (getD s 0 0))
       (λ e.
       let start : startOf s ≡ 0 = first-is nonzero s 0 0 (omega (arith, a .start-in)) e (λ j l. absurd (omega arith)) in
-      let tail : drop (14 + 7 * a .count) u ≡ drop (14 + 7 * a .count) s = drop-set-lt (14 + 7 * a .count) s p v (omega arith) in
+      let tail : drop (14 + 7 * a .count) u ≡ drop (14 + 7 * a .count) s = drop-set-lt (14 + 7 * a .count) s p v (omega (arith, inner)) in
       rw tail (sym (direct-is s (a .count))))
-      (λ e. rw e (sym (direct-is s (a .count) ∙ rw e refl))))
+      (λ e. rw e (sym (direct-is s (a .count) ∙ rw e refl)))))
 
-  info-again : infoIn u (decode s) ≡ infoIn s (decode s)
+  -- the same info octets
+  pub info-marked : infoIn u (decode s) ≡ infoIn s (decode s)
   unfolding acceptedWith frameAt
-  info-again = rw (a .made)
+  info-marked = rw (a .made)
       (by (hasInfo (a .kind))
       (λ e. simp e (rw (drop-set-lt (endOf s + 1 + 2) s p v (omega (arith, p-in .0))) refl))
       (λ e. simp e))
-
-module _ (s : List ℕ) (e : isAccepted (decode s .answer) ≡ true) (i v : ℕ) (h : i < decode s .frame .«route_count»)
-    (low : field 0 7 v ≡ field 0 7 (getD s (startOf s + 14 + 7 * i + 6) 0)) where
-  abbrev a : Accepts s (decode s)
-  a = accepts s e
-
-  inner : i < a .count
-  inner = rw (count-read s a) at h
-
-  abbrev w : List ℕ
-  w = set s (startOf s + 14 + 7 * i + 6) v
-
-  -- the same answer, the same place of info, the same frame but for that mark
-  pub decode-marked : decode w ≡ record {
-    answer = decode s .answer;
-    frame = remarked (decode s .frame) i (markSet v);
-    «info_start» = decode s .«info_start»;
-    «info_len» = decode s .«info_len»;
-  }
-  decode-marked = decode-again s a i v inner low
-
-  -- the same info octets
-  pub info-marked : infoIn w (decode s) ≡ infoIn s (decode s)
-  info-marked = info-again s a i v inner low
-
-  -- the direct look passes where it passed
-  pub direct-marked : direct w (decode s .frame .«route_count») ≡ direct s (decode s .frame .«route_count»)
-  direct-marked = rw (count-read s a) (direct-again s a i v inner low)
