@@ -1,13 +1,13 @@
 #!/usr/bin/env python3
 """The most stack that the functions of an x86-64 archive can use, read off its disassembly.
 
-usage: stackdepth.py OBJDUMP ARCHIVE
+usage: stackdepth.py OBJDUMP ARCHIVE [NAME..]
 
-Prints a line for each global function: its name, its bound in octets (return address included) and the functions outside
-the archive that it calls, whose own stack is not counted. A function's bound is 8 for its return address, all that its code pushes and
-subtracts from the stack pointer, and the deeper of its red zone and its deepest callee. What is popped is never taken off,
-so the bound is one from above. Code that can't be bounded this way (recursion, indirect calls, another change of the stack
-pointer, growth inside a loop) ends the program with a message and status 1."""
+Prints a line for each global function, or for those that are named: its name, its bound in octets (return address included) and the
+functions outside the archive that it calls, whose own stack is not counted. A function's bound is 8 for its return address, all that
+its code pushes and subtracts from the stack pointer, and the deeper of its red zone and its deepest callee. What is popped is never
+taken off, so the bound is one from above. Code that can't be bounded this way (recursion, indirect calls, another change of the stack
+pointer, growth inside a loop) ends the program with a message and status 1 where one of these functions reaches it."""
 import re
 import subprocess
 import sys
@@ -30,11 +30,15 @@ class Function:
         self.red_zone = 0
         self.callees = set()
         self.open = None      # a call or jump whose target is the next relocation
+        self.fault = None     # why it can't be bounded
+
+    def refuse(self, why):
+        self.fault = self.fault or f'{self.name}: {why}'
 
     def take(self, place, op, args):
         if self.open:
             if self.open.startswith('call'):
-                die(f'{self.name}: a call at {place:x} whose target is not known')
+                self.refuse(f'a call at {place:x} whose target is not known')
             self.open = None
         for low in re.findall(r'-(0x[0-9a-f]+)\(%rsp', args):
             self.red_zone = max(self.red_zone, int(low, 16))
@@ -42,7 +46,7 @@ class Function:
             self.grows.append((place, 8))
         elif op.startswith('call'):
             if args.startswith('*'):
-                die(f'{self.name}: an indirect call at {place:x}: {args}')
+                self.refuse(f'an indirect call at {place:x}: {args}')
             self.open = op
         elif op.startswith('j'):
             target = re.match(r'(?:0x)?([0-9a-f]+) <', args)
@@ -52,13 +56,13 @@ class Function:
         elif re.search(r'(^|,\s*)%[re]?spl?$', args) and not op.startswith(('cmp', 'test', 'pop')):
             self.take_change(place, op, args)
         elif op.startswith(('enter', 'leave')):
-            die(f'{self.name}: {op} at {place:x}')
+            self.refuse(f'{op} at {place:x}')
 
     def take_change(self, place, op, args):
         """An instruction that ends in the stack pointer: only sums with a constant are known."""
         constant = re.match(r'^\$(-?0x[0-9a-f]+|-?\d+), %rsp$', args)
         if not constant or not op.startswith(('sub', 'add')):
-            die(f'{self.name}: {op} {args} at {place:x}')
+            return self.refuse(f'{op} {args} at {place:x}')
         octets = int(constant[1], 0)
         if octets >> 63:
             octets -= 1 << 64
@@ -69,11 +73,11 @@ class Function:
 
     def end(self):
         if self.open and self.open.startswith('call'):
-            die(f'{self.name}: a last call whose target is not known')
+            self.refuse('a last call whose target is not known')
         for start, target in self.back:
             for place, _ in self.grows:
                 if target <= place <= start:
-                    die(f'{self.name}: the stack grows at {place:x}, in a loop from {target:x} to {start:x}')
+                    self.refuse(f'the stack grows at {place:x}, in a loop from {target:x} to {start:x}')
 
 
 def read(objdump, archive):
@@ -106,6 +110,8 @@ def bound(functions, name, above=()):
     if name not in functions:
         return 8, {name}
     function, below, outside = functions[name], functions[name].red_zone, set()
+    if function.fault:
+        die(function.fault)
     for callee in function.callees:
         octets, more = bound(functions, callee, above + (name,))
         below = max(below, octets)
@@ -114,10 +120,12 @@ def bound(functions, name, above=()):
 
 
 def main():
-    if len(sys.argv) != 3:
+    if len(sys.argv) < 3:
         sys.exit(__doc__)
     functions, names = read(sys.argv[1], sys.argv[2])
-    for name in sorted(names):
+    for name in sorted(names if len(sys.argv) == 3 else sys.argv[3:]):
+        if name not in names:
+            die(f'{sys.argv[2]} has no global function {name}')
         octets, outside = bound(functions, name)
         print(name, octets, *sorted(outside))
 

@@ -1,18 +1,16 @@
--- Laws of reading that the functions' proofs share: the seven octets of a group, a route with one repeater more, the start no
--- later than the end, a refused content.
+-- Laws of reading that the functions' proofs share: a route with one repeater more, the start no later than the end, a refused
+-- content.
 use Prim.Native.Nat.{ℕ, zero, suc, _+_, _*_, _%_, _/_, _≤_, _<_}
-use mathlib.Core.Path.{_≡_, refl, ap, sym}
+use mathlib.Core.Path.{_≡_, refl, ap}
 use mathlib.Core.Bool.{true, false, not}
 use mathlib.Core.List.{List, [], _∷_}
-use native.Mathlib.Nat.{add-suc, mod-eq-of-lt}
-use native.Mathlib.Numerals.{add-one}
+use native.Mathlib.Nat.{mod-eq-of-lt}
 use native.Mathlib.Omega.{arith}
 use borrow.Author.Tests.{ne-eqb, eqb-true}
 use types.Run.{OneOf, miss}
 use denote.Enum.Declared.{tagOf}
 use lib.Bits.{and-mask}
-use lib.ListN.{length, getD, set, drop}
-use lib.Seq.{drop-cons}
+use lib.ListN.{length, getD, set}
 use Rattle.octets.specs.Octet.{Octets, bit}
 use Rattle.octets.specs.First.{first}
 use Rattle.octets.proofs.Bits.{bit-test}
@@ -29,18 +27,7 @@ use Rattle.decode.specs.declared.DecodeAnswer.{DecodeAnswer}
 use Rattle.decode.specs.declared.DecodeAnswer.the-variants as answer
 use Rattle.decode.proofs.DecodeAnswer.{the-type as decode-type}
 use Rattle.search.specs.Search.{masked}
-use Rattle.decode.specs.Read.{nonzero, startOf, endOf, groupAt, entryAt, placeAt, routeAt, refusalOf}
-
--- the seven octets of a group, one by one
-pub group-seven : (s : List ℕ) (at : ℕ) → at + 7 ≤ length s
-    → getD s at 0 ∷ getD s (at + 1) 0 ∷ getD s (at + 2) 0 ∷ getD s (at + 3) 0 ∷ getD s (at + 4) 0 ∷ getD s (at + 5) 0 ∷ getD s (at + 6) 0 ∷ []
-    ≡ groupAt s at
-group-seven s at h =
-    let z : drop at s ≡ getD s at 0 ∷ drop (at + 1) s = rw add-one (drop-cons s at 0 (omega arith)) in
-    sym (rw (z, from 1 (omega arith), from 2 (omega arith), from 3 (omega arith), from 4 (omega arith), from 5 (omega arith), from 6 (omega arith)))
-  where
-    from : (k : ℕ) → k < 7 → drop (at + k) s ≡ getD s (at + k) 0 ∷ drop (at + suc k) s
-    from k l = rw (add-suc, drop-cons s (at + k) 0 (omega arith))
+use Rattle.decode.specs.Read.{nonzero, startOf, endOf, entryAt, placeAt, routeAt, refusalOf}
 
 -- a route of one repeater more
 pub route-next : (s : List ℕ) (at i : ℕ) → i < 8 → set (routeAt s at i) i (entryAt s (at + 7 * i)) ≡ routeAt s at (i + 1)

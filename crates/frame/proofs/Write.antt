@@ -38,7 +38,11 @@ groups-length route total zero = refl
 groups-length route total (suc n) =
     length-append (groupsOf route total n) _ ∙ rw (groups-length route total n, group-length) (omega arith)
 
--- one group more, as a loop writes it
+-- the groups of a loop that begins, and one group more
+pub groups-none : (route : List RouteEntry) (total : ℕ) → groupsOf route total 0 ≡ []
+unfolding groupsOf
+groups-none route total = refl
+
 pub groups-more : (l : List ℕ) (at : ℕ) (route : List RouteEntry) (total i : ℕ) → at + 7 * i + 7 ≤ length l
     → splice (splice l at (groupsOf route total i)) (at + 7 * i)
     (groupOf (repeaterAt route i .repeater) (repeaterAt route i .«has_repeated») (eqb (i + 1) total))

@@ -4,14 +4,12 @@ use crate::Mark;
 use crate::RouteEntry;
 use crate::WriteAnswer;
 use crate::Written;
-use address::Address;
+use address::group;
 ghost use mathlib.Core.Path.{_≡_};
 ghost use mathlib.Core.Bool.{true};
 ghost use Prim.Native.Nat.{_+_, _*_, _≤_};
 ghost use lib.ListN.{length};
 ghost use Rattle.octets.specs.Splice.{splice};
-ghost use Rattle.address.specs.Address.{encodable};
-ghost use Rattle.address.specs.Group.{groupOf};
 ghost use Rattle.frame.specs.Spell.{groupsOf, destinationMark, addressField, spell};
 ghost use Rattle.frame.specs.Write.{routeEncodable, frameEncodable, writeAnswer, Taken, octetsWritten, written};
 
@@ -82,16 +80,6 @@ fn write_answer(frame: Ax25Frame, info: &[u8], room: usize) -> WriteAnswer
     WriteAnswer::Accepted
 }
 
-// A group, copied in from the address layer's seven octets.
-fn put_group(out: &mut [u8], at: usize, address: Address, mark: bool, last: bool)
-    requires { ⌜ encodable address ≡ true ⌝ }
-    ensures { λ r. ⌜ now (out .exit) ≡ splice (now (out .entry)) at (groupOf address mark last) ⌝ }
-{
-    let written = address::group::to_bytes(address, mark, last);
-    let group = written.group;
-    lent::put(out, at, &group);
-}
-
 // The repeaters' groups, one after the other from `at` on; the last alone has the end bit.
 fn put_route(out: &mut [u8], at: usize, route: [RouteEntry; 8], count: usize)
     requires { ⌜ (count ≤ 8) × (at + 7 * count ≤ length (now out)) × (routeEncodable route count ≡ true) ⌝ }
@@ -101,7 +89,7 @@ fn put_route(out: &mut [u8], at: usize, route: [RouteEntry; 8], count: usize)
     while i < count {
         let entry = route[i];
         let repeater = entry.repeater;
-        put_group(
+        group::put(
             out,
             at + 7 * i,
             repeater,
@@ -123,8 +111,8 @@ fn put_addresses(out: &mut [u8], frame: Ax25Frame)
     let source = frame.source;
     let route = frame.route;
     let to = destination_mark(mark);
-    put_group(out, 0, destination, to, false);
-    put_group(out, 7, source, !to, count == 0);
+    group::put(out, 0, destination, to, false);
+    group::put(out, 7, source, !to, count == 0);
     put_route(out, 14, route, count);
 }
 

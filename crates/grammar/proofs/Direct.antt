@@ -10,12 +10,12 @@ use native.Mathlib.Omega.{arith}
 use borrow.Author.Tests.{lt-ltb, eqb-true, eqb-false, leb-true, leb-false}
 use lib.Dec.{eqb, leb, eqb·suc-suc, eqb·zero-suc, eqb·suc-zero}
 use lib.ListN.{length, length-drop, getD, take, drop, take-append-drop}
-use lib.Seq.{drop-drop, take-add, take-all, getD-drop, getD-take, length-take-le}
+use lib.Seq.{drop-drop, take-add, take-all, length-take-le}
 use Rattle.octets.specs.Octet.{Octets, bit}
 use Rattle.octets.proofs.Choice.{by, both}
 use Rattle.octets.proofs.Octet.{octets-drop, octets-take}
 use Rattle.octets.proofs.First.{first-passes, first-before, first-is}
-use Rattle.octets.proofs.Place.{of-eight}
+use Rattle.octets.proofs.Place.{getD-part, of-eight}
 use Rattle.address.specs.Group.{groupOf, markOf, markSet, reserved, reservedSet}
 use Rattle.address.proofs.Laws.{group-reserved, mark-written, written-exact, reserved-last, mark-last}
 use Rattle.content.specs.Spell.{hasInfo, front}
@@ -124,7 +124,7 @@ module _ (s : List ℕ) (o : Octets s) (n : ℕ) (end : endOf s ≡ 13 + 7 * n) 
   last-bit j h false e = first-before (bit 0) s 0 (7 * j + 6) (omega (arith, eqb-false j (suc n) e))
 
   octet-of : (j k : ℕ) → k < 7 → getD (groupAt s (7 * j)) k 0 ≡ getD s (7 * j + k) 0
-  octet-of j k h = getD-take 7 (drop (7 * j) s) k 0 h ∙ getD-drop (7 * j) s k 0
+  octet-of j k h = getD-part 7 (7 * j) s k 0 h
 
   group-again : (j : ℕ) → j < n + 2 → (b : Bool) → eqb j (suc n) ≡ b
       → groupOf (parsedAt s (7 * j) .address) (parsedAt s (7 * j) .«high_bit») b ≡ groupAt s (7 * j)
@@ -204,8 +204,7 @@ module _ (s : List ℕ) (o : Octets s) (a : Accepts s (decode s)) where
 
 -- the reserved bits of a group, by its last octet in the input
 pub reserved-at : (s : List ℕ) (j : ℕ) → reserved (groupAt s (7 * j)) ≡ reservedSet (getD s (7 * j + 6) 0)
-reserved-at s j =
-    reserved-last (groupAt s (7 * j)) ∙ ap reservedSet (getD-take 7 (drop (7 * j) s) 6 0 (omega arith) ∙ getD-drop (7 * j) s 6 0)
+reserved-at s j = reserved-last (groupAt s (7 * j)) ∙ ap reservedSet (getD-part 7 (7 * j) s 6 0 (omega arith))
 
 -- one group more, as a loop looks at it
 pub reserved-more : (s : List ℕ) (n : ℕ) → reservedGroups s n ≡ true → reservedSet (getD s (7 * n + 6) 0) ≡ true → reservedGroups s (n + 1) ≡ true
@@ -224,9 +223,9 @@ unfolding reservedGroups
 reserved-none s = refl
 
 -- the mark of a group, by its last octet in the input
-parsed-mark : (s : List ℕ) (at : ℕ) → parsedAt s at .«high_bit» ≡ markSet (getD s (at + 6) 0)
+pub parsed-mark : (s : List ℕ) (at : ℕ) → parsedAt s at .«high_bit» ≡ markSet (getD s (at + 6) 0)
 unfolding parsedAt
-parsed-mark s at = mark-last (groupAt s at) ∙ ap markSet (getD-take 7 (drop at s) 6 0 (omega arith) ∙ getD-drop at s 6 0)
+parsed-mark s at = mark-last (groupAt s at) ∙ ap markSet (getD-part 7 at s 6 0 (omega arith))
 
 -- the five tests, in their order
 pub direct-is : (s : List ℕ) (n : ℕ)

@@ -6,3 +6,4 @@ pub mod Respell
 pub mod Direct
 pub mod Refused
 pub mod Marks
+pub mod Parts

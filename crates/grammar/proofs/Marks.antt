@@ -7,10 +7,11 @@ use native.Mathlib.Omega.{arith}
 use borrow.Author.Tests.{ne-eqb, lt-ltb, le-ltb, eqb-true, eqb-false, ltb-true, ltb-false}
 use lib.Dec.{eqb, ltb}
 use lib.ListN.{length, length-set, length-drop, getD, set, drop}
-use lib.Seq.{getD-set-same, getD-set-other, getD-take, getD-drop, take-set-le, take-set-lt, drop-set-lt, drop-set-add, length-take-le, ext-getD}
+use lib.Seq.{getD-set-same, getD-set-other, take-set-le, take-set-lt, drop-set-lt, drop-set-add, length-take-le, ext-getD}
 use Rattle.octets.specs.Octet.{field, bit}
 use Rattle.octets.proofs.Choice.{by}
 use Rattle.octets.proofs.First.{first-passes, first-before, first-is}
+use Rattle.octets.proofs.Place.{getD-part}
 use Rattle.address.specs.Group.{addressOf, markOf, markSet, reservedSet}
 use Rattle.address.proofs.Laws.{address-kept, mark-last}
 use Rattle.content.specs.Spell.{hasInfo}
@@ -23,7 +24,7 @@ use Rattle.decode.specs.Read.{nonzero, startOf, endOf, groupAt, parsedAt, entry
 use Rattle.decode.specs.declared.Decoded.{Decoded}
 use Rattle.decode.proofs.Accepts.{Accepts, accepts}
 use Rattle.grammar.specs.Direct.{reservedGroups, direct}
-use Rattle.grammar.proofs.Direct.{place-at, route-at, reserved-at, direct-is}
+use Rattle.grammar.proofs.Direct.{place-at, route-at, reserved-at, parsed-mark, direct-is}
 
 -- where a group and its parts stand
 pub parsed-is : (s : List ℕ) (at : ℕ) → parsedAt s at ≡ record { address = addressOf (groupAt s at); «high_bit» = markOf (groupAt s at) }
@@ -55,8 +56,7 @@ unfolding entryAt parsedAt
 place-read s at n i h l =
     let e = route-at s at n i h l in (
       ap (λ (x : RouteEntry). x .repeater) e,
-      ap (λ (x : RouteEntry). x .«has_repeated») e ∙ mark-last (groupAt s (at + 7 * i))
-          ∙ ap markSet (getD-take 7 (drop (at + 7 * i) s) 6 0 (omega arith) ∙ getD-drop (at + 7 * i) s 6 0),
+      ap (λ (x : RouteEntry). x .«has_repeated») e ∙ parsed-mark s (at + 7 * i),
     )
 
 pub route-length : (s : List ℕ) (at n : ℕ) → length (routeAt s at n) ≡ 8
@@ -88,7 +88,7 @@ module _ (s : List ℕ) (at v : ℕ) (n i : ℕ) (h : i < n) (l : n ≤ 8) (fits
   own-length = length-take-le 7 (drop g s) (rw length-drop (omega arith))
 
   own-last : getD (groupAt s g) 6 0 ≡ getD s (g + 6) 0
-  own-last = getD-take 7 (drop g s) 6 0 (omega arith) ∙ getD-drop g s 6 0
+  own-last = getD-part 7 g s 6 0 (omega arith)
 
   -- the place itself: the same repeater, marked as the new octet says
   entry-own : entryAt t g ≡ record { repeater = entryAt s g .repeater; «has_repeated» = markSet v }

@@ -8,11 +8,12 @@ use native.Mathlib.Omega.{arith}
 use borrow.Author.Tests.{not-true, eqb-false}
 use lib.Dec.{eqb, ltb}
 use lib.ListN.{length, length-drop, length-take, getD, drop}
-use lib.Seq.{getD-drop, getD-take, length-take-le}
+use lib.Seq.{length-take-le}
 use Rattle.octets.specs.Octet.{Octets, bit}
 use Rattle.octets.proofs.Choice.{by}
 use Rattle.octets.proofs.Octet.{octets-drop, octets-take}
 use Rattle.octets.proofs.First.{first-passes, first-before}
+use Rattle.octets.proofs.Place.{getD-part}
 use Rattle.address.specs.Address.{PlainAddress}
 use Rattle.address.proofs.Laws.{read-plain, no-call-plain, group-character}
 use Rattle.content.specs.Spell.{hasInfo, front, PlainContent}
@@ -82,7 +83,7 @@ module _ (s : List ℕ) (o : Octets s) (n : ℕ) (start-in : startOf s < length 
   first-character =
       let g : List ℕ = groupAt s (startOf s) in
       let b : ℕ = getD s (startOf s) 0 in
-      let at : getD g 0 0 ≡ b = getD-take 7 (drop (startOf s) s) 0 0 (omega arith) ∙ getD-drop (startOf s) s 0 0 ∙ rw add-zero refl in
+      let at : getD g 0 0 ≡ b = getD-part 7 (startOf s) s 0 0 (omega arith) ∙ rw add-zero refl in
       let some : 0 < b = omega (arith, eqb-false b 0 (not-true (eqb b 0) (first-passes nonzero s 0 start-in))) in
       group-character g (octets-take (drop (startOf s) s) 7 (octets-drop s (startOf s) o))
       (rw at (first-before (bit 0) s 0 (startOf s) (omega arith))) (rw at some)

@@ -2,7 +2,7 @@
 use Prim.Native.Nat.{ℕ, zero, suc, _≤_, _<_}
 use mathlib.Core.Path.{_≡_, refl, ap, sym, _∙_}
 use mathlib.Core.Bool.{true, false, cond}
-use mathlib.Core.List.{List, []}
+use mathlib.Core.List.{List}
 use native.Mathlib.Omega.{arith}
 use borrow.Author.Tests.{lt-ltb, le-ltb}
 use lib.Dec.{ltb}
@@ -98,14 +98,6 @@ decoded-written s room o e =
     let f : Ax25Frame = decode s .frame in
     let i : List ℕ = infoIn s (decode s) in
     sym (mark-written f i room) ∙ plain-written (withMark f) i room (read s o e .plain) ∙ rw mark-spell refl
-
-pub decoded-octets : (s : List ℕ) (room : ℕ) → Octets s → isAccepted (decode s .answer) ≡ true
-    → octetsWritten (decode s .frame) (infoIn s (decode s)) room
-    ≡ cond (ltb room (length (spell (decode s .frame) (infoIn s (decode s))))) [] (spell (decode s .frame) (infoIn s (decode s)))
-unfolding octetsWritten
-decoded-octets s room o e =
-    rw (decoded-written s room o e)
-    (by (ltb room (length (spell (decode s .frame) (infoIn s (decode s))))) (λ q. simp q) (λ q. simp q))
 
 -- writing's answer and length go with these
 pub written-is : (f : Ax25Frame) (i : List ℕ) (room : ℕ)

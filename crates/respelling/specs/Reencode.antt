@@ -7,8 +7,6 @@ use lib.ListN.{length}
 use Rattle.decode.specs.Answer.{Report, number, isAccepted}
 use Rattle.decode.specs.Answer as decoding
 use Rattle.decode.specs.Read.{decode}
-use Rattle.frame.specs.declared.WriteAnswer.{WriteAnswer}
-use Rattle.frame.specs.declared.WriteAnswer.the-variants as write
 use Rattle.spelling.specs.Canonical.{again}
 use Rattle.respelling.specs.declared.ReencodeAnswer.{ReencodeAnswer}
 use Rattle.respelling.specs.declared.ReencodeAnswer.the-variants.{Written, Refused, NoRoom}
@@ -28,14 +26,6 @@ reencoded s room = cond (ltb room (length (due s))) [] (due s)
 
 unfoldable pub reencode : List ℕ → ℕ → Reencoded
 reencode s room = record { answer = reencodeAnswer s room; length = length (reencoded s room) }
-
--- writing's answer to a frame that was decoded
-abbrev pub answerBy : WriteAnswer → ReencodeAnswer
-answerBy write.Accepted = Written
-answerBy write.RouteTooLong = NoRoom
-answerBy write.NotEncodable = NoRoom
-answerBy write.InfoNotAllowed = NoRoom
-answerBy write.NoRoom = NoRoom
 
 -- decoding's number and details for a refused input, else 24 or 0 (document 01, Numbers)
 abbrev pub reportOf : ReencodeAnswer → Report

@@ -1,10 +1,20 @@
-// Re-encoding: a frame decoded and written again. An input is refused by its outline, before any frame is built.
+// Re-encoding: what a frame decoded and written again would be, from the input's octets straight into the output's. No frame is built.
+use address::group;
+use content::FrameContent;
 use decode::DecodeAnswer;
-use frame::WriteAnswer;
+use decode::Outline;
+use parse::ContentAnswer;
 ghost use mathlib.Core.Path.{_≡_};
+ghost use mathlib.Core.Bool.{true};
+ghost use Prim.Native.Nat.{_+_, _-_, _*_, _≤_};
 ghost use lib.ListN.{length};
 ghost use Rattle.octets.specs.Splice.{splice};
-ghost use Rattle.respelling.specs.Reencode.{due, answerBy, reencode, reencoded, reportOf};
+ghost use Rattle.frame.specs.Spell.{groupsOf, destinationMark, addressField};
+ghost use Rattle.decode.specs.Answer.{isAccepted};
+ghost use Rattle.decode.specs.Read.{startOf, endOf, routeAt, commandOf, decode};
+ghost use Rattle.decode.specs.Outline.{outlineOf};
+ghost use Rattle.grammar.specs.Kept.{keptOf};
+ghost use Rattle.respelling.specs.Reencode.{due, reencode, reencoded, reportOf};
 
 pub enum ReencodeAnswer {
     Written,
@@ -30,6 +40,29 @@ impl ReencodeAnswer {
     }
 }
 
+// The content of an accepted input, whose control octet is at `control`.
+fn content_at(bytes: &[u8], control: usize) -> FrameContent
+    requires { ⌜ (isAccepted (decode (now bytes) .answer) ≡ true) × (control ≡ endOf (now bytes) + 1) ⌝ }
+    ensures { λ r. ⌜ r ≡ decode (now (bytes .entry)) .frame .content ⌝ }
+{
+    let answer = parse::parse_content(&bytes[control..]);
+    // An accepted input has accepted content, so this is never left here.
+    let ContentAnswer::Accepted(content) = answer else {
+        return FrameContent::UnknownContent;
+    };
+    content
+}
+
+// How many of the octets after the address field are kept, where there are so many.
+fn kept_of(content: FrameContent, rest: usize) -> usize
+    ensures { λ r. ⌜ r ≡ keptOf content rest ⌝ }
+{
+    if content.has_info() {
+        return rest;
+    }
+    content.front_len()
+}
+
 // How many octets re-encoding gives; 0 where the input is refused.
 pub fn reencoded_length(bytes: &[u8]) -> usize
     ensures { λ r. ⌜ r ≡ length (due (now (bytes .entry))) ⌝ }
@@ -39,23 +72,57 @@ pub fn reencoded_length(bytes: &[u8]) -> usize
     let DecodeAnswer::Accepted = answer else {
         return 0;
     };
-    let decoded = reading::from_outline(bytes, outline);
-    let frame = decoded.frame;
-    let content = frame.content;
-    14 + 7 * frame.route_count + content.front_len() + decoded.info_len
+    let control = outline.end + 1;
+    let content = content_at(bytes, control);
+    14 + 7 * outline.route_count + kept_of(content, bytes.len() - control)
 }
 
-// What writing answers to a frame that was decoded: there is nothing to refuse but too little room.
-fn answer_by(answer: WriteAnswer) -> ReencodeAnswer
-    ensures { λ r. ⌜ r ≡ answerBy answer ⌝ }
+// The mark of the destination, by the marks that were read; that of the source is the other.
+fn written_mark(to: bool, from: bool) -> bool
+    ensures { λ r. ⌜ r ≡ destinationMark (commandOf to from) ⌝ }
 {
-    match answer {
-        WriteAnswer::Accepted => ReencodeAnswer::Written,
-        WriteAnswer::RouteTooLong => ReencodeAnswer::NoRoom,
-        WriteAnswer::NotEncodable => ReencodeAnswer::NoRoom,
-        WriteAnswer::InfoNotAllowed => ReencodeAnswer::NoRoom,
-        WriteAnswer::NoRoom => ReencodeAnswer::NoRoom,
+    if to { true } else { !from }
+}
+
+// The groups of the repeaters that stand from `from` on; the last alone has the end bit.
+fn put_route(out: &mut [u8], bytes: &[u8], from: usize, count: usize)
+    requires { ⌜ (count ≤ 8) × (from + 7 * count ≤ length (now bytes)) × (14 + 7 * count ≤ length (now out)) ⌝ }
+    ensures { λ r. ⌜ now (out .exit) ≡ splice (now (out .entry)) 14 (groupsOf (routeAt (now (bytes .entry)) from count) count count) ⌝ }
+{
+    let mut i = 0;
+    while i < count {
+        let at = from + 7 * i;
+        let mark = group::mark_set(bytes[at + 6]);
+        group::respell(out, 14 + 7 * i, bytes, at, mark, i + 1 == count);
+        i += 1;
     }
+}
+
+// The address field of an accepted input: destination, source, repeaters.
+fn put_addresses(out: &mut [u8], bytes: &[u8], start: usize, count: usize)
+    requires { ⌜ (isAccepted (decode (now bytes) .answer) ≡ true) × (start ≡ startOf (now bytes)) × (count ≡ decode (now bytes) .frame .«route_count») × (14 + 7 * count ≤ length (now out)) ⌝ }
+    ensures { λ r. ⌜ now (out .exit) ≡ splice (now (out .entry)) 0 (addressField (decode (now (bytes .entry)) .frame)) ⌝ }
+{
+    let to = group::mark_set(bytes[start + 6]);
+    let from = group::mark_set(bytes[start + 13]);
+    let mark = written_mark(to, from);
+    group::respell(out, 0, bytes, start, mark, false);
+    group::respell(out, 7, bytes, start + 7, !mark, count == 0);
+    put_route(out, bytes, start + 14, count);
+}
+
+// The whole of an accepted input with this outline and content, once there is room.
+fn put_due(out: &mut [u8], bytes: &[u8], outline: Outline, content: FrameContent, kept: usize)
+    requires { ⌜ (isAccepted (decode (now bytes) .answer) ≡ true) × (outline ≡ outlineOf (now bytes)) × (content ≡ decode (now bytes) .frame .content) × (kept ≡ keptOf content (length (now bytes) - (endOf (now bytes) + 1))) × (length (due (now bytes)) ≤ length (now out)) ⌝ }
+    ensures { λ r. ⌜ now (out .exit) ≡ splice (now (out .entry)) 0 (due (now (bytes .entry))) ⌝ }
+{
+    let count = outline.route_count;
+    put_addresses(out, bytes, outline.start, count);
+    let control = outline.end + 1;
+    let start = control + content.front_len();
+    let end = control + kept;
+    let at = 14 + 7 * count;
+    content.encode(&bytes[start..end], &mut out[at..]);
 }
 
 // The frame decoded and written again. Not for forwarding: what re-encoding changes is listed in README.md.
@@ -71,15 +138,19 @@ pub fn reencode(bytes: &[u8], out: &mut [u8]) -> Reencoded
             length: 0,
         };
     };
-    let decoded = reading::from_outline(bytes, outline);
-    let frame = decoded.frame;
-    let start = decoded.info_start;
-    let end = start + decoded.info_len;
-    let written = frame.to_bytes(&bytes[start..end], out);
-    let wrote = written.answer;
-    let answer = answer_by(wrote);
+    let control = outline.end + 1;
+    let content = content_at(bytes, control);
+    let kept = kept_of(content, bytes.len() - control);
+    let length = 14 + 7 * outline.route_count + kept;
+    if out.len() < length {
+        return Reencoded {
+            answer: ReencodeAnswer::NoRoom,
+            length: 0,
+        };
+    }
+    put_due(out, bytes, outline, content, kept);
     Reencoded {
-        answer,
-        length: written.length,
+        answer: ReencodeAnswer::Written,
+        length,
     }
 }

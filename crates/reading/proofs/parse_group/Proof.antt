@@ -1,7 +1,7 @@
 -- The seven elements are those of the part, and the address layer reads them.
 use mathlib.Core.Path.{refl, _∙_}
+use Rattle.octets.proofs.Place.{seven-at}
 use Rattle.decode.specs.Read.{parsedAt}
-use Rattle.decode.proofs.Read.{group-seven}
 use borrow.Author.Needs.{needs}
 use Rattle.reading.proofs.parse_group.Statement.{statement}
 use Rattle.reading.proofs.parse_group.Tie as tie
@@ -52,7 +52,7 @@ returns : tie.Need-returns
 unfolding parsedAt
 returns c =
     let a = c .before .before .before .before .before .before .before .before .before in
-    let g = group-seven (a .args .bytes .now) (a .args .at) (a .pre) in
+    let g = seven-at (a .args .bytes .now) (a .args .at) (a .pre) in
     c .parse-address .ensures ∙ rw g refl
 
 pub parse-group-spec : {M : Type 1} → statement M

@@ -1,6 +1,6 @@
 -- The seven octets are those of the group, the address layer reads them, and the stations are compared.
 use mathlib.Core.Path.{refl, _∙_}
-use Rattle.decode.proofs.Read.{group-seven}
+use Rattle.octets.proofs.Place.{seven-at}
 use Rattle.grammar.proofs.Marks.{parsed-is}
 use borrow.Author.Needs.{needs}
 use Rattle.relay.proofs.is_ours.Statement.{statement}
@@ -55,7 +55,7 @@ returns : tie.Need-returns
 returns c =
     let p = c .before in
     let a = p .before .before .before .before .before .before .before .before .before in
-    let g = group-seven (a .args .bytes .now) (a .args .at) (a .pre) in
+    let g = seven-at (a .args .bytes .now) (a .args .at) (a .pre) in
     c .same-station .ensures ∙ rw (p .parse-address .ensures, g, parsed-is) refl
 
 pub is-ours-spec : {M : Type 1} → statement M

@@ -1,5 +1,5 @@
--- A refused input is answered with its outline's answer; an accepted one is written by the frame's writer, which can refuse for room alone.
-use Prim.Native.Nat.{_+_, _-_}
+-- A refused input is answered with its outline's answer; an accepted one is written whole where there is room.
+use Prim.Native.Nat.{_+_, _*_}
 use mathlib.Core.Path.{_≡_, refl, ap, sym, _∙_}
 use mathlib.Core.Bool.{true, false}
 use native.Mathlib.Omega.{arith}
@@ -7,12 +7,13 @@ use lib.ListN.{length}
 use Rattle.octets.specs.Octet.{Octets}
 use Rattle.octets.proofs.Splice.{splice-none}
 use Rattle.decode.specs.Answer.{isAccepted}
+use Rattle.decode.specs.Outline.{outlineOf}
 use Rattle.decode.specs.Read.{decode}
 use Rattle.decode.specs.declared.Outline.{Outline}
 use Rattle.decode.proofs.Read.{told-refused}
-use Rattle.decode.proofs.Whole.{by-outline}
-use Rattle.grammar.proofs.Plain.{Inside, inside}
-use Rattle.respelling.proofs.Laws.{refused-answer, accepted-answer}
+use Rattle.grammar.proofs.Marks.{Route, route}
+use Rattle.respelling.specs.Reencode.{due}
+use Rattle.respelling.proofs.Laws.{due-length, due-fits, due-again, refused-answer, again-short, again-fits}
 use borrow.Author.Needs.{needs}
 use Rattle.respelling.proofs.reencode.Statement.{statement}
 use Rattle.respelling.proofs.reencode.Tie as tie
@@ -24,15 +25,23 @@ answered c = ap (λ (o : Outline). o .answer) (c .outline-of .ensures)
 accepted : (c : tie.After-enum-told) → isAccepted (decode (c .before .before .before .before .before .args .bytes .now) .answer) ≡ true
 accepted c = rw (← answered (c .before .before)) (rw (c .enum-told .given .1) refl)
 
-octets : (c : tie.After-shared-slice-known) → Octets (c .before .args .bytes .now)
-octets c k = c .shared-slice-known .given k .fits
+-- where its parts stand
+within : (c : tie.After-enum-told) → Route (c .before .before .before .before .before .args .bytes .now) (decode (c .before .before .before .before .before .args .bytes .now))
+within c = route _ (accepted c)
 
--- what goes on from it is the decode
-decoded : (c : tie.After-from-outline) → c .from-outline .result ≡ decode (c .before .before .before .before .before .before .args .bytes .now)
-decoded c = c .from-outline .ensures ∙ rw (c .before .before .before .outline-of .ensures) (by-outline _)
+octets : (c : tie.After-enum-told) → Octets (c .before .before .before .before .before .args .bytes .now)
+octets c k = c .before .before .before .before .shared-slice-known .given k .fits
 
-within : (c : tie.After-from-outline) → Inside (c .before .before .before .before .before .before .args .bytes .now) (c .from-outline .result)
-within c = rw (decoded c) (inside _ (accepted (c .before)))
+told : (c : tie.After-enum-told) → c .before .before .outline-of .result ≡ outlineOf (c .before .before .before .before .before .args .bytes .now)
+told c = c .before .before .outline-of .ensures
+
+-- the sum is the length
+whole : (c : tie.After-struct-known2) →
+    let t = c .before .before .before .before in
+    14 + 7 * t .before .before .outline-of .result .«route_count» + c .before .kept-of .result ≡ length (due (t .before .before .before .before .before .args .bytes .now))
+whole c =
+    let t = c .before .before .before .before in
+    due-length _ _ _ _ (octets t) (accepted t) (told t) (c .before .before .content-at .ensures) (c .before .kept-of .ensures)
 
 outline-of-requires : tie.Need-outline-of-requires
 outline-of-requires c κs = search needs
@@ -49,43 +58,55 @@ returns c =
     let a = refused-answer s (length (g .out .now)) e in
     (rw (answered (c .before)) (sym (a .0)), sym (rw (a .1) (splice-none _ _)))
 
-from-outline-requires : tie.Need-from-outline-requires
-from-outline-requires c κs = search needs
+add-control : tie.Need-add-control
+add-control c = rw (told (c .before)) (omega (arith, within (c .before) .end-in))
 
-add-end : tie.Need-add-end
-add-end c = omega (arith, within (c .before .before) .info)
+content-at-requires : tie.Need-content-at-requires
+content-at-requires c κs = (accepted (c .before), ap (λ (o : Outline). o .end + 1) (told (c .before)))
 
-sub-to-bytes : tie.Need-sub-to-bytes
-sub-to-bytes c = search needs
+sub-kept-of : tie.Need-sub-kept-of
+sub-kept-of c = rw (told (c .before .before)) (omega (arith, within (c .before .before) .end-in))
 
-part-to-bytes-start : tie.Need-part-to-bytes-start
-part-to-bytes-start c = search needs
+kept-of-requires : tie.Need-kept-of-requires
+kept-of-requires c κs = search needs
 
-part-to-bytes-end : tie.Need-part-to-bytes-end
-part-to-bytes-end c =
-    let h = within (c .before .before) .info in
-    search needs
+mul-length : tie.Need-mul-length
+mul-length c = rw (told (c .before .before .before .before)) (omega (arith, within (c .before .before .before .before) .few))
 
-to-bytes-requires : tie.Need-to-bytes-requires
-to-bytes-requires c κs = search needs
+add-length : tie.Need-add-length
+add-length c = rw (told (c .before .before .before .before)) (omega (arith, within (c .before .before .before .before) .few))
 
-answer-by-requires : tie.Need-answer-by-requires
-answer-by-requires c κs = search needs
+add-length-2 : tie.Need-add-length-2
+add-length-2 c =
+    let t = c .before .before .before .before in
+    omega (arith, whole c, due-fits _ (octets t) (accepted t))
+
+returns-2 : tie.Need-returns-2
+returns-2 c =
+    let t = c .before .before .before .before .before in
+    let g = t .before .before .before .before .before .args in
+    let e = accepted t in
+    let short = rw (due-again _ e) at (whole (c .before)) in
+    let a = again-short (g .bytes .now) (length (g .out .now)) e (omega (arith, short, c .if1 .taken)) in
+    (sym (a .0), sym (rw (a .1) (splice-none _ _)))
+
+put-due-requires : tie.Need-put-due-requires
+put-due-requires c κs =
+    let t = c .before .before .before .before .before .before in
+    let n = c .before .before .before .kept-of .ensures in
+    (accepted t, told t, c .before .before .before .before .content-at .ensures, rw (told t) at n, omega (arith, whole (c .before .before), c .before .if1 .left))
 
 same-length : tie.Need-same-length
 same-length c = search needs
 
-returns-2 : tie.Need-returns-2
-returns-2 c =
-    let w = c .before .before .before .to-bytes in
-    let f = c .before .before .before .before .before .before .before .before in
-    let g = f .before .before .before .before .before .before .args in
-    let a = accepted-answer (g .bytes .now) (length (g .out .now)) (octets (f .before .before .before .before .before)) (accepted (f .before)) in
-    let d = f .from-outline .result in
-    let part : d .«info_start» + d .«info_len» - d .«info_start» ≡ d .«info_len» = omega arith in
-    let first = rw (part, decoded f) at (w .ensures .0) in
-    let second = rw (part, decoded f) at (w .ensures .1) in
-    (rw (c .answer-by .ensures, first) (sym (a .0)), second ∙ rw (sym (a .1)) refl)
+returns-3 : tie.Need-returns-3
+returns-3 c =
+    let t = c .before .before .before .before .before .before .before .before .before in
+    let g = t .before .before .before .before .before .args in
+    let e = accepted t in
+    let sum = rw (due-again _ e) at (whole (c .before .before .before .before .before)) in
+    let a = again-fits (g .bytes .now) (length (g .out .now)) e (omega (arith, sum, c .before .before .before .before .if1 .left)) in
+    (rw sum (sym (a .0)), c .before .before .put-due .ensures ∙ rw (due-again _ e, a .1) refl)
 
 pub reencode-spec : {M : Type 1} → statement M
 reencode-spec =
@@ -94,12 +115,14 @@ reencode-spec =
     outline-of-requires
     enum-told
     returns
-    from-outline-requires
-    add-end
-    sub-to-bytes
-    part-to-bytes-start
-    part-to-bytes-end
-    to-bytes-requires
-    answer-by-requires
+    add-control
+    content-at-requires
+    sub-kept-of
+    kept-of-requires
+    mul-length
+    add-length
+    add-length-2
+    returns-2
+    put-due-requires
     same-length
-    returns-2)
+    returns-3)

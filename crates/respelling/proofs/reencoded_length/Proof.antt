@@ -1,17 +1,16 @@
--- Nothing of a refused input; of an accepted one the length of what its frame spells.
+-- Nothing of a refused input; of an accepted one the address field and what is kept of the content.
 use Prim.Native.Nat.{_+_, _*_}
-use mathlib.Core.Path.{_≡_, refl, ap, sym, _∙_}
+use mathlib.Core.Path.{_≡_, refl, ap, sym}
 use mathlib.Core.Bool.{true}
 use native.Mathlib.Omega.{arith}
 use lib.ListN.{length}
 use Rattle.octets.specs.Octet.{Octets}
-use Rattle.content.proofs.Encode.{front-short}
 use Rattle.decode.specs.Answer.{isAccepted}
+use Rattle.decode.specs.Outline.{outlineOf}
 use Rattle.decode.specs.Read.{decode}
 use Rattle.decode.specs.declared.Outline.{Outline}
 use Rattle.decode.proofs.Read.{told-refused}
-use Rattle.decode.proofs.Whole.{by-outline}
-use Rattle.grammar.proofs.Plain.{Inside, inside}
+use Rattle.grammar.proofs.Marks.{Route, route}
 use Rattle.respelling.specs.Reencode.{due}
 use Rattle.respelling.proofs.Laws.{due-refused, due-length, due-fits}
 use borrow.Author.Needs.{needs}
@@ -25,24 +24,23 @@ answered c = ap (λ (o : Outline). o .answer) (c .outline-of .ensures)
 accepted : (c : tie.After-enum-told) → isAccepted (decode (c .before .before .before .before .args .bytes .now) .answer) ≡ true
 accepted c = rw (← answered (c .before .before)) (rw (c .enum-told .given .1) refl)
 
-octets : (c : tie.After-shared-slice-known) → Octets (c .before .args .bytes .now)
-octets c k = c .shared-slice-known .given k .fits
+-- where its parts stand
+within : (c : tie.After-enum-told) → Route (c .before .before .before .before .args .bytes .now) (decode (c .before .before .before .before .args .bytes .now))
+within c = route _ (accepted c)
 
--- what goes on from it is the decode
-decoded : (c : tie.After-from-outline) → c .from-outline .result ≡ decode (c .before .before .before .before .before .args .bytes .now)
-decoded c = c .from-outline .ensures ∙ rw (c .before .before .before .outline-of .ensures) (by-outline _)
+octets : (c : tie.After-enum-told) → Octets (c .before .before .before .before .args .bytes .now)
+octets c k = c .before .before .before .shared-slice-known .given k .fits
 
-within : (c : tie.After-from-outline) → Inside (c .before .before .before .before .before .args .bytes .now) (c .from-outline .result)
-within c = rw (decoded c) (inside _ (accepted (c .before)))
+told : (c : tie.After-enum-told) → c .before .before .outline-of .result ≡ outlineOf (c .before .before .before .before .args .bytes .now)
+told c = c .before .before .outline-of .ensures
 
 -- the sum is the length
-whole : (c : tie.After-struct-known2) →
-    let f = c .before .before .before .before in
-    14 + 7 * f .from-outline .result .frame .«route_count» + c .before .front-len .result + f .from-outline .result .«info_len»
-    ≡ length (due (f .before .before .before .before .before .args .bytes .now))
+whole : (c : tie.After-kept-of) →
+    let t = c .before .before .before .before in
+    14 + 7 * t .before .before .outline-of .result .«route_count» + c .kept-of .result ≡ length (due (t .before .before .before .before .args .bytes .now))
 whole c =
-    let f = c .before .before .before .before in
-    rw (c .before .front-len .ensures, decoded f) (sym (due-length _ (accepted (f .before))))
+    let t = c .before .before .before .before in
+    due-length _ _ _ _ (octets t) (accepted t) (told t) (c .before .before .content-at .ensures) (c .kept-of .ensures)
 
 outline-of-requires : tie.Need-outline-of-requires
 outline-of-requires c κs = search needs
@@ -55,27 +53,28 @@ returns c =
     let f = c .before .outline-of in
     sym (ap length (due-refused _ (rw (← answered (c .before)) (told-refused (f .result .answer) (c .match .keys2)))))
 
-from-outline-requires : tie.Need-from-outline-requires
-from-outline-requires c κs = search needs
+add-control : tie.Need-add-control
+add-control c = rw (told (c .before)) (omega (arith, within (c .before) .end-in))
+
+content-at-requires : tie.Need-content-at-requires
+content-at-requires c κs = (accepted (c .before), ap (λ (o : Outline). o .end + 1) (told (c .before)))
 
 mul-result : tie.Need-mul-result
-mul-result c = omega (arith, within (c .before .before) .few)
+mul-result c = rw (told (c .before .before .before)) (omega (arith, within (c .before .before .before) .few))
 
 add-result : tie.Need-add-result
-add-result c = omega (arith, within (c .before .before) .few)
+add-result c = rw (told (c .before .before .before)) (omega (arith, within (c .before .before .before) .few))
 
-front-len-requires : tie.Need-front-len-requires
-front-len-requires c κs = search needs
+sub-kept-of : tie.Need-sub-kept-of
+sub-kept-of c = rw (told (c .before .before .before)) (omega (arith, within (c .before .before .before) .end-in))
+
+kept-of-requires : tie.Need-kept-of-requires
+kept-of-requires c κs = search needs
 
 add-result-2 : tie.Need-add-result-2
 add-result-2 c =
-    let f = c .before .before .before in
-    omega (arith, within f .few, c .front-len .ensures, front-short (f .from-outline .result .frame .content))
-
-add-result-3 : tie.Need-add-result-3
-add-result-3 c =
-    let f = c .before .before .before .before in
-    omega (arith, whole c, due-fits _ (octets (f .before .before .before .before)) (accepted (f .before)))
+    let t = c .before .before .before .before in
+    omega (arith, whole c, due-fits _ (octets t) (accepted t))
 
 returns-2 : tie.Need-returns-2
 returns-2 c = whole c
@@ -87,10 +86,11 @@ reencoded-length-spec =
     outline-of-requires
     enum-told
     returns
-    from-outline-requires
+    add-control
+    content-at-requires
     mul-result
     add-result
-    front-len-requires
+    sub-kept-of
+    kept-of-requires
     add-result-2
-    add-result-3
     returns-2)

@@ -4,8 +4,9 @@ use mathlib.Core.Path.{_≡_, sym, _∙_}
 use native.Mathlib.Omega.{arith}
 use Rattle.octets.specs.Splice.{splice}
 use Rattle.octets.proofs.Splice.{splice-none, splice-length}
+use Rattle.address.proofs.Laws.{put-taken}
 use Rattle.frame.specs.Spell.{groupsOf}
-use Rattle.frame.proofs.Write.{groups-more, route-each}
+use Rattle.frame.proofs.Write.{groups-none, groups-more, route-each}
 use borrow.Author.Needs.{needs}
 use Rattle.frame.proofs.writing.put_route.Statement.{statement}
 use Rattle.frame.proofs.writing.put_route.Tie as tie
@@ -17,8 +18,7 @@ abbrev μ-loop : tie.MeasureT-loop
 μ-loop out₀ at count route i₀ out i = count - i
 
 loop-holds : tie.Need-loop-holds Inv-loop μ-loop
-unfolding groupsOf
-loop-holds c = (search needs, sym (splice-none _ _))
+loop-holds c = (search needs, sym (rw groups-none (splice-none _ _)))
 
 mul-entry : tie.Need-mul-entry Inv-loop μ-loop
 mul-entry c = search needs
@@ -26,19 +26,17 @@ mul-entry c = search needs
 array-copy-out-entry : tie.Need-array-copy-out-entry Inv-loop μ-loop
 array-copy-out-entry c = search needs
 
-mul-put-group : tie.Need-mul-put-group Inv-loop μ-loop
-mul-put-group c = search needs
+mul-put : tie.Need-mul-put Inv-loop μ-loop
+mul-put c = search needs
 
-add-put-group : tie.Need-add-put-group Inv-loop μ-loop
-add-put-group c = search needs
+add-put : tie.Need-add-put Inv-loop μ-loop
+add-put c = search needs
 
-add-put-group-2 : tie.Need-add-put-group-2 Inv-loop μ-loop
-add-put-group-2 c = search needs
+add-put-2 : tie.Need-add-put-2 Inv-loop μ-loop
+add-put-2 c = search needs
 
-put-group-requires : tie.Need-put-group-requires Inv-loop μ-loop
-put-group-requires c κs =
-    let a = c .before .before .before .before .before .before in
-    route-each _ _ (c .before .before .before .before .loop .i) (a .pre .2) (omega arith)
+put-requires : tie.Need-put-requires Inv-loop μ-loop
+put-requires c κs = search needs
 
 add-i : tie.Need-add-i Inv-loop μ-loop
 add-i c = search needs
@@ -48,9 +46,10 @@ loop-less c = search needs
 
 loop-again : tie.Need-loop-again Inv-loop μ-loop
 loop-again c =
-    let w = c .before .before .put-group .ensures in
+    let w = c .before .before .put .ensures .1 in
     let l = c .before .before .before .before .before .before .before in
-    (search needs, w ∙ rw (l .loop .inv .1) (groups-more _ _ _ _ _ (omega arith)))
+    let t = route-each _ _ (l .loop .i) (l .before .before .pre .2) (omega arith) in
+    (search needs, w ∙ rw (put-taken _ _ _ t, l .loop .inv .1) (groups-more _ _ _ _ _ (omega arith)))
 
 same-length : tie.Need-same-length Inv-loop μ-loop
 same-length c = rw (c .before .loop .inv .1) (splice-length _ _ _)
@@ -69,10 +68,10 @@ put-route-spec =
     loop-holds
     mul-entry
     array-copy-out-entry
-    mul-put-group
-    add-put-group
-    add-put-group-2
-    put-group-requires
+    mul-put
+    add-put
+    add-put-2
+    put-requires
     add-i
     loop-less
     loop-again

@@ -1,0 +1,130 @@
+-- Octet by octet: a character read and written again is its octet with the low bit clear.
+use Prim.Native.Nat.{ℕ, _+_, _*_, _/_, _%_, _≤_, _<_}
+use mathlib.Core.Path.{_≡_, refl, ap, sym, _∙_}
+use mathlib.Core.Bool.{Bool}
+use mathlib.Core.List.{List, [], _∷_}
+use native.Mathlib.Omega.{arith}
+use lib.Bits.{bitAnd}
+use lib.ListN.{length, getD}
+use Rattle.octets.specs.Octet.{Octets, field}
+use Rattle.octets.specs.Splice.{splice}
+use Rattle.octets.proofs.Octet.{octet-same}
+use Rattle.octets.proofs.Place.{seven-at}
+use Rattle.octets.proofs.Splice.{splice-none}
+use Rattle.address.specs.Group.{addressOf, ssidOctet, groupOf, respelled}
+use Rattle.address.proofs.Laws.{respelled-in, respelled-out}
+use borrow.Author.Needs.{needs}
+use Rattle.address.proofs.group.respell.Statement.{statement}
+use Rattle.address.proofs.group.respell.Tie as tie
+
+abbrev even : ℕ → ℕ
+even b = bitAnd b 0xFE
+
+even-again : (b : ℕ) → b < 256 → even b ≡ b / 2 * 2 % 256
+even-again b h = octet-same even (λ n. n / 2 * 2 % 256) tt b h
+
+-- the octet of an SSID takes the low four bits alone
+ssid-low : (b : ℕ) (m e : Bool) → ssidOctet (b / 2) m e ≡ ssidOctet (field 1 4 b) m e
+unfolding ssidOctet
+ssid-low b m e = let h : field 1 4 b % 16 ≡ b / 2 % 16 = omega arith in rw h refl
+
+octets-again : (s : List ℕ) (from : ℕ) (m e : Bool) → Octets s → from + 7 ≤ length s
+    → even (getD s from 0) ∷ even (getD s (from + 1) 0) ∷ even (getD s (from + 2) 0) ∷ even (getD s (from + 3) 0)
+    ∷ even (getD s (from + 4) 0) ∷ even (getD s (from + 5) 0) ∷ ssidOctet (getD s (from + 6) 0 / 2) m e ∷ []
+    ≡ respelled s from m e
+unfolding addressOf groupOf
+octets-again s from m e o h =
+    let v : (k : ℕ) → even (getD s k 0) ≡ getD s k 0 / 2 * 2 % 256 = λ k. even-again (getD s k 0) (o k) in
+    rw (respelled-in s from m e h, ← seven-at s from h) (simp (ssid-low, v))
+
+returns : tie.Need-returns
+returns c =
+    let a = c .before .before .before .args in
+    sym (rw (respelled-out (a .bytes .now) (a .from) _ _ (omega arith)) (splice-none _ _))
+
+returns-2 : tie.Need-returns-2
+returns-2 c =
+    let a = c .before .before .before .before .args in
+    sym (rw (respelled-out (a .bytes .now) (a .from) _ _ (omega arith)) (splice-none _ _))
+
+add-ssid-octet : tie.Need-add-ssid-octet
+add-ssid-octet c = search needs
+
+shared-slice-read-ssid-octet : tie.Need-shared-slice-read-ssid-octet
+shared-slice-read-ssid-octet c = search needs
+
+ssid-octet-requires : tie.Need-ssid-octet-requires
+ssid-octet-requires c κs = search needs
+
+shared-slice-read-store : tie.Need-shared-slice-read-store
+shared-slice-read-store c = search needs
+
+add-store : tie.Need-add-store
+add-store c = search needs
+
+shared-slice-read-store-2 : tie.Need-shared-slice-read-store-2
+shared-slice-read-store-2 c = search needs
+
+add-store-2 : tie.Need-add-store-2
+add-store-2 c = search needs
+
+shared-slice-read-store-3 : tie.Need-shared-slice-read-store-3
+shared-slice-read-store-3 c = search needs
+
+add-store-3 : tie.Need-add-store-3
+add-store-3 c = search needs
+
+shared-slice-read-store-4 : tie.Need-shared-slice-read-store-4
+shared-slice-read-store-4 c = search needs
+
+add-store-4 : tie.Need-add-store-4
+add-store-4 c = search needs
+
+shared-slice-read-store-5 : tie.Need-shared-slice-read-store-5
+shared-slice-read-store-5 c = search needs
+
+add-store-5 : tie.Need-add-store-5
+add-store-5 c = search needs
+
+shared-slice-read-store-6 : tie.Need-shared-slice-read-store-6
+shared-slice-read-store-6 c = search needs
+
+store-requires : tie.Need-store-requires
+store-requires c κs = search needs
+
+same-length : tie.Need-same-length
+same-length c = search needs
+
+returns-3 : tie.Need-returns-3
+returns-3 c =
+    let w = c .before .before in
+    let i = w .before .before .before .before .before .before .before .before in
+    let k = i .before .before .before .before in
+    let a = k .before .before .args in
+    let o : Octets (a .bytes .now) = λ n. k .shared-slice-known .given n .fits in
+    w .store .ensures .1
+    ∙ rw (i .ssid-octet .ensures) (ap (splice (a .out .now) (a .at)) (octets-again (a .bytes .now) (a .from) _ _ o (omega arith)))
+
+pub respell-spec : {M : Type 1} → statement M
+respell-spec =
+    tie.close
+    (tie.spec
+    returns
+    returns-2
+    add-ssid-octet
+    shared-slice-read-ssid-octet
+    ssid-octet-requires
+    shared-slice-read-store
+    add-store
+    shared-slice-read-store-2
+    add-store-2
+    shared-slice-read-store-3
+    add-store-3
+    shared-slice-read-store-4
+    add-store-4
+    shared-slice-read-store-5
+    add-store-5
+    shared-slice-read-store-6
+    store-requires
+    same-length
+    returns-3)

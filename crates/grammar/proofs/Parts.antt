@@ -1,0 +1,72 @@
+-- What of an accepted input's octets is spelled again: the groups and the marks of destination and source, and so much of its content.
+use Prim.Native.Nat.{ℕ, _+_, _-_, _≤_}
+use mathlib.Core.Path.{_≡_, refl, sym, subst}
+use mathlib.Core.Bool.{true}
+use mathlib.Core.List.{List}
+use native.Mathlib.Omega.{arith}
+use lib.ListN.{length, length-drop, getD, take, drop}
+use Rattle.octets.specs.Octet.{Octets}
+use Rattle.octets.proofs.Choice.{by}
+use Rattle.octets.proofs.Octet.{octets-drop}
+use Rattle.address.specs.Group.{addressOf, markSet}
+use Rattle.content.specs.Spell.{hasInfo, front}
+use Rattle.content.specs.declared.FrameContent.{FrameContent}
+use Rattle.parse.specs.Content.{contentOf}
+use Rattle.parse.specs.declared.ContentAnswer.the-variants.{Accepted}
+use Rattle.lean.proofs.Laws.{content-plain, content-fits, front-two}
+use Rattle.decode.specs.Answer.{isAccepted}
+use Rattle.decode.specs.Read.{startOf, endOf, groupAt, parsedAt, commandOf, frameAt, acceptedWith, decode, infoIn}
+use Rattle.decode.specs.declared.Decoded.{Decoded}
+use Rattle.decode.proofs.Accepts.{Accepts, accepts}
+use Rattle.grammar.specs.Kept.{keptOf}
+use Rattle.grammar.proofs.Direct.{parsed-mark}
+
+pub record Parts (s : List ℕ) (d : Decoded) : Type 0 where
+  pub destination : d .frame .destination ≡ addressOf (groupAt s (startOf s))
+  pub source : d .frame .source ≡ addressOf (groupAt s (startOf s + 7))
+  pub mark : d .frame .«command_or_response» ≡ commandOf (markSet (getD s (startOf s + 6) 0)) (markSet (getD s (startOf s + 13) 0))
+  pub content : contentOf (drop (endOf s + 1) s) ≡ Accepted (d .frame .content)
+  -- of the content this many octets, which stand in the input: those before the info, then the info
+  pub kept : endOf s + 1 + keptOf (d .frame .content) (length s - (endOf s + 1)) ≤ length s
+  pub before : length (front (d .frame .content)) ≤ keptOf (d .frame .content) (length s - (endOf s + 1))
+  pub carried : d .«info_len» ≡ keptOf (d .frame .content) (length s - (endOf s + 1)) - length (front (d .frame .content))
+  pub info : infoIn s d ≡ take (d .«info_len») (drop (endOf s + 1 + length (front (d .frame .content))) s)
+
+module _ (s : List ℕ) (o : Octets s) (a : Accepts s (decode s)) where
+  abbrev k : FrameContent
+  k = a .kind
+
+  abbrev d : Decoded
+  d = acceptedWith (frameAt s (startOf s) (a .count) k) (endOf s + 1) (length s)
+
+  two : hasInfo k ≡ true → length (front k) ≡ 2
+  two = front-two k (content-plain _ (octets-drop s (endOf s + 1) o) k (a .read))
+
+  room : length (drop (endOf s + 1) s) ≡ length s - (endOf s + 1)
+  room = length-drop (endOf s + 1) s
+
+  marks : commandOf (parsedAt s (startOf s) .«high_bit») (parsedAt s (startOf s + 7) .«high_bit»)
+      ≡ commandOf (markSet (getD s (startOf s + 6) 0)) (markSet (getD s (startOf s + 13) 0))
+  marks =
+      let z : startOf s + 7 + 6 ≡ startOf s + 13 = omega arith in
+      rw (parsed-mark s (startOf s), parsed-mark s (startOf s + 7), z) refl
+
+  made : Parts s d
+  unfolding acceptedWith frameAt parsedAt
+  made =
+      let fits = content-fits _ k (a .read) in
+      let r = room in
+      let n = a .end-in in
+      record {
+        destination = refl;
+        source = refl;
+        mark = marks;
+        content = a .read;
+        kept = by (hasInfo k) (λ e. simp e (omega arith)) (λ e. simp e (omega arith));
+        before = by (hasInfo k) (λ e. simp e (omega arith)) (λ e. simp e (omega arith));
+        carried = by (hasInfo k) (λ e. simp (e, two e) (omega arith)) (λ e. simp e (omega arith));
+        info = by (hasInfo k) (λ e. simp (e, two e)) (λ e. simp e);
+      }
+
+pub parts : (s : List ℕ) → Octets s → isAccepted (decode s .answer) ≡ true → Parts s (decode s)
+parts s o e = let a = accepts s e in subst (λ (d : Decoded). Parts s d) (sym (a .made)) (made s o a)
