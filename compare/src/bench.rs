@@ -4,7 +4,7 @@
 use crate::domain;
 use crate::flat;
 use crate::inputs;
-use crate::port::bare;
+use crate::port::{bare, PLACES};
 use crate::relays::{self, Own};
 use crate::report::{self, Report};
 use ax25::frame::Ax25Frame;
@@ -79,7 +79,7 @@ fn cases() -> Vec<Case> {
 
 /// Times of the port and of the Rust by input.
 type Call = fn(&[Vec<u8>]) -> [f64; 2];
-const CALLS: [(&str, Call); 4] = [("decode", decode), ("canonical", canonical), ("length", length), ("re-encode", reencode)];
+const CALLS: [(&str, Call); 5] = [("decode", decode), ("read", read), ("canonical", canonical), ("length", length), ("re-encode", reencode)];
 
 pub fn run() -> Report {
     let mut report = Report::default();
@@ -115,6 +115,14 @@ fn row(rows: &mut Vec<String>, input: &str, call: &str, [port, rust]: [f64; 2], 
 
 fn decode(inputs: &[Vec<u8>]) -> [f64; 2] {
     let port = || inputs.iter().for_each(|input| keep(&bare::decode(input)));
+    let rust = || inputs.iter().for_each(|input| keep(&Ax25Frame::from_bytes(input)));
+    race(inputs.len(), [&mut timed(port), &mut timed(rust)])
+}
+
+/// A whole frame built, which decoding's number asks for no more than the other calls do. The port also lays it out as a flat record.
+fn read(inputs: &[Vec<u8>]) -> [f64; 2] {
+    let (mut record, mut places) = ([0; flat::FLAT], [0; PLACES]);
+    let port = move || inputs.iter().for_each(|input| keep(&bare::read(input, &mut record, &mut places)));
     let rust = || inputs.iter().for_each(|input| keep(&Ax25Frame::from_bytes(input)));
     race(inputs.len(), [&mut timed(port), &mut timed(rust)])
 }

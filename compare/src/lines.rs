@@ -3,7 +3,7 @@
 
 use crate::check;
 use crate::domain;
-use crate::flat::{self, Flat, FlatAddress, ADDRESS, FLAT, KIND, REPEATERS};
+use crate::flat::{self, Flat, FlatAddress, ADDRESS, COUNT, FLAT, KIND, REPEATERS, ROUTE};
 use crate::inputs;
 use crate::oracle::{self, Refusal};
 use crate::records;
@@ -35,11 +35,16 @@ pub const HEADING: &str = "\
 # Q address address: 1 where both are one station, else 0
 # U source destination: number record              new_simple_ui_frame
 # Z: number record                                 the default frame
-# R callsign frame ssid: number frame              a frame relayed by this station";
+# R callsign frame ssid: number frame              a frame relayed by this station
+# G address - n: number octets number octets       a group as a value, then written into nine octets: n is four times its place there,
+#                                                  twice its end bit, and its mark";
 
 /// A lent octet before the call, and how many of them are shown beyond the room.
 const LENT: u8 = 0xEE;
 const BEYOND: usize = 3;
+/// The octets of a group, and how many are lent to one.
+const GROUP: usize = 7;
+const GROUP_ROOM: usize = 9;
 
 /// A number, and the octets that are written: none at a refusal.
 type Answer = (u32, Vec<u8>);
@@ -168,6 +173,19 @@ impl List {
         self.line(format!("R {} {} {} {} {}", hex(&own.callsign), hex(frame), own.ssid, number, lent(&left, left.len())));
     }
 
+    /// A refusal leaves zeros as a value, and the lent octets alone.
+    pub fn group(&mut self, address: &FlatAddress, mark: bool, end: bool, at: usize) {
+        let n = 4 * at + 2 * usize::from(end) + usize::from(mark);
+        let (number, octets) = group(address, mark, end);
+        let value = if number == 0 { octets.clone() } else { vec![0; GROUP] };
+        let (answer, left) = match number {
+            0 if GROUP_ROOM < at + GROUP => (24, Vec::new()),
+            0 => (0, [vec![LENT; at], octets].concat()),
+            refused => (refused, Vec::new()),
+        };
+        self.line(format!("G {} - {} {} {} {} {}", hex(address), n, number, hex(&value), answer, lent(&left, GROUP_ROOM)));
+    }
+
     pub fn simple_ui(&mut self, source: &FlatAddress, destination: &FlatAddress) {
         let [from, to] = [source, destination].map(|address| flat::addresses(&[*address]).remove(0));
         let record = flat::of_frame(&Ax25Frame::new_simple_ui_frame(from, to, Vec::new()));
@@ -209,6 +227,19 @@ fn printed(address: &FlatAddress) -> Answer {
     } else {
         (22, Vec::new())
     }
+}
+
+/// The group of an address, which the Rust writes as a frame's first repeater: the last one too where it has the end bit.
+fn group(address: &FlatAddress, mark: bool, end: bool) -> Answer {
+    if !domain::encodable(address) {
+        return (22, Vec::new());
+    }
+    let mut record = flat::of_frame(&Ax25Frame::default());
+    record[ROUTE..ROUTE + ADDRESS].copy_from_slice(address);
+    record[ROUTE + ADDRESS] = u8::from(mark);
+    record[COUNT] = if end { 1 } else { 2 };
+    let octets = flat::to_frame(&record, &[]).to_bytes();
+    (0, octets[inputs::FIELD..inputs::FIELD + GROUP].to_vec())
 }
 
 /// The number and the address, which a refusal does not leave.

@@ -421,6 +421,10 @@ pub mod bare {
         unsafe { super::ax25_relay(callsign.as_ptr(), callsign.len(), ssid, frame.as_mut_ptr(), frame.len()) }
     }
 
+    pub fn read(input: &[u8], record: &mut [u8], places: &mut [usize]) -> u32 {
+        unsafe { super::probe_decode(input.as_ptr(), input.len(), record.as_mut_ptr(), record.len(), places.as_mut_ptr(), places.len()) }
+    }
+
     pub fn encode(record: &[u8], info: &[u8], output: &mut [u8], length: &mut [usize]) -> u32 {
         unsafe {
             super::probe_encode(

@@ -14,7 +14,7 @@ use crate::texts;
 pub const LONGEST: usize = 120;
 
 /// Prints about this many lines: what is always there, and seeded inputs up to the number. The relay's lines come on top of these,
-/// so that no other line hangs on how many they are.
+/// so that no other line hangs on how many they are; so do those of single groups.
 pub fn list(lines: usize) {
     println!("{}", HEADING);
     let mut list = List { lines: 0 };
@@ -38,6 +38,7 @@ pub fn list(lines: usize) {
     inputs::frames(1, left / 2, &mut keep);
     inputs::damaged(2, left / 2, &mut keep);
     relay_list::relaying(&mut list);
+    groups(&mut list);
 }
 
 /// Document 01's examples, each under its name there.
@@ -413,6 +414,27 @@ fn printing(list: &mut List) {
     for known in [b"BOX12 \x10", b"BOX12 \xff", b"\x80OX12 \x00", b"BOX12\xff\x00"] {
         list.print(known);
         list.print_in(known, 0);
+    }
+}
+
+/// Whether the mark and the end bit are set, all four ways.
+const BITS: [[bool; 2]; 4] = [[false, false], [true, false], [false, true], [true, true]];
+
+fn groups(list: &mut List) {
+    list.heading("Groups of one address, as the Rust writes them in a route.");
+    let mut rng = Rng::new(11);
+    let every_ssid = (0..16).map(|ssid| [b'B', b'O', b'X', b'1', b'2', b' ', ssid]);
+    let seeded = (0..24).map(|_| records::any_address(&mut rng));
+    let known = [*b"\0\0\0\0\0\0\x00", *b"\x7f\x7f\x7f\x7f\x7f\x7f\x0f", NOCALL];
+    for (i, address) in every_ssid.chain(seeded.collect::<Vec<_>>()).chain(known).enumerate() {
+        BITS.iter().for_each(|&[mark, end]| list.group(&address, mark, end, i % 3));
+    }
+    list.heading("Groups, by document 01: not seven octets from the place on (24); a character or SSID too high (22), before 24.");
+    for at in [3, 4, 9, 10, 1000] {
+        BITS.iter().for_each(|&[mark, end]| list.group(b"BOX12 \x03", mark, end, at));
+    }
+    for known in [b"BOX12 \x10", b"BOX12 \xff", b"\x80OX12 \x00", b"BOX12\xff\x00"] {
+        [0, 2, 3].iter().for_each(|&at| list.group(known, true, false, at));
     }
 }
 

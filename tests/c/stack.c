@@ -7,6 +7,9 @@
 #include "ax25.h"
 #include "examine.h"
 
+/* The bound of document 02's M-101: the small board leaves 3 KiB of stack. The header may not state more. */
+#define M101_STACK 3072
+
 /* Of the stack's octets the upper ones are painted: twice what the header may state, and a call that uses all of them has failed. */
 #define SIZE 16384
 #define PAINTED (2 * AX25_STACK)
@@ -100,8 +103,10 @@ int main(void) {
                 make(control % 3, repeaters, control, contents[i]);
                 measure(i % 2 ? sizeof out : 15);
             }
+    char line[120];
+    snprintf(line, sizeof line, "the header states %d octets of stack, and the bound of M-101 is %d", AX25_STACK, M101_STACK);
+    say(AX25_STACK <= M101_STACK, line);
     for (int call = 0; call < CALLS; call++) {
-        char line[120];
         snprintf(line, sizeof line, "%s was seen to use %zu octets of stack, of %d that the header states", names[call], deepest[call], AX25_STACK);
         say(deepest[call] >= 8 && deepest[call] <= AX25_STACK, line);
     }

@@ -3,6 +3,8 @@
 use crate::words::first;
 use crate::words::show_lent;
 use crate::words::show_number;
+use address::Address;
+use address::group;
 
 // Room and the three octets after it, within the buffers here.
 fn shown(room: usize) -> usize {
@@ -117,6 +119,30 @@ fn relay(callsign: &[u8], frame: &[u8], ssid: u8) {
     relay_in(callsign, ssid, &mut out, frame.len());
 }
 
+// The first nine octets have the room.
+fn put_in(out: &mut [u8], at: usize, address: Address, mark: bool, end: bool) {
+    if out.len() < 9 {
+        return;
+    }
+    let answer = group::put(&mut out[..9], at, address, mark, end);
+    show_answer(answer.number());
+    show_lent(out);
+}
+
+// A group, as a value and written into lent octets. The number is four times the place there, twice the end bit, and the mark.
+fn group(flat: &[u8], n: usize) {
+    let address = flat::given::address_from(flat);
+    let mark = n % 2 == 1;
+    let end = n / 2 % 2 == 1;
+    let written = group::to_bytes(address, mark, end);
+    let answer = written.answer;
+    let octets = written.group;
+    show_answer(answer.number());
+    show_lent(&octets);
+    let mut out = [0xEEu8; 12];
+    put_in(&mut out, n / 4, address, mark, end);
+}
+
 // What a line has: its letter, two words of octets and a number, each none or 0 where it lacks it.
 pub(crate) fn answer(letter: u8, one: &[u8], other: &[u8], n: usize) {
     match letter {
@@ -131,6 +157,7 @@ pub(crate) fn answer(letter: u8, one: &[u8], other: &[u8], n: usize) {
         b'H' => hops(one),
         b'Q' => show_answer(probe::probe_same_station(one, other)),
         b'R' => relay(one, other, (n % 256) as u8),
+        b'G' => group(one, n),
         _ => leave(letter, one, other, (n % 256) as u8),
     }
 }

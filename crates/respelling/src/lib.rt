@@ -46,14 +46,14 @@ fn content_at(bytes: &[u8], control: usize) -> FrameContent
     ensures { λ r. ⌜ r ≡ decode (now (bytes .entry)) .frame .content ⌝ }
 {
     let answer = parse::parse_content(&bytes[control..]);
-    // An accepted input has accepted content, so this is never left here.
+    // Never met: the content of an accepted input is accepted.
     let ContentAnswer::Accepted(content) = answer else {
         return FrameContent::UnknownContent;
     };
     content
 }
 
-// How many of the octets after the address field are kept, where there are so many.
+// How many of the `rest` octets after the address field are kept.
 fn kept_of(content: FrameContent, rest: usize) -> usize
     ensures { λ r. ⌜ r ≡ keptOf content rest ⌝ }
 {
