@@ -4,21 +4,19 @@ use mathlib.Core.Path.{_≡_, refl, _∙_}
 use mathlib.Core.Bool.{Bool, true, false, cond, _&&_}
 use mathlib.Core.List.{List, [], _∷_}
 use native.Mathlib.Omega.{arith}
-use borrow.Author.Tests.{ltb-true, leb-true, leb-false, lt-ltb, le-leb, lt-leb, eq-eqb, ne-eqb, eqb-true, eqb-false}
+use borrow.Author.Tests.{ltb-true, leb-true, lt-ltb, le-leb, eq-eqb, ne-eqb, eqb-true, eqb-false}
 use lib.Dec.{leb, eqb}
-use lib.ListN.{length, getD, set, take, drop}
+use lib.ListN.{length, getD, set}
 use lib.Seq.{set-getD, getD-set-same, getD-set-other}
 use Rattle.octets.specs.Octet.{Octets, flag, field, bit}
 use Rattle.octets.specs.All.{all}
-use Rattle.octets.specs.Splice.{splice}
 use Rattle.octets.proofs.All.{all-nil, all-cons, all-at}
 use Rattle.octets.proofs.Choice.{by, both}
 use Rattle.octets.proofs.Octet.{octet-same, octet-where}
-use Rattle.octets.proofs.Splice.{splice-out, splice-none}
 use Rattle.address.specs.declared.Address.{Address}
-use Rattle.address.specs.declared.group.GroupAnswer.the-variants.{Written, NotEncodable}
+use Rattle.address.specs.declared.group.GroupAnswer.the-variants.{NotEncodable}
 use Rattle.address.specs.Address.{low, noCall, encodable, PlainAddress}
-use Rattle.address.specs.Group.{addressOf, markOf, markSet, reserved, ssidOctet, groupOf, groupNumberOf, putAnswer, putOctets, writeGroup, respelled, reservedSet}
+use Rattle.address.specs.Group.{addressOf, markOf, markSet, reserved, octetAt, ssidOctet, groupOf, groupNumberOf, writeGroup, reservedSet}
 
 -- what can be written, as two tests
 pub encodable-is : (a : Address) → encodable a ≡ (leb (a .ssid) 15 && all low (a .callsign))
@@ -51,6 +49,14 @@ six-list z (a ∷ b ∷ c ∷ d ∷ e ∷ f ∷ g ∷ l) h = absurd (omega arith
 pub group-length : (a : Address) (m e : Bool) → length (groupOf a m e) ≡ 7
 unfolding groupOf
 group-length a m e = refl
+
+-- and they are these
+pub group-is : (a : Address) (m e : Bool)
+    → groupOf a m e
+    ≡ octetAt (a .callsign) 0 ∷ octetAt (a .callsign) 1 ∷ octetAt (a .callsign) 2 ∷ octetAt (a .callsign) 3
+    ∷ octetAt (a .callsign) 4 ∷ octetAt (a .callsign) 5 ∷ ssidOctet (a .ssid) m e ∷ []
+unfolding groupOf
+group-is a m e = refl
 
 -- the fields of the seventh octet, whatever the SSID
 ssid-back : (m e : Bool) (s : ℕ) → s ≤ 15 → field 1 4 (ssidOctet s m e) ≡ s
@@ -168,6 +174,17 @@ read-plain g o = record {
   );
 }
 
+-- what is read from seven octets and written again: the octet of an SSID takes its low four bits alone
+ssid-low : (b : ℕ) (m e : Bool) → ssidOctet (field 1 4 b) m e ≡ ssidOctet (b / 2) m e
+unfolding ssidOctet
+ssid-low b m e = let h : field 1 4 b % 16 ≡ b / 2 % 16 = omega arith in rw h refl
+
+pub group-again : (a b c d e f g : ℕ) (m x : Bool)
+    → groupOf (addressOf (a ∷ b ∷ c ∷ d ∷ e ∷ f ∷ g ∷ [])) m x
+    ≡ a / 2 * 2 % 256 ∷ b / 2 * 2 % 256 ∷ c / 2 * 2 % 256 ∷ d / 2 * 2 % 256 ∷ e / 2 * 2 % 256 ∷ f / 2 * 2 % 256 ∷ ssidOctet (g / 2) m x ∷ []
+unfolding addressOf groupOf
+group-again a b c d e f g m x = simp ssid-low
+
 doubled : (c : ℕ) → c < 256 → bit 0 c ≡ false → c / 2 * 2 % 256 ≡ c
 doubled c h e = omega (arith, eqb-false (field 0 1 c) 1 e)
 
@@ -215,11 +232,7 @@ pub written-exact : (g : List ℕ) → length g ≡ 7 → Octets g → ((k : ℕ
 unfolding reserved withReserved
 written-exact g s o v r = written-read g s o v ∙ rw (reserved-kept _ (o 6) r) (set-getD g 6 0)
 
--- what `to_bytes` gives of an address that can be written, and of one that cannot
-pub write-taken : (a : Address) (m e : Bool) → encodable a ≡ true → writeGroup a m e ≡ record { answer = Written; group = groupOf a m e }
-unfolding writeGroup
-write-taken a m e t = simp t
-
+-- what `to_bytes` gives of an address that cannot be written
 pub write-refused : (a : Address) (m e : Bool) → encodable a ≡ false
     → writeGroup a m e ≡ record { answer = NotEncodable; group = 0 ∷ 0 ∷ 0 ∷ 0 ∷ 0 ∷ 0 ∷ 0 ∷ [] }
 unfolding writeGroup
@@ -229,35 +242,6 @@ write-refused a m e t = simp t
 pub group-numbers : (a : Address) (m e : Bool) → groupNumberOf (writeGroup a m e .answer) ≡ cond (encodable a) 0 22
 unfolding writeGroup
 group-numbers a m e = by (encodable a) (λ t. simp t) (λ t. simp t)
-
--- what `put` gives of an address that can be written
-pub put-taken : (a : Address) (m e : Bool) → encodable a ≡ true → putOctets a m e ≡ groupOf a m e
-unfolding putOctets
-put-taken a m e t = simp t
-
--- into lent octets it is 22 for the same addresses, and else 24 exactly when there are not seven octets from `at` on
-pub put-numbers : (a : Address) (at room : ℕ) → groupNumberOf (putAnswer a at room) ≡ cond (encodable a) (cond (leb (at + 7) room) 0 24) 22
-unfolding putAnswer
-put-numbers a at room = by (encodable a) (λ t. by (leb (at + 7) room) (λ q. simp (t, q)) (λ q. simp (t, q))) (λ t. simp t)
-
--- and either leaves them alone
-pub put-refused : (l : List ℕ) (at : ℕ) (a : Address) (m e : Bool) → (putAnswer a at (length l) ≡ Written → ⊥) → splice l at (putOctets a m e) ≡ l
-unfolding putAnswer putOctets
-put-refused l at a m e n =
-    by (encodable a)
-    (λ t. by (leb (at + 7) (length l))
-    (λ q. absurd (n (simp (t, q))))
-    (λ q. rw t (splice-out l at (groupOf a m e) (rw group-length (leb-false _ _ q)))))
-    (λ t. rw t (splice-none l at))
-
--- what `respell` gives where there are seven octets, and where there are not
-pub respelled-in : (s : List ℕ) (from : ℕ) (m e : Bool) → from + 7 ≤ length s → respelled s from m e ≡ groupOf (addressOf (take 7 (drop from s))) m e
-unfolding respelled
-respelled-in s from m e h = simp (le-leb _ _ h)
-
-pub respelled-out : (s : List ℕ) (from : ℕ) (m e : Bool) → length s < from + 7 → respelled s from m e ≡ []
-unfolding respelled
-respelled-out s from m e h = simp (lt-leb _ _ h)
 
 -- the first octet of a group is nonzero where the first character is, and the other way round
 pub group-starts : (a : Address) (m e : Bool) → PlainAddress a → 0 < getD (a .callsign) 0 0 → 0 < getD (groupOf a m e) 0 0

@@ -3,12 +3,12 @@
 use Prim.Native.Nat.{ℕ, _+_, _*_, _/_, _%_}
 use mathlib.Core.Bool.{Bool, cond}
 use mathlib.Core.List.{List, [], _∷_}
-use lib.Dec.{eqb, leb}
-use lib.ListN.{length, getD, take, drop}
+use lib.Dec.{eqb}
+use lib.ListN.{getD}
 use Rattle.octets.specs.Octet.{field, bit, flag}
 use Rattle.address.specs.declared.Address.{Address}
 use Rattle.address.specs.declared.group.GroupAnswer.{GroupAnswer}
-use Rattle.address.specs.declared.group.GroupAnswer.the-variants.{Written, NotEncodable, NoRoom}
+use Rattle.address.specs.declared.group.GroupAnswer.the-variants.{Written, NotEncodable}
 use Rattle.address.specs.declared.group.WrittenGroup.{WrittenGroup}
 use Rattle.address.specs.Address.{encodable}
 
@@ -55,23 +55,10 @@ groupOf a mark end =
 abbrev pub groupNumberOf : GroupAnswer → ℕ
 groupNumberOf Written = 0
 groupNumberOf NotEncodable = 22
-groupNumberOf NoRoom = 24
 
--- what writing into lent octets of this length answers: 22, then 24 where there are not seven octets from `at` on
-unfoldable pub putAnswer : Address → ℕ → ℕ → GroupAnswer
-putAnswer a at room = cond (encodable a) (cond (leb (at + 7) room) Written NoRoom) NotEncodable
-
--- and what it writes there: a refused address gives nothing
-unfoldable pub putOctets : Address → Bool → Bool → List ℕ
-putOctets a mark end = cond (encodable a) (groupOf a mark end) []
-
--- what writing by value gives: a refused address leaves seven zeros
+-- what writing gives: a refused address leaves seven zeros
 unfoldable pub writeGroup : Address → Bool → Bool → WrittenGroup
 writeGroup a mark end =
     cond (encodable a)
     (record { answer = Written; group = groupOf a mark end })
     (record { answer = NotEncodable; group = 0 ∷ 0 ∷ 0 ∷ 0 ∷ 0 ∷ 0 ∷ 0 ∷ [] })
-
--- the group that stands from `from` on, read and written again with this mark and end bit; nothing where there are not seven octets
-unfoldable pub respelled : List ℕ → ℕ → Bool → Bool → List ℕ
-respelled s from mark end = cond (leb (from + 7) (length s)) (groupOf (addressOf (take 7 (drop from s))) mark end) []

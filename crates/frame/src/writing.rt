@@ -4,7 +4,6 @@ use crate::Mark;
 use crate::RouteEntry;
 use crate::WriteAnswer;
 use crate::Written;
-use address::group;
 ghost use mathlib.Core.Path.{_≡_};
 ghost use mathlib.Core.Bool.{true};
 ghost use Prim.Native.Nat.{_+_, _*_, _≤_};
@@ -89,7 +88,7 @@ fn put_route(out: &mut [u8], at: usize, route: [RouteEntry; 8], count: usize)
     while i < count {
         let entry = route[i];
         let repeater = entry.repeater;
-        group::put(
+        placing::put(
             out,
             at + 7 * i,
             repeater,
@@ -111,8 +110,8 @@ fn put_addresses(out: &mut [u8], frame: Ax25Frame)
     let source = frame.source;
     let route = frame.route;
     let to = destination_mark(mark);
-    group::put(out, 0, destination, to, false);
-    group::put(out, 7, source, !to, count == 0);
+    placing::put(out, 0, destination, to, false);
+    placing::put(out, 7, source, !to, count == 0);
     put_route(out, 14, route, count);
 }
 

@@ -41,12 +41,6 @@ module _ {A : Type 0} where
       (λ e. splice-in l at [] (leb-true _ _ e) ∙ rw add-zero (take-append-drop at l))
       (λ e. splice-out l at [] (leb-false _ _ e))
 
-  -- a part as long as the list takes its place
-  pub splice-whole : (l part : List A) → length part ≡ length l → splice l 0 part ≡ part
-  splice-whole l part e =
-      let n : 0 + length part ≡ length part = omega arith in
-      splice-in l 0 part (omega arith) ∙ rw (n, drop-of-length-le l {i = length part} (omega arith)) (append-nil part)
-
   past : (p q : List A) (n m : ℕ) → length p ≡ n → drop (n + m) (p ++ q) ≡ drop m q
   past p q n m e = rw (← e) (drop-append-add p q m)
 

@@ -124,7 +124,7 @@ fn put_in(out: &mut [u8], at: usize, address: Address, mark: bool, end: bool) {
     if out.len() < 9 {
         return;
     }
-    let answer = group::put(&mut out[..9], at, address, mark, end);
+    let answer = placing::put(&mut out[..9], at, address, mark, end);
     show_answer(answer.number());
     show_lent(out);
 }

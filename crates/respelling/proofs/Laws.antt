@@ -9,8 +9,9 @@ use lib.Dec.{eqb, ltb}
 use lib.ListN.{length, getD}
 use Rattle.octets.specs.Octet.{Octets}
 use Rattle.octets.specs.Splice.{splice}
-use Rattle.address.specs.Group.{markSet, groupOf, respelled}
-use Rattle.address.proofs.Laws.{respelled-in}
+use Rattle.address.specs.Group.{markSet, groupOf}
+use Rattle.placing.specs.Put.{respelled}
+use Rattle.placing.proofs.Laws.{respelled-in}
 use Rattle.content.specs.declared.FrameContent.{FrameContent}
 use Rattle.decode.specs.Answer.{isAccepted}
 use Rattle.decode.specs.Read.{startOf, routeAt, commandOf, decode, infoIn}

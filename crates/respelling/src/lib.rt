@@ -93,7 +93,7 @@ fn put_route(out: &mut [u8], bytes: &[u8], from: usize, count: usize)
     while i < count {
         let at = from + 7 * i;
         let mark = group::mark_set(bytes[at + 6]);
-        group::respell(out, 14 + 7 * i, bytes, at, mark, i + 1 == count);
+        placing::respell(out, 14 + 7 * i, bytes, at, mark, i + 1 == count);
         i += 1;
     }
 }
@@ -106,8 +106,8 @@ fn put_addresses(out: &mut [u8], bytes: &[u8], start: usize, count: usize)
     let to = group::mark_set(bytes[start + 6]);
     let from = group::mark_set(bytes[start + 13]);
     let mark = written_mark(to, from);
-    group::respell(out, 0, bytes, start, mark, false);
-    group::respell(out, 7, bytes, start + 7, !mark, count == 0);
+    placing::respell(out, 0, bytes, start, mark, false);
+    placing::respell(out, 7, bytes, start + 7, !mark, count == 0);
     put_route(out, bytes, start + 14, count);
 }
 

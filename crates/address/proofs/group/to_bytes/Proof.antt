@@ -1,33 +1,24 @@
--- Seven octets have room for a group; a refusal leaves them zeros.
-use Prim.Native.Nat.{ℕ}
-use mathlib.Core.Path.{_≡_}
-use mathlib.Core.List.{List, [], _∷_}
-use Rattle.octets.proofs.Choice.{by}
-use Rattle.octets.specs.Splice.{splice}
-use Rattle.octets.proofs.Splice.{splice-none, splice-whole}
-use Rattle.address.specs.Address.{encodable}
-use Rattle.address.specs.Group.{groupOf, putAnswer, putOctets, writeGroup}
-use Rattle.address.proofs.Laws.{group-length}
+-- `to_bytes` refuses what cannot be written, and else gives the group.
+use mathlib.Core.Path.{sym, _∙_}
 use borrow.Author.Needs.{needs}
+use borrow.Author.Tests.{not-true, not-false}
+use Rattle.address.specs.Group.{writeGroup}
 use Rattle.address.proofs.group.to_bytes.Statement.{statement}
 use Rattle.address.proofs.group.to_bytes.Tie as tie
 
-slice-aggregate-put : tie.Need-slice-aggregate-put
-slice-aggregate-put c = search needs
-
-put-requires : tie.Need-put-requires
-put-requires c κs = search needs
+is-encodable-requires : tie.Need-is-encodable-requires
+is-encodable-requires c κs = search needs
 
 returns : tie.Need-returns
-unfolding putAnswer putOctets writeGroup
-returns c =
-    let e = c .before .put .ensures in
-    let a = c .before .before .before .args in
-    let g : List ℕ = groupOf (a .address) (a .high-bit) (a .final-in-address) in
-    let whole : splice (0 ∷ 0 ∷ 0 ∷ 0 ∷ 0 ∷ 0 ∷ 0 ∷ []) 0 g ≡ g = splice-whole _ g (group-length _ _ _) in
-    by (encodable (a .address))
-    (λ t. simp (e .0, e .1, t, whole))
-    (λ t. simp (e .0, e .1, t, splice-none))
+unfolding writeGroup
+returns c = simp (sym (c .before .is-encodable .ensures) ∙ not-true _ (c .if1 .taken))
+
+group-of-requires : tie.Need-group-of-requires
+group-of-requires c κs = search needs
+
+returns-2 : tie.Need-returns-2
+unfolding writeGroup
+returns-2 c = simp (sym (c .before .before .is-encodable .ensures) ∙ not-false _ (c .before .if1 .left), c .group-of .ensures)
 
 pub to-bytes-spec : {M : Type 1} → statement M
-to-bytes-spec = tie.close (tie.spec slice-aggregate-put put-requires returns)
+to-bytes-spec = tie.close (tie.spec is-encodable-requires returns group-of-requires returns-2)

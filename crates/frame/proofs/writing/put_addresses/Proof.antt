@@ -1,7 +1,7 @@
 -- Each group is written at its place, and the three parts one after the other are the address field.
 use mathlib.Core.Path.{_∙_}
 use Rattle.octets.proofs.Splice.{splice-length}
-use Rattle.address.proofs.Laws.{put-taken}
+use Rattle.placing.proofs.Laws.{put-taken}
 use Rattle.frame.proofs.Write.{frame-each, marks-differ, field-put}
 use borrow.Author.Needs.{needs}
 use Rattle.frame.proofs.writing.put_addresses.Statement.{statement}

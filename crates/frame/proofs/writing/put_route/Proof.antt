@@ -4,7 +4,7 @@ use mathlib.Core.Path.{_≡_, sym, _∙_}
 use native.Mathlib.Omega.{arith}
 use Rattle.octets.specs.Splice.{splice}
 use Rattle.octets.proofs.Splice.{splice-none, splice-length}
-use Rattle.address.proofs.Laws.{put-taken}
+use Rattle.placing.proofs.Laws.{put-taken}
 use Rattle.frame.specs.Spell.{groupsOf}
 use Rattle.frame.proofs.Write.{groups-none, groups-more, route-each}
 use borrow.Author.Needs.{needs}

@@ -4,11 +4,12 @@ use mathlib.Core.Bool.{true}
 use borrow.Author.Tests.{not-true, not-false}
 use Rattle.octets.specs.Splice.{splice}
 use Rattle.octets.proofs.Splice.{splice-none}
 use Rattle.address.specs.Address.{encodable}
-use Rattle.address.specs.Group.{groupOf, putAnswer, putOctets}
+use Rattle.address.proofs.Laws.{group-is}
+use Rattle.placing.specs.Put.{putAnswer, putOctets}
 use borrow.Author.Needs.{needs}
-use Rattle.address.proofs.group.put.Statement.{statement}
-use Rattle.address.proofs.group.put.Tie as tie
+use Rattle.placing.proofs.put.Statement.{statement}
+use Rattle.placing.proofs.put.Tie as tie
 
 taken : (c : tie.Else1) → encodable (c .before .before .before .args .address) ≡ true
 taken c = sym (c .before .is-encodable .ensures) ∙ not-false _ (c .if1 .left)
@@ -17,10 +18,10 @@ taken c = sym (c .before .is-encodable .ensures) ∙ not-false _ (c .if1 .left)
 stored : (c : tie.After-store) →
     let a = c .before .before .before .before .before .before .before .args in
     c .store .last .0 ≡ splice (a .out .now) (a .at) (putOctets (a .address) (a .high-bit) (a .final-in-address))
-unfolding putOctets groupOf
+unfolding putOctets
 stored c =
     let i = c .before .before .before .before in
-    c .store .ensures .1 ∙ rw (taken i, c .before .before .ssid-octet .ensures) refl
+    c .store .ensures .1 ∙ rw (taken i, group-is, c .before .before .ssid-octet .ensures) refl
 
 is-encodable-requires : tie.Need-is-encodable-requires
 is-encodable-requires c κs = search needs

@@ -9,8 +9,8 @@ use borrow.Author.Tests.{le-leb, lt-leb}
 use Rattle.octets.specs.Splice.{splice}
 use Rattle.octets.proofs.Splice.{splice-out, splice-stores}
 use borrow.Author.Needs.{needs}
-use Rattle.address.proofs.group.store.Statement.{statement}
-use Rattle.address.proofs.group.store.Tie as tie
+use Rattle.placing.proofs.store.Statement.{statement}
+use Rattle.placing.proofs.store.Tie as tie
 
 seven-stores : (l : List ℕ) (at a b c d e f g : ℕ) → at + 7 ≤ length l
     → set (set (set (set (set (set (set l at a) (at + 1) b) (at + 2) c) (at + 3) d) (at + 4) e) (at + 5) f) (at + 6) g

@@ -1,21 +1,23 @@
 -- Octet by octet: a character read and written again is its octet with the low bit clear.
 use Prim.Native.Nat.{ℕ, _+_, _*_, _/_, _%_, _≤_, _<_}
-use mathlib.Core.Path.{_≡_, refl, ap, sym, _∙_}
+use mathlib.Core.Path.{_≡_, ap, sym, _∙_}
 use mathlib.Core.Bool.{Bool}
 use mathlib.Core.List.{List, [], _∷_}
 use native.Mathlib.Omega.{arith}
 use lib.Bits.{bitAnd}
 use lib.ListN.{length, getD}
-use Rattle.octets.specs.Octet.{Octets, field}
+use Rattle.octets.specs.Octet.{Octets}
 use Rattle.octets.specs.Splice.{splice}
 use Rattle.octets.proofs.Octet.{octet-same}
 use Rattle.octets.proofs.Place.{seven-at}
 use Rattle.octets.proofs.Splice.{splice-none}
-use Rattle.address.specs.Group.{addressOf, ssidOctet, groupOf, respelled}
-use Rattle.address.proofs.Laws.{respelled-in, respelled-out}
+use Rattle.address.specs.Group.{ssidOctet}
+use Rattle.address.proofs.Laws.{group-again}
+use Rattle.placing.specs.Put.{respelled}
+use Rattle.placing.proofs.Laws.{respelled-in, respelled-out}
 use borrow.Author.Needs.{needs}
-use Rattle.address.proofs.group.respell.Statement.{statement}
-use Rattle.address.proofs.group.respell.Tie as tie
+use Rattle.placing.proofs.respell.Statement.{statement}
+use Rattle.placing.proofs.respell.Tie as tie
 
 abbrev even : ℕ → ℕ
 even b = bitAnd b 0xFE
@@ -23,19 +25,13 @@ even b = bitAnd b 0xFE
 even-again : (b : ℕ) → b < 256 → even b ≡ b / 2 * 2 % 256
 even-again b h = octet-same even (λ n. n / 2 * 2 % 256) tt b h
 
--- the octet of an SSID takes the low four bits alone
-ssid-low : (b : ℕ) (m e : Bool) → ssidOctet (b / 2) m e ≡ ssidOctet (field 1 4 b) m e
-unfolding ssidOctet
-ssid-low b m e = let h : field 1 4 b % 16 ≡ b / 2 % 16 = omega arith in rw h refl
-
 octets-again : (s : List ℕ) (from : ℕ) (m e : Bool) → Octets s → from + 7 ≤ length s
     → even (getD s from 0) ∷ even (getD s (from + 1) 0) ∷ even (getD s (from + 2) 0) ∷ even (getD s (from + 3) 0)
     ∷ even (getD s (from + 4) 0) ∷ even (getD s (from + 5) 0) ∷ ssidOctet (getD s (from + 6) 0 / 2) m e ∷ []
     ≡ respelled s from m e
-unfolding addressOf groupOf
 octets-again s from m e o h =
     let v : (k : ℕ) → even (getD s k 0) ≡ getD s k 0 / 2 * 2 % 256 = λ k. even-again (getD s k 0) (o k) in
-    rw (respelled-in s from m e h, ← seven-at s from h) (simp (ssid-low, v))
+    rw (respelled-in s from m e h, ← seven-at s from h, group-again) (simp v)
 
 returns : tie.Need-returns
 returns c =
