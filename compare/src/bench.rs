@@ -119,7 +119,7 @@ fn decode(inputs: &[Vec<u8>]) -> [f64; 2] {
     race(inputs.len(), [&mut timed(port), &mut timed(rust)])
 }
 
-/// A whole frame built, which decoding's number asks for no more than the other calls do. The port also lays it out as a flat record.
+/// A whole frame, which no exported call builds. The port also lays it out as a flat record.
 fn read(inputs: &[Vec<u8>]) -> [f64; 2] {
     let (mut record, mut places) = ([0; flat::FLAT], [0; PLACES]);
     let port = move || inputs.iter().for_each(|input| keep(&bare::read(input, &mut record, &mut places)));

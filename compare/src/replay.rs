@@ -13,8 +13,8 @@ use crate::texts;
 /// Seeded inputs, info and texts are shorter than this, to keep the lines short.
 pub const LONGEST: usize = 120;
 
-/// Prints about this many lines: what is always there, and seeded inputs up to the number. The relay's lines come on top of these,
-/// so that no other line hangs on how many they are; so do those of single groups.
+/// Prints about this many lines: what is always there, and seeded inputs up to the number. The lines of relaying and of single groups
+/// come on top of these, so that no other line hangs on how many they are.
 pub fn list(lines: usize) {
     println!("{}", HEADING);
     let mut list = List { lines: 0 };

@@ -94,10 +94,10 @@ due-taken s room o e h =
     accepted-taken _ _ _ (decoded-written s room o e ∙ rw (le-ltb _ _ (rw (due-accepted s e) at h)) refl)
 
 -- a repeater's group, spelled again from its octets
-pub group-again : (s : List ℕ) (at n i : ℕ) (e : Bool) → i < n → n ≤ 8 → at + 7 * n ≤ length s
+pub repeater-again : (s : List ℕ) (at n i : ℕ) (e : Bool) → i < n → n ≤ 8 → at + 7 * n ≤ length s
     → respelled s (at + 7 * i) (markSet (getD s (at + 7 * i + 6) 0)) e
     ≡ groupOf (repeaterAt (routeAt s at n) i .repeater) (repeaterAt (routeAt s at n) i .«has_repeated») e
-group-again s at n i e h l f =
+repeater-again s at n i e h l f =
     let p = place-read s at n i h l in
     rw (respelled-in s (at + 7 * i) _ e (omega arith), p .0, p .1, parsed-is) refl
 

@@ -8,7 +8,7 @@ use Rattle.octets.proofs.Splice.{splice-none, splice-length}
 use Rattle.frame.specs.Spell.{groupsOf}
 use Rattle.frame.proofs.Write.{groups-none, groups-more}
 use Rattle.decode.specs.Read.{routeAt}
-use Rattle.respelling.proofs.Laws.{group-again}
+use Rattle.respelling.proofs.Laws.{repeater-again}
 use borrow.Author.Needs.{needs}
 use Rattle.respelling.proofs.put_route.Statement.{statement}
 use Rattle.respelling.proofs.put_route.Tie as tie
@@ -61,7 +61,7 @@ loop-again c =
     let m = c .before .before .before .before .mark-set .ensures in
     let l = c .before .before .before .before .before .before .before in
     let a = l .before .before .before in
-    let g = group-again (a .args .bytes .now) (a .args .from) (a .args .count) (l .loop .i) (eqb (l .loop .i + 1) (a .args .count)) (omega arith) (a .pre .0) (a .pre .1) in
+    let g = repeater-again (a .args .bytes .now) (a .args .from) (a .args .count) (l .loop .i) (eqb (l .loop .i + 1) (a .args .count)) (omega arith) (a .pre .0) (a .pre .1) in
     (search needs, w ∙ rw (m, g, l .loop .inv .1) (groups-more _ _ _ _ _ (omega arith)))
 
 same-length : tie.Need-same-length Inv-loop μ-loop
