@@ -10,6 +10,7 @@ use Rattle.address.specs.declared.Address.{Address}
 use Rattle.placing.specs.declared.PutAnswer.{PutAnswer}
 use Rattle.placing.specs.declared.PutAnswer.the-variants.{Written, NotEncodable, NoRoom}
 
+-- document 01's numbers for writing one address, and for too little room
 abbrev pub putNumber : PutAnswer → ℕ
 putNumber Written = 0
 putNumber NotEncodable = 22
