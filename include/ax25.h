@@ -28,7 +28,7 @@ extern "C" {
 /* No call uses more stack than this, in octets, its return address included. What memcpy and memset use comes on top. */
 #define AX25_STACK 1024
 
-/* Every number that the component gives. The five calls give 0 to 9, 22, 24, 41 and 42; the others belong to parts that C does
+/* Every number that the component gives. The five calls give 0 to 9, 22, 24 and 41 to 43; the others belong to parts that C does
    not reach: writing records, text and the dumper. */
 enum ax25_number {
     AX25_ACCEPTED = 0,
@@ -60,8 +60,9 @@ enum ax25_number {
     AX25_NOT_ASCII = 35,               /* an octet of 128 or more */
 
     /* Relaying a frame. */
-    AX25_ROUTE_USED_UP = 41,           /* as many repeaters are marked as there are; a frame without a repeater too */
+    AX25_ROUTE_USED_UP = 41,           /* every repeater is marked; a frame without a repeater too */
     AX25_ANOTHER_STATION = 42,         /* the repeater at the due place is another station */
+    AX25_BROKEN_MARKS = 43,            /* a repeater after the first unmarked one is marked */
 
     /* The dumper alone. */
     AX25_INPUT_TOO_LONG = 50           /* more than 4,096 octets */
@@ -79,14 +80,15 @@ uint32_t ax25_canonical(const uint8_t *in, size_t in_len);
    frame_len octets can be sent as they now are. Decoding them gives the same frame with that one mark set.
 
    Our own station is `callsign`, 0 to 6 octets below 128, and `ssid`, 0 to 15. The octets are taken as they are, lower case too,
-   and padded with spaces to six. The due place, counted from 0, is the number of repeaters that are marked, and the repeater there
-   is our own station where its six characters and its SSID are ours. With broken marks (one of them after a repeater without)
-   it can be marked already: the answer is AX25_ACCEPTED and nothing changes.
+   and padded with spaces to six. The due place, counted from 0, is the first repeater that is not marked, or the number of
+   repeaters where all are. The repeater there is our own station where its six characters and its SSID are ours. A frame with broken
+   marks, one of them after a repeater without, is never relayed, whoever is due.
 
    Otherwise the answer is the first of these that holds, and all of `frame` stays as it was:
    - AX25_NOT_ENCODABLE: our own address has more than six octets, or one of 128 or more, or an SSID over 15, whatever the frame is;
    - the number of ax25_decode(frame, frame_len), where that is not 0;
    - AX25_ROUTE_USED_UP: the due place is the number of repeaters;
+   - AX25_BROKEN_MARKS: a repeater after the due place is marked;
    - AX25_ANOTHER_STATION: the repeater at the due place is not our own station. */
 uint32_t ax25_relay(const uint8_t *callsign, size_t callsign_len, uint8_t ssid, uint8_t *frame, size_t frame_len);
 

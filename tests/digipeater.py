@@ -66,6 +66,9 @@ def alike():
         yield Case(spelled(route), 41)
     for route in ('HILL2-2', 'HILL1-3', 'HILL1', 'HILL12-2', 'hill1-2', ' HILL1-2', 'HILL5-1,HILL1-2', 'HILL1-2*,HILL5-1,HILL1-2'):
         yield Case(spelled(route), 42)
+    # A mark after the first repeater without, who is not HILL1-2.
+    for route in ('HILL5-1*,HILL6-1,HILL1-2*', 'HILL6-1,HILL1-2*', 'HILL2-2,HILL5-1*,HILL1-2', EARLIER[:-2] + ',HILL1-2*'):
+        yield Case(spelled(route), 43)
     yield Case(spelled('HILL1-2,HILL2-1' + LATER), 9)
 
 
@@ -75,8 +78,9 @@ def both(octets):
 
 def otherwise():
     """The entries of D, each by the frame that stands there and then by others."""
-    yield Case(spelled('HILL5-1*,HILL1-2,HILL6-1*'), 42, 'D1', both(spelled('HILL5-1*,HILL1-2*,HILL6-1*')))
-    yield Case(spelled('HILL5-1*,HILL6-1,HILL1-2*'), 0, 'D1', both(None), spelled('HILL5-1*,HILL6-1,HILL1-2*'))
+    yield Case(spelled('HILL5-1*,HILL1-2,HILL6-1*'), 43, 'D1', both(spelled('HILL5-1*,HILL1-2*,HILL6-1*')))
+    for before, after in (('', ',HILL5-1*'), ('', ',HILL5-1,HILL6-1*'), ('HILL5-1*,', ',HILL1-2*')):
+        yield Case(spelled(f'{before}HILL1-2{after}'), 43, 'D1', both(spelled(f'{before}HILL1-2*{after}')))
     for content in (b'\x03\x20', b'\x13\xF0', b'\x00\xF0', b'\x01'):
         yield Case(spelled('HILL1-2', content), 0, 'D2', {'APRS': None})
     for nulls in (1, 7):

@@ -157,7 +157,7 @@ fn reencode(inputs: &[Vec<u8>]) -> [f64; 2] {
 const COPIES: usize = 64;
 
 /// Passing a frame on, by the station that is due: the port's relay, its decode of the same frames, and the Rust; none where some input
-/// has no place that is due and not marked. The marks are cleared again before each run, so that each sets them. What that and the
+/// is not to be passed on. The marks are cleared again before each run, so that each sets them. What that and the
 /// going from frame to frame take is measured beside and taken off both of the port's times. The Rust has no relay: its caller would
 /// decode the frame, set the mark in its route, and write it anew.
 fn relay(inputs: &[Vec<u8>]) -> Option<[f64; 3]> {
@@ -187,7 +187,7 @@ fn relay(inputs: &[Vec<u8>]) -> Option<[f64; 3]> {
     Some([relay - clear, decode - clear, rust])
 }
 
-/// A frame, the place that is due and not marked, where its mark stands, and who is there.
+/// A frame, the place that is due, where its mark stands, and who is there.
 struct OnItsWay {
     octets: Vec<u8>,
     due: usize,
@@ -198,8 +198,10 @@ struct OnItsWay {
 impl OnItsWay {
     fn of(input: &[u8]) -> Option<OnItsWay> {
         let frame = Ax25Frame::from_bytes(input).ok()?;
-        let [_, _, due] = domain::hops(&flat::of_frame(&frame));
-        let own = relays::of_route(&frame).into_iter().nth(due).filter(|_| !frame.route[due].has_repeated)?;
+        let record = flat::of_frame(&frame);
+        let [_, _, due] = domain::hops(&record);
+        let own = relays::of_route(&frame).into_iter().nth(due)?;
+        domain::relay(&record, &flat::repeater(&record, due)).ok()?;
         Some(OnItsWay { octets: input.to_vec(), due, mark: domain::mark_at(input, due), own })
     }
 

@@ -330,12 +330,12 @@ fn hops_and_stations(checker: &mut Checker, report: &mut Report, scale: usize, s
 
 /// Most inputs are relayed by several stations, and each relay counts as one.
 fn frames_passed_on(checker: &mut Checker, report: &mut Report, scale: usize, seeds: &mut Rng) {
-    let [a, b, c, d, e, draws] = [0; 6].map(|_: u64| seeds.next());
+    let [a, b, c, d, e, draws, f] = [0; 7].map(|_: u64| seeds.next());
     let mut draw = Rng::new(draws);
     let mut run = |name: &str, body: &mut dyn FnMut(inputs::Each)| {
         class(checker, report, name, |c| body(&mut |input| c.relays(input, &mut draw)));
     };
-    run("relay: every way to mark 0 to 8 repeaters", &mut |each| inputs::marks(each));
+    run("relay: every way to mark 0 to 8 repeaters, and what would be repeaters behind them", &mut |each| inputs::marks(each));
     run("relay: every octet at every address place, 0 to 9 repeaters", &mut |each| inputs::address_places(each));
     run("relay: two repeaters and every control octet, content of 0 to 6", &mut |each| {
         inputs::controls(a, &mut |content| each(&inputs::with_repeaters(2, content)));
@@ -346,8 +346,13 @@ fn frames_passed_on(checker: &mut Checker, report: &mut Report, scale: usize, se
         inputs::single_bits(each);
         inputs::long(b, each);
     });
-    run("relay: seeded frames around every boundary", &mut |each| inputs::frames(c, 120_000 * scale, each));
-    run("relay: damaged copies", &mut |each| inputs::damaged(d, 100_000 * scale, each));
+    let mut order = Rng::new(f);
+    run("relay: seeded frames around every boundary", &mut |each| {
+        inputs::frames(c, 120_000 * scale, &mut |input| each(&inputs::marks_in_order(input, &mut order)));
+    });
+    run("relay: damaged copies", &mut |each| {
+        inputs::damaged(d, 100_000 * scale, &mut |input| each(&inputs::marks_in_order(input, &mut order)));
+    });
     class(checker, report, "relay: own addresses, every octet at every place, every SSID, lengths 0 to 12", |class| {
         let content = [0x03, 0xF0, 0x41];
         let mut each = |own: &Own, address: &FlatAddress| {

@@ -68,12 +68,12 @@ pub fn record_number(record: &Flat, info: &[u8]) -> u32 {
 }
 
 /// The hop set, with bit i for a marked place i below the route count, a count over 8 being read as 8; the hops used, the number of
-/// its ones; and the due place, which equals them.
+/// its ones; and the due place, the first that is not marked, or the count where all are (document 02, M-102).
 pub fn hops(record: &Flat) -> [usize; 3] {
     let count = usize::from(record[COUNT]).min(REPEATERS);
-    let marked = (0..count).filter(|i| record[ROUTE + ENTRY * i + ADDRESS] != 0);
-    let (set, used) = marked.fold((0, 0), |(set, used), i| (set | 1 << i, used + 1));
-    [set, used, used]
+    let marked: Vec<_> = (0..count).filter(|i| record[ROUTE + ENTRY * i + ADDRESS] != 0).collect();
+    let due = (0..count).find(|i| !marked.contains(i)).unwrap_or(count);
+    [marked.iter().map(|i| 1 << i).sum(), marked.len(), due]
 }
 
 /// Our own address, of the callsign and the SSID that the relay is given; none where that is refused by 22.
@@ -84,11 +84,13 @@ pub fn own_address(callsign: &[u8], ssid: u8) -> Option<FlatAddress> {
     Some(own).filter(encodable)
 }
 
-/// The due place of a frame that is ours to pass on, or the number that refuses it (document 02, M-100).
+/// The due place of a frame that is ours to pass on, or the number that refuses it (document 02, M-100 and M-102).
 pub fn relay(record: &Flat, own: &FlatAddress) -> Result<usize, u32> {
-    let [_, _, due] = hops(record);
+    let [set, _, due] = hops(record);
     if due == usize::from(record[COUNT]) {
         Err(41)
+    } else if (due..REPEATERS).any(|i| set >> i & 1 == 1) {
+        Err(43)
     } else if flat::repeater(record, due) != *own {
         Err(42)
     } else {

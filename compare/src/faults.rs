@@ -6,7 +6,7 @@ use std::slice::{from_raw_parts, from_raw_parts_mut};
 use std::sync::atomic::{AtomicUsize, Ordering};
 
 /// What each fault does, from 1 on, and words in the name of a class that has to find it.
-const FAULTS: [(&str, &str); 32] = [
+const FAULTS: [(&str, &str); 34] = [
     ("re-encoding writes the address field, then answers 24", "every prefix"),
     ("re-encoding writes the address field, then refuses the content", "every prefix"),
     ("re-encoding into no room at all answers 0", "every prefix"),
@@ -26,7 +26,7 @@ const FAULTS: [(&str, &str); 32] = [
     ("a refused text leaves an address", "text: every SSID"),
     ("a refused callsign leaves an SSID", "from_parts"),
     ("hops of a count over 8 are none", "hops"),
-    ("the due place is the first that is not marked", "hops"),
+    ("the due place is the number of marks", "hops"),
     ("same station whatever the SSID", "same station"),
     ("same station whatever the case", "same station"),
     ("empty content is 5", "content alone"),
@@ -37,7 +37,9 @@ const FAULTS: [(&str, &str); 32] = [
     ("the relay sets the end bit", "relay: every way to mark"),
     ("the relay does not compare SSIDs", "relay: every way to mark"),
     ("the relay answers 42 for 41", "relay: every way to mark"),
-    ("the relay clears a mark that was set", "relay: every way to mark"),
+    ("the relay answers 42 for 43", "relay: every way to mark"),
+    ("the relay passes broken marks on", "relay: every way to mark"),
+    ("the relay looks for marks beyond the route", "relay: every way to mark"),
     ("the relay looks at the frame before our own address", "relay: leading nulls"),
 ];
 
@@ -135,8 +137,11 @@ unsafe extern "C" fn __wrap_ax25_relay(callsign: *const u8, callsign_len: usize,
     let octets = from_raw_parts_mut(frame, frame_len);
     let before = octets.to_vec();
     let number = __real_ax25_relay(callsign, callsign_len, ssid, frame, frame_len);
-    if is("the relay answers 42 for 41") && number == 41 {
+    if is("the relay answers 42 for 41") && number == 41 || is("the relay answers 42 for 43") && number == 43 {
         return 42;
+    }
+    if is("the relay passes broken marks on") && number == 43 {
+        return 0;
     }
     if is("the relay does not compare SSIDs") && number == 42 {
         let passed_on = (0..16).any(|ssid| __real_ax25_relay(callsign, callsign_len, ssid, frame, frame_len) == 0);
@@ -152,9 +157,9 @@ unsafe extern "C" fn __wrap_ax25_relay(callsign: *const u8, callsign_len: usize,
             octets[at + 7] |= 0x80;
         }
         Some(at) if is("the relay sets the end bit") => octets[at] |= 0x01,
-        None if is("the relay clears a mark that was set") && number == 0 => {
-            let marked = octets.iter_mut().skip(14).find(|octet| **octet >= 0xE0);
-            marked.into_iter().for_each(|octet| *octet &= 0x7F);
+        Some(at) if is("the relay looks for marks beyond the route") && octets[at..].iter().step_by(7).skip(1).any(|octet| *octet >= 0x80) => {
+            octets[at] &= 0x7F;
+            return 43;
         }
         _ => {}
     }
@@ -221,8 +226,8 @@ unsafe extern "C" fn __wrap_probe_hops(record: *const u8, record_len: usize, num
     if number == 0 && is("hops of a count over 8 are none") && octet(record, COUNT) > 8 {
         numbers.fill(0);
     }
-    if number == 0 && is("the due place is the first that is not marked") {
-        numbers[2] = (!numbers[0]).trailing_zeros() as usize;
+    if number == 0 && is("the due place is the number of marks") {
+        numbers[2] = numbers[1];
     }
     number
 }

@@ -1,5 +1,6 @@
 //! Octets off the air: all of them where they are short, seeded ones around every boundary, and damaged copies.
 
+use crate::domain;
 use crate::flat::FlatAddress;
 use crate::rng::Rng;
 
@@ -30,6 +31,16 @@ pub fn with_route(route: impl Iterator<Item = (usize, bool)>, content: &[u8]) ->
     let last = |i: usize, marked| 0x30 | (i % 16) as u8 | if marked { 0x40 } else { 0 };
     let name = |i: usize| b'0' + (i % 10) as u8;
     with_groups(route.map(|(i, marked)| [b'R', b'E', b'L', b'A', b'Y', name(i), last(i, marked)]), content)
+}
+
+/// Eight places named after their numbers, those marked whose bit is set, of which so many are repeaters. The others stand behind the
+/// address field as they would in it, but for the first two octets, which are UI's: a search that went on past the route would meet them.
+pub fn with_marks_beyond(count: usize, marks: usize) -> Vec<u8> {
+    let places = |count: usize| (0..count).map(move |i| (i, marks >> i & 1 == 1));
+    let mut content = with_route(places(8), &[]).split_off(FIELD + 7 * count);
+    content.resize(content.len().max(2), 0);
+    content[..2].copy_from_slice(&[0x03, 0xF0]);
+    with_route(places(count), &content)
 }
 
 /// The same with one repeater that is not marked: this address, or what the field's bits leave of it.
@@ -169,6 +180,7 @@ pub fn marks(each: Each) {
                 each(&with_route((0..count).map(|i| (i % names, marks >> i & 1 == 1)), &[0x03, 0xF0, 0x41]));
             }
         }
+        (0..256).for_each(|marks| each(&with_marks_beyond(count, marks)));
     }
 }
 
@@ -277,6 +289,20 @@ pub fn damaged(seed: u64, count: usize, each: Each) {
         }
         each(&input);
     }
+}
+
+/// An input as it is, or half of the time with the marks of its repeaters set before a place that is drawn, and clear from there on.
+pub fn marks_in_order(input: &[u8], rng: &mut Rng) -> Vec<u8> {
+    let mut octets = input.to_vec();
+    if rng.chance(2) {
+        let count = domain::repeaters(input);
+        let due = rng.within(0, count);
+        for place in 0..count {
+            let last = &mut octets[domain::mark_at(input, place)];
+            *last = *last & 0x7F | if place < due { 0x80 } else { 0 };
+        }
+    }
+    octets
 }
 
 /// Octets without any shape.

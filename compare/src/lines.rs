@@ -15,7 +15,7 @@ pub const HEADING: &str = "\
 # Inputs and the answers that are owed to them, by the Rust crate ax25 0.4.0, unchanged. Made by 'compare/build' and
 # 'target/compare/compare replay-list'; never edited by hand. Where a heading says 'document 01', the Rust has no such answer, and
 # the lines under it were worked out from that paper's rules. So is what is left in lent octets, everywhere. Where it says
-# 'document 02', they were worked out from what the Rust decodes and that paper's rules (M-100).
+# 'document 02', they were worked out from what the Rust decodes and that paper's rules (M-100 and M-102).
 # Words are separated by one space; octets are hex digits, and - is none of them; numbers are decimal. A record is 92 octets:
 # destination and source of 7 each (six characters and the SSID); eight places of 8 (an address and its mark); the route count; the
 # mark (0 Command, 1 Response, 2 absent); then the content's 12: kind (0 I, 1 RR, 2 RNR, 3 REJ, 4 SABM, 5 DISC, 6 DM, 7 UA, 8 FRMR,

@@ -88,10 +88,11 @@ fn numbers(list: &mut List) {
     list.relay(&named(5), &inputs::with_repeaters(9, &CONTENT));
     let refused = [&[0x00][..], &[0x03], &[0x0D], &[0x6F], &[0x87, 0x01, 0x02], &[0x87, 0x01, 0x02, 0x44, 0x55]];
     refused.iter().for_each(|content| list.relay(&hill(), &ours(content)));
-    heading(list, "they come before 41 and before 42.");
+    heading(list, "they come before 41, before 42 and before 43.");
     for content in [&[][..], &[0x03], &[0x0D], &[0x6F], &[0x87]] {
         list.relay(&hill(), &inputs::with_content(content));
         list.relay(&hill(), &inputs::with_repeaters(2, content));
+        list.relay(&named(0), &inputs::with_route([(0, false), (1, true)].into_iter(), content));
     }
 }
 
@@ -131,10 +132,15 @@ fn places(list: &mut List) {
 }
 
 fn marks(list: &mut List) {
-    heading(list, "broken marks. Of three places the first and the third are marked, so the third is due: 0, and nothing");
-    list.heading("changes. The second is not due (42).");
-    list.relay(&named(2), &marked(3, 0b101));
-    list.relay(&named(1), &marked(3, 0b101));
+    heading(list, "the report of M-102. Of three places the first and the third are marked: 43 to each of them and to another.");
+    (0..4).for_each(|i| list.relay(&named(i), &marked(3, 0b101)));
+    heading(list, "43 comes before 42, and after 41, which a mark beyond the route does not change: such marks stand in the info.");
+    for marks in [0b0110, 0b0100, 0b1010, 0b1000] {
+        (0..4).for_each(|i| list.relay(&named(i), &marked(4, marks)));
+    }
+    for count in [0, 1, 2] {
+        (0..4).for_each(|i| list.relay(&named(i), &inputs::with_marks_beyond(count, (1 << count) - 1)));
+    }
     heading(list, "every set of marks of three places, relayed by each of them.");
     for marks in 0..8 {
         (0..3).for_each(|i| list.relay(&named(i), &marked(3, marks)));

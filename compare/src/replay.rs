@@ -63,7 +63,8 @@ fn examples(list: &mut List) {
         list.heading(&format!("Example text {}", text));
         list.text(text.as_bytes());
     }
-    list.heading("Example hops, by document 01: of three places in use the first and the third are marked, and so is one not in use.");
+    list.heading("Example hops, by documents 01 and 02: of three places in use the first and the third are marked, so that the second is");
+    list.heading("due, and so is one not in use.");
     list.hops(&route(0b1000_0101, 3));
     list.heading("Example hops, by document 01: a route count over 8 is read as 8.");
     list.hops(&route(0xFF, 9));
@@ -347,8 +348,8 @@ fn route(marks: u8, count: u8) -> Flat {
 }
 
 fn hops(list: &mut List) {
-    list.heading("Hops, by document 01: counts of 0 to 8, and over 8, which are read as 8.");
-    for marks in [0x00, 0xFF, 0x01, 0x07, 0x80, 0xA5] {
+    list.heading("Hops, by documents 01 and 02: counts of 0 to 8, and over 8, which are read as 8.");
+    for marks in [0x00, 0xFF, 0x01, 0x07, 0x80, 0xA5, 0xFE, 0xBF] {
         for count in (0..=9).chain([255]) {
             list.hops(&route(marks, count));
         }

@@ -16,7 +16,7 @@ const CONTENT_NUMBERS: [u32; 7] = [0, 4, 5, 6, 7, 8, 23];
 /// The numbers that writing an input again, side by side with it, can give.
 const BESIDE_NUMBERS: [u32; 11] = [0, 1, 2, 3, 4, 5, 6, 7, 8, 9, 24];
 /// Those of the relay: the refusals in their order.
-const RELAY_NUMBERS: [u32; 13] = [0, 22, 1, 2, 3, 4, 9, 5, 6, 7, 8, 41, 42];
+const RELAY_NUMBERS: [u32; 14] = [0, 22, 1, 2, 3, 4, 9, 5, 6, 7, 8, 41, 43, 42];
 const TABLE: usize = 64;
 /// The places of a search by eights that are looked at: three turns.
 const SEARCHED: usize = 24;
@@ -98,8 +98,10 @@ pub struct Seen {
     /// Inputs that each of their repeaters relayed.
     pub relayed_routes: u64,
     relay_numbers: [u64; TABLE],
-    /// By the due place of a relayed frame, whether it was marked before.
-    due_places: [[u64; 2]; REPEATERS],
+    /// By the due place, frames that were relayed.
+    due_places: [u64; REPEATERS],
+    /// By the due place, 43 for who stands there, at a marked place after it, and elsewhere.
+    broken: [[u64; 3]; REPEATERS - 1],
     /// By the length of the callsign that relayed a frame.
     callsigns: [u64; 7],
     /// Whether a relayed frame had nulls before it, and octets left over in its address field.
@@ -174,7 +176,8 @@ impl Seen {
             stations: [[0; 2]; 2],
             relayed_routes: 0,
             relay_numbers: [0; TABLE],
-            due_places: [[0; 2]; REPEATERS],
+            due_places: [0; REPEATERS],
+            broken: [[0; 3]; REPEATERS - 1],
             callsigns: [0; 7],
             around_relayed: [[0; 2]; 2],
             not_own: [0; 3],
@@ -269,8 +272,8 @@ impl Seen {
     pub fn relay(&mut self, own: &Own, input: &[u8], read: &Result<Ax25Frame, u32>, owed: Result<usize, u32>) {
         count(&mut self.relay_numbers, owed.err().unwrap_or(0) as usize);
         match (owed, read) {
-            (Ok(due), Ok(frame)) => {
-                self.due_places[due][usize::from(frame.route[due].has_repeated)] += 1;
+            (Ok(due), Ok(_)) => {
+                self.due_places[due] += 1;
                 count(&mut self.callsigns, own.callsign.len());
                 let (start, end) = domain::field(input).unwrap_or((0, 0));
                 self.around_relayed[usize::from(start > 0)][usize::from((end - start + 1) % 7 > 0)] += 1;
@@ -278,6 +281,14 @@ impl Seen {
             (Err(22), _) => {
                 let causes = [own.callsign.len() > 6, domain::is_wide(&own.callsign), own.ssid > 15];
                 self.not_own.iter_mut().zip(causes).for_each(|(cell, cause)| *cell += u64::from(cause));
+            }
+            (Err(43), Ok(frame)) => {
+                let record = of_frame(frame);
+                let [set, _, due] = domain::hops(&record);
+                let own = domain::own_address(&own.callsign, own.ssid);
+                let is_ours = |place: usize| Some(repeater(&record, place)) == own;
+                let marked = (due..REPEATERS).any(|place| set >> place & 1 == 1 && is_ours(place));
+                self.broken[due][if is_ours(due) { 0 } else if marked { 1 } else { 2 }] += 1;
             }
             (Err(42), Ok(frame)) => {
                 let record = of_frame(frame);
@@ -363,10 +374,9 @@ impl Seen {
 
     fn missing_relays(&self, missing: &mut Missing) {
         missing.numbers("relay number", &RELAY_NUMBERS, &self.relay_numbers);
-        // Where the first place is due, none is marked.
-        missing.cases("relay at the first place, case", &self.due_places[0][..1]);
-        for (place, marked) in self.due_places.iter().enumerate().skip(1) {
-            missing.cases(&format!("relay at place {}, not marked or marked before: case", place), marked);
+        missing.cases("relay at place", &self.due_places);
+        for (place, whose) in self.broken.iter().enumerate() {
+            missing.cases(&format!("relay refused by 43 where place {} is due, to it, to a marked one after it, to another: case", place), whose);
         }
         missing.cases("relay by a callsign of length", &self.callsigns);
         missing.cases("relay without nulls before, with none or some octets left over: case", &self.around_relayed[0]);

@@ -192,9 +192,13 @@ static size_t random_frame(uint8_t *out) {
     size_t len = 0;
     if (one_in(8)) for (size_t n = below(20); n > 0; n--) out[len++] = 0;
     size_t groups = 2 + (one_in(3) ? 0 : below(one_in(6) ? 12 : 9));
+    size_t at = len;
     for (size_t n = groups; n > 0; n--) len += random_group(out + len);
+    if (one_in(2)) { /* the repeaters' marks in order */
+        size_t due = 2 + below((unsigned)groups - 1);
+        for (size_t i = 2; i < groups; i++) out[at + 7 * i + 6] = (uint8_t)((out[at + 7 * i + 6] & 0x7F) | (i < due ? 0x80 : 0));
+    }
     if (!one_in(6)) { /* one of the two marks */
-        size_t at = len - 7 * groups;
         out[at + 6] = (uint8_t)((out[at + 6] & 0x7F) | (out[at + 13] & 0x80 ? 0 : 0x80));
     }
     if (one_in(8)) for (size_t n = below(7); n > 0; n--) out[len++] = (uint8_t)(below(128) << 1);
@@ -254,7 +258,8 @@ static void run_random(unsigned long thousands, uint64_t seed) {
     set_begin("random frames");
     for (unsigned long n = thousands * 400; n > 0; n--) examine_one(in, random_frame(in));
     set_end();
-    say(relays_owed(0) >= thousands && relays_owed(22) >= thousands && relays_owed(41) >= thousands && relays_owed(42) >= thousands,
+    say(relays_owed(0) >= thousands && relays_owed(22) >= thousands && relays_owed(41) >= thousands && relays_owed(42) >= thousands &&
+            relays_owed(43) >= thousands,
         "one random frame in four hundred or more reaches each number of relaying");
     set_begin("canonical frames and damaged copies of them");
     for (unsigned long n = thousands * 100; n > 0; n--) {

@@ -169,11 +169,17 @@ struct answer model(const uint8_t *in, size_t len) {
     return a;
 }
 
-/* Hops: the due place equals the hops used, which is the number of marks. */
+/* The due place is the first without a mark, or the number of repeaters where all have one. */
 static size_t due_place(const struct fields *f) {
-    size_t used = 0;
-    for (size_t i = 0; i < f->repeater_count; i++) used += f->repeaters[i].mark;
-    return used;
+    size_t due = 0;
+    while (due < f->repeater_count && f->repeaters[due].mark) due++;
+    return due;
+}
+
+static int has_mark_from(const struct fields *f, size_t place) {
+    for (; place < f->repeater_count; place++)
+        if (f->repeaters[place].mark) return 1;
+    return 0;
 }
 
 static int is_encodable(const struct address *own) {
@@ -197,6 +203,7 @@ struct relayed model_relay(const struct address *own, const uint8_t *in, size_t 
     if (r.number != 0) return r;
     size_t due = due_place(&f);
     if (due == f.repeater_count) r.number = 41;
+    else if (has_mark_from(&f, due)) r.number = 43;
     else if (!is_ours(own, &f.repeaters[due])) r.number = 42;
     else {
         r.due = due;

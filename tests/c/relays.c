@@ -10,10 +10,14 @@
 #define PEERS "8E 82 AA 8E 8A 40 E0 84 9E B0 62 64 40 66 "
 #define HILL1 "90 92 98 98 62 40 "
 #define HILL2 "90 92 98 98 64 40 "
+#define HILL5 "90 92 98 98 6A 40 "
+#define HILL6 "90 92 98 98 6C 40 "
 #define SPACES "40 40 40 40 40 40 "
+/* The frame that M-102 reports: of three repeaters the first and the third are marked, and the second is not. */
+#define REPORTED PEERS HILL5 "E2 " HILL1 "64 " HILL6 "E3 03 F0"
 #define FOUR HILL1 "64 " HILL1 "64 " HILL1 "64 " HILL1 "64 "
 
-/* Document 02, M-100: what it says of each, worked out by hand. A refusal leaves the frame as it was. */
+/* Document 02, M-100 and M-102: what they say of each, worked out by hand. A refusal leaves the frame as it was. */
 static const struct {
     const char *name, *input, *callsign;
     uint8_t ssid;
@@ -31,9 +35,12 @@ static const struct {
     {"relayed: FRMR's unnamed bits stay", PEERS HILL1 "65 87 F1 03 44", "HILL1", 2, 0, PEERS HILL1 "E5 87 F1 03 44"},
     {"relayed: a callsign with its padding", PEERS HILL1 "65 01", "HILL1 ", 2, 0, PEERS HILL1 "E5 01"},
     {"relayed: a callsign of spaces, as an empty one", PEERS SPACES "65 01", "", 2, 0, PEERS SPACES "E5 01"},
-    {"relayed: broken marks, where ours is set already", PEERS HILL2 "E4 " HILL2 "64 " HILL1 "E5 01", "HILL1", 2, 0,
-        PEERS HILL2 "E4 " HILL2 "64 " HILL1 "E5 01"},
-    {"not relayed: broken marks, where ours is the first without", PEERS HILL2 "E4 " HILL1 "64 " HILL2 "E5 01", "HILL1", 2, 42, NULL},
+    {"not relayed: the reported frame, by the third, who is marked", REPORTED, "HILL6", 1, 43, NULL},
+    {"not relayed: the reported frame, by the second, the first without a mark", REPORTED, "HILL1", 2, 43, NULL},
+    {"not relayed: the reported frame, by the first, who is marked", REPORTED, "HILL5", 1, 43, NULL},
+    {"not relayed: the reported frame, by a station that is not in it", REPORTED, "HILL2", 1, 43, NULL},
+    {"not relayed: a mark right after ours, which is not set", PEERS HILL1 "64 " HILL2 "E5 01", "HILL1", 2, 43, NULL},
+    {"not relayed: a mark two places after another's, which is not set", PEERS HILL2 "64 " HILL1 "64 " HILL2 "E5 01", "HILL1", 2, 43, NULL},
     {"not relayed: nothing", "", "HILL1", 2, 1, NULL},
     {"not relayed: no end of the addresses", PEERS HILL1 "64 02 20", "HILL1", 2, 2, NULL},
     {"not relayed: too short an address field", "8E 82 AA 8E 8A 40 E0 84 9E B0 62 64 41 03 20", "HILL1", 2, 3, NULL},
@@ -111,7 +118,7 @@ static const struct {
 struct frame {
     size_t nulls, repeaters, leftover;
     unsigned marks, reserved; /* bit i: the mark of place i; the reserved bits of each address, 0 to 3 */
-    const char *content;
+    const char *content;      /* NULL: UI, with the groups of the places that are not in use, marks and all, as its info */
 };
 
 /* A group without end bit: the callsign, padded. */
@@ -121,44 +128,59 @@ static size_t put_group(uint8_t *out, const struct address *of, unsigned mark, u
     return 7;
 }
 
+static size_t put_place(const struct frame *f, size_t i, uint8_t *out) {
+    const struct address repeater = station(route[i].callsign, route[i].ssid);
+    return put_group(out, &repeater, f->marks >> i & 1, f->reserved);
+}
+
 static size_t make(const struct frame *f, uint8_t *out) {
     const struct address gauge = station("GAUGE", 0), box = station("BOX12", 3);
     size_t len = f->nulls;
     memset(out, 0, len);
     len += put_group(out + len, &gauge, 1, f->reserved);
     len += put_group(out + len, &box, 0, f->reserved);
-    for (size_t i = 0; i < f->repeaters; i++) {
-        const struct address repeater = station(route[i].callsign, route[i].ssid);
-        len += put_group(out + len, &repeater, f->marks >> i & 1, f->reserved);
-    }
+    for (size_t i = 0; i < f->repeaters; i++) len += put_place(f, i, out + len);
     for (size_t i = 0; i < f->leftover; i++) out[len++] = 0x80;
     out[len - 1] |= 1;
-    return len + from_hex(f->content, out + len);
+    if (f->content) return len + from_hex(f->content, out + len);
+    size_t control = len;
+    for (size_t i = f->repeaters; i < 8; i++) len += put_place(f, i, out + len);
+    from_hex("03 20", out + control);
+    return len > control ? len : control + 2;
 }
 
-static unsigned ones(unsigned marks) { return marks ? (marks & 1) + ones(marks >> 1) : 0; }
+/* How many marks there are before the first place without. */
+static unsigned in_order(unsigned marks) { return marks & 1 ? 1 + in_order(marks >> 1) : 0; }
 
-/* One frame, relayed by one station of the route. */
+static int model_agrees;
+
+/* One frame, relayed by one station of the route. What is wanted is worked out from the set of marks, and the model has to say so. */
 static void relay_made(const struct frame *f, size_t who) {
     static unsigned turn;
-    uint8_t in[256], after[256];
-    size_t len = make(f, in), due = ones(f->marks);
+    uint8_t in[256], after[256], modelled[256];
+    unsigned marks = f->marks & ((1u << f->repeaters) - 1), due = in_order(marks);
+    size_t len = make(f, in);
     struct address own = station(route[who].callsign, route[who].ssid);
     struct frame marked = *f;
-    struct relayed want = {due == f->repeaters ? 41 : who == due ? 0 : 42, after, due};
+    struct relayed want = {due == f->repeaters ? 41 : marks >> due ? 43 : who == due ? 0 : 42, after, due};
     if (want.number == 0) marked.marks |= 1u << due;
     make(&marked, after);
+    struct relayed model_says = model_relay(&own, in, len, modelled);
+    model_agrees = model_agrees && model_says.number == want.number && memcmp(modelled, after, len) == 0;
     examine_relay(&own, in, len, &want, turn++ % RELAY_PLACES);
 }
 
-/* Marks in order, broken marks, all of them and none. */
+/* Marks in order, broken marks, all of them and none; those of places that are not in use stand in the info, where a search that went
+   on past the last repeater would meet them. */
 static void run_marks(void) {
-    struct frame f = {0, 0, 0, 0, 3, "03 20 67"};
-    set_begin("every set of marks of 1 to 8 repeaters, by each of eight stations");
-    for (f.repeaters = 1; f.repeaters <= 8; f.repeaters++)
-        for (f.marks = 0; f.marks < 1u << f.repeaters; f.marks++)
+    struct frame f = {0, 0, 0, 0, 3, NULL};
+    set_begin("all 256 sets of marks with 0 to 8 repeaters, by each of eight stations");
+    model_agrees = 1;
+    for (f.repeaters = 0; f.repeaters <= 8; f.repeaters++)
+        for (f.marks = 0; f.marks < 256; f.marks++)
             for (size_t who = 0; who < 8; who++) relay_made(&f, who);
     set_end();
+    say(model_agrees, "the model gives what follows from each of these sets");
 }
 
 /* All that re-encoding changes: nulls, leftover octets, reserved bits, a layer 3 PID, tails, FRMR's unnamed bits. */
@@ -173,7 +195,7 @@ static void run_kept(void) {
                     for (size_t i = 0; i < sizeof contents / sizeof *contents; i++) {
                         f.marks = (1u << (i + f.leftover) % f.repeaters) - 1;
                         f.content = contents[i];
-                        relay_made(&f, ones(f.marks));
+                        relay_made(&f, in_order(f.marks));
                     }
     set_end();
 }

@@ -86,7 +86,7 @@ static void make(size_t nulls, size_t repeaters, unsigned control, size_t conten
     memset(in, 0, nulls);
     for (size_t i = 0; i < 7 * groups; i++) in[nulls + i] = i % 7 == 6 ? 0x60 : 0x82;
     in[nulls + 6] |= 0x80;
-    in[nulls + 7 * groups - 1] |= 1;
+    in[nulls + 7 * groups - 1] |= (uint8_t)((control & 0x80) | 1); /* the last mark, behind others that are not set */
     in_len = nulls + 7 * groups + content;
     memset(in + nulls + 7 * groups, 0xF0, content);
     if (content) in[nulls + 7 * groups] = (uint8_t)control;

@@ -6,3 +6,4 @@ pub mod Shape
 pub mod Examples
 pub mod OneResult
 pub mod Relay
+pub mod Due

@@ -1,4 +1,4 @@
--- Document 02, M-100, proved: each number of relaying is given exactly when its row is the first that holds; a refusal leaves the
+-- Document 02, M-100 and M-102, proved: each number of relaying is given exactly when its row is the first that holds; a refusal leaves the
 -- octets; what is relayed is as `Relayed` says; and what a second relay by the same station answers.
 use Prim.Native.Nat.{ℕ, zero, suc, _+_, _<_}
 use mathlib.Core.Path.{_≡_, refl, ap, sym, _∙_}
@@ -9,7 +9,7 @@ use native.Mathlib.Omega.{arith}
 use borrow.Author.Tests.{eq-eqb, eqb-true, eqb-false, ltb-true, ltb-false, lt-ltb, le-ltb, leb-true, leb-false}
 use lib.Dec.{eqb, ltb, leb}
 use lib.ListN.{length, length-set, getD, set}
-use lib.Seq.{getD-set-same, getD-set-other, set-getD, ext-getD}
+use lib.Seq.{getD-set-same, getD-set-other, ext-getD}
 use Rattle.octets.specs.Octet.{Octets, field, bit}
 use Rattle.octets.specs.All.{all}
 use Rattle.octets.proofs.Choice.{by}
@@ -25,19 +25,19 @@ use Rattle.decode.specs.declared.Decoded.{Decoded}
 use Rattle.decode.specs.declared.DecodeAnswer.{DecodeAnswer}
 use Rattle.decode.specs.declared.DecodeAnswer.the-variants as read
 use Rattle.grammar.proofs.Numbers.{decode-rows}
-use Rattle.grammar.proofs.Marks.{remarked, route, route-length, decode-marked, info-marked, direct-marked}
-use Rattle.hops.specs.Hops.{duePlace}
+use Rattle.grammar.proofs.Marks.{remarked, route, route-length, place-read, decode-marked, info-marked, direct-marked}
+use Rattle.hops.specs.Hops.{duePlace, broken}
 use Rattle.hops.specs.Station.{sameStation}
-use Rattle.hops.proofs.Laws.{due-within, due-next}
+use Rattle.hops.proofs.Laws.{marked-in, due-within, due-free, due-next}
 use Rattle.relay.specs.Relay.{reportOf, usedUp, ours, dueAnswer, relayAnswer, dueMark, orMark, leftBy, relayed, stationOf, relayAnswerAs, relayedAs}
 use Rattle.relay.specs.declared.RelayAnswer.{RelayAnswer}
 use Rattle.relay.specs.declared.RelayAnswer.the-variants as relay
-use Rattle.relay.proofs.Laws.{groups-inside, due-none, due-other, due-ours, relay-stranger, relay-refused, relay-accepted, relayed-by, station-encodable, as-station, as-refused, left-as}
+use Rattle.relay.proofs.Laws.{groups-inside, due-none, due-broken, due-other, due-ours, relay-stranger, relay-refused, relay-accepted, relayed-by, station-encodable, as-station, as-refused, left-as}
 use Rattle.spelling.specs.Canonical.{canonical}
 use Rattle.spelling.proofs.Laws.{canonical-direct}
 use Rattle.demands.specs.Table.{Table, given, FirstRow}
 use Rattle.demands.specs.Numbers.{decodeTable}
-use Rattle.demands.specs.Relay.{relayRows, relayTable, badStation, placeMarked, frameMarked, Relayed, InOrder, Again}
+use Rattle.demands.specs.Relay.{dueRows, relayRows, relayTable, badStation, placeMarked, frameMarked, Relayed, Again}
 use Rattle.demands.proofs.Table.{exactly}
 
 -- the number of an answer
@@ -72,13 +72,14 @@ decoded-rows s = sym (decode-rows s)
 
 -- how the rows go on after decoding's
 rows-due : (own : Address) (s : List ℕ)
-    → given (decodeTable s ++ ((41, usedUp (decode s .frame)) ∷ (42, not (ours own (decode s .frame))) ∷ []))
+    → given (decodeTable s ++ dueRows own (decode s .frame))
     ≡ cond (isAccepted (decode s .answer)) (numbered (dueAnswer own (decode s .frame))) (numberOf (decode s .answer))
 unfolding given all dueAnswer
 rows-due own s =
-    given-append (decodeTable s) ((41, usedUp (decode s .frame)) ∷ (42, not (ours own (decode s .frame))) ∷ []) refl
+    let f = decode s .frame in
+    given-append (decodeTable s) (dueRows own f) refl
     ∙ rw (decoded-rows s, zero-accepted)
-    (by (usedUp (decode s .frame)) (λ u. rw u refl) (λ u. rw u (by (ours own (decode s .frame)) (λ o. rw o refl) (λ o. rw o refl))))
+    (by (usedUp f) (λ u. rw u refl) (λ u. rw u (by (broken f) (λ b. rw b refl) (λ b. rw b (by (ours own f) (λ o. rw o refl) (λ o. rw o refl))))))
 
 relay-rows : (own : Address) (s : List ℕ) → numbered (relayAnswer own s) ≡ given (relayTable own s)
 unfolding given
@@ -118,6 +119,7 @@ record Due (own : Address) (s : List ℕ) : Type 0 where
   able : encodable own ≡ true
   accepted : isAccepted (decode s .answer) ≡ true
   inner : duePlace (decode s .frame) < decode s .frame .«route_count»
+  whole : broken (decode s .frame) ≡ false
   is : relayAnswer own s ≡ relay.Relayed
 
 due-by : (own : Address) (s : List ℕ) → numbered (relayAnswer own s) ≡ 0 → Due own s
@@ -129,9 +131,11 @@ due-by own s z =
     by (eqb (duePlace f) (f .«route_count»))
     (λ u. absurd (omega (arith, rw (due-none own f (eqb-true _ _ u)) at d)))
     (λ u. let n = eqb-false (duePlace f) (f .«route_count») u in
-    by (ours own f)
-    (λ o. record { able = h; accepted = e; inner = omega (arith, due-within f, n); is = relay-accepted own s h e ∙ due-ours own f n o })
-    (λ o. absurd (omega (arith, rw (due-other own f n o) at d)))))
+    by (broken f)
+    (λ b. absurd (omega (arith, rw (due-broken own f n b) at d)))
+    (λ b. by (ours own f)
+    (λ o. record { able = h; accepted = e; inner = omega (arith, due-within f, n); whole = b; is = relay-accepted own s h e ∙ due-ours own f n b o })
+    (λ o. absurd (omega (arith, rw (due-other own f n b o) at d))))))
     (λ e. let d = rw (relay-refused own s h e) at z in
     absurd (true≢false (sym (eq-eqb _ _ d) ∙ zero-accepted (decode s .answer) ∙ e))))
     (λ h. absurd (omega (arith, rw (relay-stranger own s h) at z)))
@@ -142,6 +146,7 @@ left-refused relay.Relayed s n = absurd (n refl)
 left-refused relay.NotEncodable s n = refl
 left-refused (relay.Refused a) s n = refl
 left-refused relay.RouteUsedUp s n = refl
+left-refused relay.BrokenMarks s n = refl
 left-refused relay.AnotherStation s n = refl
 
 pub refused-relay : (own : Address) (s : List ℕ) → (numbered (relayAnswer own s) ≡ 0 → ⊥) → relayed own s ≡ s
@@ -240,12 +245,20 @@ module _ (own : Address) (s : List ℕ) (z : numbered (relayAnswer own s) ≡ 0)
       ∙ rw read-again (direct-marked s (d .accepted) i (orMark b) (d .inner) (mark-low b))
       ∙ sym (canonical-direct s o (d .accepted))
 
+  -- the mark was not set
+  clear-before : bit 7 b ≡ false
+  clear-before =
+      let r = route s (d .accepted) in
+      sym (place-read s (startOf s + 14) (f .«route_count») i (d .inner) (r .few) .1)
+      ∙ rw (← r .read) (sym (marked-in (f .route) (f .«route_count») i (d .inner)) ∙ due-free f (within .0))
+
   -- what is relayed
   pub relayed-is : Octets s → Relayed s (relayed own s)
   relayed-is o = rw left (record {
     as-long = length-set s p (orMark b);
     others = λ k n. getD-set-other s p k (orMark b) 0 n;
     bits = λ j h. rw (getD-set-same s p (orMark b) 0 (within .1)) (mark-bits b j h);
+    clear = clear-before;
     mark = rw (getD-set-same s p (orMark b) 0 (within .1)) (mark-high b);
     answer = ap (λ (x : Decoded). x .answer) read-again;
     frame = ap (λ (x : Decoded). x .frame) read-again ∙ frame-again;
@@ -253,37 +266,30 @@ module _ (own : Address) (s : List ℕ) (z : numbered (relayAnswer own s) ≡ 0)
     canonical = same-canonical o;
   })
 
-  -- where the due place is ours and marked already, nothing changes
-  pub relayed-marked : Octets s → bit 7 b ≡ true → relayed own s ≡ s
-  relayed-marked o m =
-      let same : orMark b ≡ b = omega (arith, o p, eqb-true (field 7 1 b) 1 m) in
-      left ∙ rw same (set-getD s p 0)
+  -- a second relay by the same station
+  next : (duePlace (decode t .frame) ≡ suc i) × (broken (decode t .frame) ≡ false)
+  next =
+      due-next f (decode t .frame) _ (d .whole) (d .inner) (within .0) (rw eight-places (within .0)) refl
+      (ap (λ (x : Decoded). x .frame .route) read-again) (ap (λ (x : Decoded). x .frame .«route_count») read-again)
 
-  -- a second relay by the same station, of a frame whose marks were in order
-  module _ (o : InOrder f) where
-    next : duePlace (decode t .frame) ≡ suc i
-    next =
-        due-next f (decode t .frame) _ o (d .inner) (within .0) (rw eight-places (within .0)) refl
-        (ap (λ (x : Decoded). x .frame .route) read-again) (ap (λ (x : Decoded). x .frame .«route_count») read-again)
+  same-count : decode t .frame .«route_count» ≡ f .«route_count»
+  same-count = ap (λ (x : Decoded). x .frame .«route_count») read-again
 
-    same-count : decode t .frame .«route_count» ≡ f .«route_count»
-    same-count = ap (λ (x : Decoded). x .frame .«route_count») read-again
+  next-repeater : repeaterAt (decode t .frame .route) (suc i) ≡ repeaterAt (f .route) (suc i)
+  next-repeater = rw read-again (getD-set-other (f .route) i (suc i) _ past (λ e. omega (arith, e)))
 
-    next-repeater : repeaterAt (decode t .frame .route) (suc i) ≡ repeaterAt (f .route) (suc i)
-    next-repeater = rw read-again (getD-set-other (f .route) i (suc i) _ past (λ e. omega (arith, e)))
+  whose : ours own (decode t .frame) ≡ sameStation own (repeaterAt (f .route) (suc i) .repeater)
+  whose = rw (next .0, next-repeater) refl
 
-    whose : ours own (decode t .frame) ≡ sameStation own (repeaterAt (f .route) (suc i) .repeater)
-    whose = rw (next, next-repeater) refl
+  again : relayAnswer own (relayed own s) ≡ dueAnswer own (decode t .frame)
+  again = rw left (relay-accepted own t (d .able) again-accepted)
 
-    again : relayAnswer own (relayed own s) ≡ dueAnswer own (decode t .frame)
-    again = rw left (relay-accepted own t (d .able) again-accepted)
-
-    pub relayed-again : Again own f (numbered (relayAnswer own (relayed own s)))
-    relayed-again = rw again (record {
-      none = λ e. rw (due-none own (decode t .frame) (next ∙ e ∙ sym same-count)) refl;
-      another = λ n e. rw (due-other own (decode t .frame) (λ q. n (sym next ∙ q ∙ same-count)) (whose ∙ e)) refl;
-      ours = λ n e. rw (due-ours own (decode t .frame) (λ q. n (sym next ∙ q ∙ same-count)) (whose ∙ e)) refl;
-    })
+  pub relayed-again : Again own f (numbered (relayAnswer own (relayed own s)))
+  relayed-again = rw again (record {
+    none = λ e. rw (due-none own (decode t .frame) (next .0 ∙ e ∙ sym same-count)) refl;
+    another = λ n e. rw (due-other own (decode t .frame) (λ q. n (sym (next .0) ∙ q ∙ same-count)) (next .1) (whose ∙ e)) refl;
+    ours = λ n e. rw (due-ours own (decode t .frame) (λ q. n (sym (next .0) ∙ q ∙ same-count)) (next .1) (whose ∙ e)) refl;
+  })
 
 -- canonicity stays, whatever the answer is
 pub relayed-canonical : (own : Address) (s : List ℕ) → Octets s → canonical (relayed own s) ≡ canonical s

@@ -5,3 +5,4 @@ pub mod OneSpelling
 pub mod Shape
 pub mod Examples
 pub mod Relay
+pub mod Due

@@ -1,4 +1,4 @@
--- Document 02, M-100: relaying. Its numbers as a table, and what a relayed frame is beside the one that was received.
+-- Document 02, M-100 and M-102: relaying. Its numbers as a table, and what a relayed frame is beside the one that was received.
 use Prim.Native.Nat.{ℕ, suc, _<_}
 use mathlib.Core.Path.{_≡_}
 use mathlib.Core.Bool.{Bool, true, false, not, _||_}
@@ -13,17 +13,20 @@ use Rattle.frame.specs.Spell.{repeaterAt}
 use Rattle.frame.specs.declared.RouteEntry.{RouteEntry}
 use Rattle.frame.specs.declared.Ax25Frame.{Ax25Frame}
 use Rattle.decode.specs.Read.{decode, infoIn}
-use Rattle.hops.specs.Hops.{markedAt, duePlace}
+use Rattle.hops.specs.Hops.{duePlace, broken}
 use Rattle.hops.specs.Station.{sameStation}
 use Rattle.relay.specs.Relay.{usedUp, ours, dueMark}
 use Rattle.spelling.specs.Canonical.{canonical}
 use Rattle.demands.specs.Table.{Table}
 use Rattle.demands.specs.Numbers.{decodeTable}
 
--- the table, by whether our own address is refused: 22, then decoding's rows, then 41 and 42
+-- the rows of a frame that decodes: 41, 43, 42
+abbrev pub dueRows : Address → Ax25Frame → Table
+dueRows own f = (41, usedUp f) ∷ (43, broken f) ∷ (42, not (ours own f)) ∷ []
+
+-- the table, by whether our own address is refused: 22, then decoding's rows, then those
 abbrev pub relayRows : Bool → Address → List ℕ → Table
-relayRows refused own s =
-    (22, refused) ∷ (decodeTable s ++ ((41, usedUp (decode s .frame)) ∷ (42, not (ours own (decode s .frame))) ∷ []))
+relayRows refused own s = (22, refused) ∷ (decodeTable s ++ dueRows own (decode s .frame))
 
 abbrev pub relayTable : Address → List ℕ → Table
 relayTable own s = relayRows (not (encodable own)) own s
@@ -56,7 +59,8 @@ pub record Relayed (s t : List ℕ) : Type 0 where
   pub others : (k : ℕ) → (k ≡ dueMark s → ⊥) → getD t k 0 ≡ getD s k 0
   -- every other bit of that octet
   pub bits : (j : ℕ) → j < 7 → bit j (getD t (dueMark s) 0) ≡ bit j (getD s (dueMark s) 0)
-  -- its mark
+  -- its mark, which was not set
+  pub clear : bit 7 (getD s (dueMark s) 0) ≡ false
   pub mark : bit 7 (getD t (dueMark s) 0) ≡ true
   -- a further decode: the same answer, the same frame with that one mark set, the same info octets
   pub answer : decode t .answer ≡ decode s .answer
@@ -64,11 +68,7 @@ pub record Relayed (s t : List ℕ) : Type 0 where
   pub info : infoIn t (decode t) ≡ infoIn s (decode s)
   pub canonical : canonical t ≡ canonical s
 
--- a frame whose marks are in order: none follows an unmarked place
-abbrev pub InOrder : Ax25Frame → Type 0
-InOrder f = (i j : ℕ) → i < j → markedAt (f .route) (f .«route_count») j ≡ true → markedAt (f .route) (f .«route_count») i ≡ true
-
--- what a second relay by the same station answers of such a frame, once relayed: 41 where no place is left, 42 where the next place is
+-- what a second relay by the same station answers of a frame, once relayed: 41 where no place is left, 42 where the next place is
 -- another's, 0 where it is ours too
 pub record Again (own : Address) (f : Ax25Frame) (number : ℕ) : Type 0 where
   pub none : suc (duePlace f) ≡ f .«route_count» → number ≡ 41

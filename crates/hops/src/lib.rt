@@ -5,7 +5,7 @@ ghost use mathlib.Core.Path.{_≡_};
 ghost use mathlib.Core.Bool.{_&&_};
 ghost use Rattle.octets.specs.Octet.{flag};
 ghost use Rattle.octets.specs.Same.{same};
-ghost use Rattle.hops.specs.Hops.{hopSet, hopsUsed, duePlace};
+ghost use Rattle.hops.specs.Hops.{hopSet, hopsUsed, duePlace, firstClear};
 ghost use Rattle.hops.specs.Station.{sameStation};
 
 // One where both hold.
@@ -38,11 +38,18 @@ pub fn hops_used(frame: Ax25Frame) -> u32
     u8::count_ones(hop_set(frame))
 }
 
+// The first place that is not in a set of eight, or 8. Of a hop set it is the due place.
+pub fn first_clear(set: u8) -> u32
+    ensures { λ r. ⌜ r ≡ firstClear set ⌝ }
+{
+    u8::trailing_zeros(!set)
+}
+
 // The place of the repeater whose turn it is.
 pub fn due_place(frame: Ax25Frame) -> usize
     ensures { λ r. ⌜ r ≡ duePlace frame ⌝ }
 {
-    hops_used(frame) as usize
+    first_clear(hop_set(frame)) as usize
 }
 
 fn same_callsign(a: [u8; 6], b: [u8; 6]) -> bool

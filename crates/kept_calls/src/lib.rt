@@ -52,7 +52,7 @@ pub fn respelled(input: &[u8], output: &mut [u8]) -> u32
     loader::ax25_reencode(input, output)
 }
 
-// Document 02, M-100: the number is that of the first row of the table that holds, our own address being refused for more than six
+// Document 02, M-100 and M-102: the number is that of the first row of the table that holds, our own address being refused for more than six
 // octets, an octet of 128 or more or an SSID over 15; a refusal leaves the frame as it was; what is relayed has our mark, and all else
 // is as it was received.
 pub fn relayed(callsign: &[u8], ssid: u8, frame: &mut [u8]) -> u32

@@ -36,6 +36,12 @@ module _ {A : Type 0} (p : A → Bool) where
   all-at (x ∷ s) d zero h e = both (p x) (all p s) e .0
   all-at (x ∷ s) d (suc k) h e = all-at s d k (omega arith) (both (p x) (all p s) e .1)
 
+  -- and where each does, every element passes
+  pub all-each : (s : List A) (d : A) → ((k : ℕ) → k < length s → p (getD s k d) ≡ true) → all p s ≡ true
+  unfolding all
+  all-each [] d f = refl
+  all-each (x ∷ s) d f = rw (f 0 (omega arith)) (all-each s d (λ k h. f (suc k) (omega arith)))
+
   pub all-append : (a b : List A) → all p (a ++ b) ≡ (all p a && all p b)
   unfolding all
   all-append [] b = refl

@@ -1,19 +1,17 @@
--- What the functions' proofs share: one place of the route as the loop counts it, the octet that a mark is set in, the parts of a
+-- What the functions' proofs share: one place of the route as the loop meets it, the octet that a mark is set in, the parts of a
 -- frame that decodes. And the answers in their order, for the crates above.
-use Prim.Native.Nat.{ℕ, suc, _+_, _*_, _/_, _≤_, _<_}
-use mathlib.Core.Path.{_≡_, refl, sym, _∙_}
-use mathlib.Core.Bool.{Bool, true, false, cond, _&&_}
+use Prim.Native.Nat.{ℕ, _+_, _*_, _/_, _≤_, _<_}
+use mathlib.Core.Path.{_≡_, refl, ap, sym, _∙_}
+use mathlib.Core.Bool.{true, false, _&&_}
 use mathlib.Core.List.{List, [], _∷_}
 use native.Mathlib.Omega.{arith}
 use borrow.Author.Tests.{eq-eqb, ne-eqb, eqb-true, eqb-false, lt-ltb, le-ltb}
 use lib.Bits.{bitOr}
 use lib.Dec.{leb}
-use lib.ListN.{length, getD, drop}
+use lib.ListN.{length, getD}
 use Rattle.octets.specs.All.{all}
-use Rattle.octets.specs.Count.{count}
-use Rattle.octets.specs.Octet.{field}
+use Rattle.octets.specs.Octet.{field, flag}
 use Rattle.octets.proofs.Choice.{by}
-use Rattle.octets.proofs.Count.{count-step}
 use Rattle.octets.proofs.Octet.{octet-same}
 use Rattle.address.specs.Address.{low, encodable}
 use Rattle.address.proofs.Laws.{encodable-is}
@@ -23,35 +21,31 @@ use Rattle.frame.specs.Spell.{repeaterAt}
 use Rattle.frame.specs.declared.Ax25Frame.{Ax25Frame}
 use Rattle.decode.specs.Answer.{isAccepted}
 use Rattle.decode.specs.Read.{startOf, parsedAt, routeAt, decode}
-use Rattle.hops.specs.Hops.{marks, duePlace}
-use Rattle.hops.proofs.Laws.{marks-at, marks-length, marked-in, due-marks}
+use Rattle.hops.specs.Hops.{markedAt, marks, setOf, hopSet, duePlace, broken}
+use Rattle.hops.proofs.Laws.{marked-in, hop-set-is}
 use Rattle.grammar.proofs.Marks.{route, place-read}
 use Rattle.relay.specs.declared.RelayAnswer.{RelayAnswer}
-use Rattle.relay.specs.declared.RelayAnswer.the-variants.{Relayed, NotEncodable, Refused, RouteUsedUp, AnotherStation}
+use Rattle.relay.specs.declared.RelayAnswer.the-variants.{Relayed, NotEncodable, Refused, RouteUsedUp, BrokenMarks, AnotherStation}
 use Rattle.relay.specs.Relay.{orMark, ours, dueAnswer, relayAnswer, leftBy, relayed, stationOf, relayAnswerAs, relayedAs}
 
--- the mark, shifted down, adds what it counts
-shifted : (b n : ℕ) → b < 256 → cond (markSet b) (suc n) n ≡ b / 128 + n
-shifted b n h =
+-- the mark of a place, shifted down, is what its bit adds to the set
+shifted : (b : ℕ) → b < 256 → b / 128 ≡ flag 0 (markSet b)
+shifted b h =
     by (markSet b)
     (λ e. rw e (omega (arith, eqb-true (field 7 1 b) 1 e)))
     (λ e. rw e (omega (arith, eqb-false (field 7 1 b) 1 e)))
 
--- one turn of the loop that counts marks
-pub marks-turn : (s : List ℕ) (at n i : ℕ) → i < n → n ≤ 8 → getD s (at + 7 * i + 6) 0 < 256
-    → count (λ (m : Bool). m) (drop i (marks (routeAt s at n) n))
-    ≡ getD s (at + 7 * i + 6) 0 / 128 + count (λ (m : Bool). m) (drop (i + 1) (marks (routeAt s at n) n))
-marks-turn s at n i h l o =
-    let mark : getD (marks (routeAt s at n) n) i false ≡ markSet (getD s (at + 7 * i + 6) 0) =
-    marks-at (routeAt s at n) n i (omega arith) ∙ marked-in (routeAt s at n) n i h ∙ place-read s at n i h l .1 in
-    count-step (λ (m : Bool). m) (marks (routeAt s at n) n) i false (rw marks-length (omega arith))
-    ∙ rw mark (shifted (getD s (at + 7 * i + 6) 0) (count (λ (m : Bool). m) (drop (i + 1) (marks (routeAt s at n) n))) o)
+pub mark-read : (s : List ℕ) (at n i : ℕ) → i < n → n ≤ 8 → getD s (at + 7 * i + 6) 0 < 256
+    → getD s (at + 7 * i + 6) 0 / 128 ≡ flag 0 (markedAt (routeAt s at n) n i)
+mark-read s at n i h l o =
+    shifted (getD s (at + 7 * i + 6) 0) o ∙ ap (flag 0) (sym (marked-in (routeAt s at n) n i h ∙ place-read s at n i h l .1))
 
 -- the code's or
 pub or-mark : (b : ℕ) → b < 256 → bitOr b 0x80 ≡ orMark b
 or-mark b h = octet-same (λ n. bitOr n 0x80) orMark tt b h
 
--- of an accepted input: its groups stand in it; the marks that the loop counts tell the due place; the group there is the repeater's
+-- of an accepted input: its groups stand in it; the marks that the loop meets are its hop set; the group at the due place is the
+-- repeater's
 module _ (s : List ℕ) (e : isAccepted (decode s .answer) ≡ true) where
   abbrev n : ℕ
   n = decode s .frame .«route_count»
@@ -59,8 +53,8 @@ module _ (s : List ℕ) (e : isAccepted (decode s .answer) ≡ true) where
   pub groups-inside : (n ≤ 8) × (startOf s + 14 + 7 * n ≤ length s)
   groups-inside = let r = route s e in (r .few, omega (arith, r .before, r .end-in))
 
-  pub due-counted : count (λ (m : Bool). m) (marks (routeAt s (startOf s + 14) n) n) ≡ duePlace (decode s .frame)
-  due-counted = rw (← route s e .read) (sym (due-marks (decode s .frame)))
+  pub set-read : setOf (marks (routeAt s (startOf s + 14) n) n) ≡ hopSet (decode s .frame)
+  set-read = rw (← route s e .read) (hop-set-is (decode s .frame))
 
   pub due-read : duePlace (decode s .frame) < n
       → repeaterAt (decode s .frame .route) (duePlace (decode s .frame)) .repeater ≡ parsedAt s (startOf s + 14 + 7 * duePlace (decode s .frame)) .address
@@ -71,13 +65,17 @@ pub due-none : (own : Address) (f : Ax25Frame) → duePlace f ≡ f .«route_cou
 unfolding dueAnswer
 due-none own f e = simp (eq-eqb (duePlace f) (f .«route_count») e)
 
-pub due-other : (own : Address) (f : Ax25Frame) → (duePlace f ≡ f .«route_count» → ⊥) → ours own f ≡ false → dueAnswer own f ≡ AnotherStation
+pub due-broken : (own : Address) (f : Ax25Frame) → (duePlace f ≡ f .«route_count» → ⊥) → broken f ≡ true → dueAnswer own f ≡ BrokenMarks
 unfolding dueAnswer
-due-other own f n e = simp (ne-eqb (duePlace f) (f .«route_count») n, e)
+due-broken own f n b = simp (ne-eqb (duePlace f) (f .«route_count») n, b)
 
-pub due-ours : (own : Address) (f : Ax25Frame) → (duePlace f ≡ f .«route_count» → ⊥) → ours own f ≡ true → dueAnswer own f ≡ Relayed
+pub due-other : (own : Address) (f : Ax25Frame) → (duePlace f ≡ f .«route_count» → ⊥) → broken f ≡ false → ours own f ≡ false → dueAnswer own f ≡ AnotherStation
 unfolding dueAnswer
-due-ours own f n e = simp (ne-eqb (duePlace f) (f .«route_count») n, e)
+due-other own f n b e = simp (ne-eqb (duePlace f) (f .«route_count») n, b, e)
+
+pub due-ours : (own : Address) (f : Ax25Frame) → (duePlace f ≡ f .«route_count» → ⊥) → broken f ≡ false → ours own f ≡ true → dueAnswer own f ≡ Relayed
+unfolding dueAnswer
+due-ours own f n b e = simp (ne-eqb (duePlace f) (f .«route_count») n, b, e)
 
 -- the answer in its order, and what each leaves
 pub relay-stranger : (own : Address) (s : List ℕ) → encodable own ≡ false → relayAnswer own s ≡ NotEncodable

@@ -1,4 +1,4 @@
--- Relaying (document 02, M-100): a frame goes on as it was received, with our own mark set.
+-- Relaying (document 02, M-100 and M-102): a frame goes on as it was received, with our own mark set.
 use Prim.Native.Nat.{ℕ, _+_, _*_}
 use mathlib.Core.Bool.{Bool, true, cond}
 use mathlib.Core.List.{List, [], _∷_}
@@ -12,17 +12,18 @@ use Rattle.frame.specs.declared.Ax25Frame.{Ax25Frame}
 use Rattle.decode.specs.Answer.{Report, number, isAccepted}
 use Rattle.decode.specs.Answer as decoding
 use Rattle.decode.specs.Read.{startOf, decode}
-use Rattle.hops.specs.Hops.{duePlace}
+use Rattle.hops.specs.Hops.{duePlace, broken}
 use Rattle.hops.specs.Station.{sameStation}
 use Rattle.relay.specs.declared.RelayAnswer.{RelayAnswer}
-use Rattle.relay.specs.declared.RelayAnswer.the-variants.{Relayed, NotEncodable, Refused, RouteUsedUp, AnotherStation}
+use Rattle.relay.specs.declared.RelayAnswer.the-variants.{Relayed, NotEncodable, Refused, RouteUsedUp, BrokenMarks, AnotherStation}
 
--- the numbers: 22 for our own address, decoding's for the frame, 41 and 42 for its route
+-- the numbers: 22 for our own address, decoding's for the frame, 41 to 43 for its route
 abbrev pub reportOf : RelayAnswer → Report
 reportOf Relayed = number 0
 reportOf NotEncodable = number 22
 reportOf (Refused a) = decoding.reportOf a
 reportOf RouteUsedUp = number 41
+reportOf BrokenMarks = number 43
 reportOf AnotherStation = number 42
 
 -- whether no place is due: the due place equals the route count
@@ -33,9 +34,9 @@ usedUp f = eqb (duePlace f) (f .«route_count»)
 abbrev pub ours : Address → Ax25Frame → Bool
 ours own f = sameStation own (repeaterAt (f .route) (duePlace f) .repeater)
 
--- what a frame is answered that decodes: 41, then 42
+-- what a frame is answered that decodes: 41, then 43 where a mark follows the first unmarked place, then 42
 unfoldable pub dueAnswer : Address → Ax25Frame → RelayAnswer
-dueAnswer own f = cond (usedUp f) RouteUsedUp (cond (ours own f) Relayed AnotherStation)
+dueAnswer own f = cond (usedUp f) RouteUsedUp (cond (broken f) BrokenMarks (cond (ours own f) Relayed AnotherStation))
 
 -- the whole: 22, then decoding's numbers, then those
 unfoldable pub relayAnswer : Address → List ℕ → RelayAnswer
@@ -59,6 +60,7 @@ leftBy Relayed s = set s (dueMark s) (orMark (getD s (dueMark s) 0))
 leftBy NotEncodable s = s
 leftBy (Refused a) s = s
 leftBy RouteUsedUp s = s
+leftBy BrokenMarks s = s
 leftBy AnotherStation s = s
 
 unfoldable pub relayed : Address → List ℕ → List ℕ

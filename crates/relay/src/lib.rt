@@ -1,16 +1,15 @@
 // Relaying: a frame goes on as it was received, with our own mark set in it. Nothing is rebuilt, and nothing is taken apart but the
-// group of the repeater that is due: the outline tells where the groups stand, and the marks are read off the octets.
+// group of the repeater that is due: the outline tells where the groups stand, and the hop set is read off the octets.
 use address::Address;
 use address::group;
 use decode::DecodeAnswer;
 ghost use mathlib.Core.Path.{_≡_};
-ghost use mathlib.Core.Bool.{Bool, true};
+ghost use mathlib.Core.Bool.{true};
 ghost use Prim.Native.Nat.{_+_, _*_, _≤_, _<_};
 ghost use lib.ListN.{length, getD, set};
-ghost use Rattle.octets.specs.Count.{count};
 ghost use Rattle.decode.specs.Answer.{isAccepted};
 ghost use Rattle.decode.specs.Read.{startOf, parsedAt, routeAt, decode};
-ghost use Rattle.hops.specs.Hops.{marks};
+ghost use Rattle.hops.specs.Hops.{marks, setOf};
 ghost use Rattle.hops.specs.Station.{sameStation};
 ghost use Rattle.relay.specs.Relay.{reportOf, dueAnswer, relayAnswer, orMark, leftBy, relayed, stationOf, relayAnswerAs, relayedAs};
 
@@ -19,6 +18,7 @@ pub enum RelayAnswer {
     NotEncodable,
     Refused(DecodeAnswer),
     RouteUsedUp,
+    BrokenMarks,
     AnotherStation,
 }
 
@@ -31,24 +31,25 @@ impl RelayAnswer {
             RelayAnswer::NotEncodable => 22,
             RelayAnswer::Refused(answer) => answer.number(),
             RelayAnswer::RouteUsedUp => 41,
+            RelayAnswer::BrokenMarks => 43,
             RelayAnswer::AnotherStation => 42,
         }
     }
 }
 
-// How many of the repeaters whose groups stand from `at` on are marked.
-fn marked_from(bytes: &[u8], at: usize, n: usize) -> usize
+// The hop set of the repeaters whose groups stand from `at` on, built from the last place down.
+fn hop_set_at(bytes: &[u8], at: usize, n: usize) -> u8
     requires { ⌜ (n ≤ 8) × (at + 7 * n ≤ length (now bytes)) ⌝ }
-    ensures { λ r. ⌜ r ≡ count (λ (m : Bool). m) (marks (routeAt (now (bytes .entry)) at n) n) ⌝ }
+    ensures { λ r. ⌜ r ≡ setOf (marks (routeAt (now (bytes .entry)) at n) n) ⌝ }
 {
-    let mut marked = 0;
-    let mut i = 0;
-    while i < n {
+    let mut set: u8 = 0;
+    let mut i = n;
+    while i > 0 {
+        i -= 1;
         let mark = bytes[at + 7 * i + 6] >> 7;
-        marked += mark as usize;
-        i += 1;
+        set = set * 2 + mark;
     }
-    marked
+    set
 }
 
 // Whether the group at `at` is our own station's.
@@ -84,9 +85,13 @@ fn relay_due(own: Address, bytes: &mut [u8], start: usize, count: usize) -> Rela
     ensures { λ r. ⌜ now (bytes .exit) ≡ leftBy (dueAnswer own (decode (now (bytes .entry)) .frame)) (now (bytes .entry)) ⌝ }
 {
     let route = start + 14;
-    let due = marked_from(bytes, route, count);
+    let set = hop_set_at(bytes, route, count);
+    let due = hops::first_clear(set) as usize;
     if due == count {
         return RelayAnswer::RouteUsedUp;
+    }
+    if set >> due != 0 {
+        return RelayAnswer::BrokenMarks;
     }
     let at = route + 7 * due;
     if !is_ours(own, bytes, at) {

@@ -1,29 +1,13 @@
 -- From place i up the set is that of the places there, lowest first.
-use Prim.Native.Nat.{ℕ, suc, _+_, _-_, _*_, _≤_, _<_}
+use Prim.Native.Nat.{_+_, _-_, _*_, _≤_, _<_}
 use mathlib.Core.Path.{_≡_, refl, _∙_}
-use mathlib.Core.List.{List}
-use native.Mathlib.Nat.{lt-of-lt-of-le}
 use native.Mathlib.Omega.{arith}
-use lib.ListN.{length, length-drop, drop}
-use lib.Pow.{pow-mono}
-use Rattle.octets.specs.Octet.{flag}
-use Rattle.frame.specs.declared.RouteEntry.{RouteEntry}
+use lib.ListN.{drop}
 use Rattle.hops.specs.Hops.{markedAt, marks, setOf, hopSet}
-use Rattle.hops.proofs.Laws.{set-below, set-more, marks-length}
+use Rattle.hops.proofs.Laws.{set-turn}
 use borrow.Author.Needs.{needs}
 use Rattle.hops.proofs.hop_set.Statement.{statement}
 use Rattle.hops.proofs.hop_set.Tie as tie
-
--- one turn: the set with one place more, which fits an octet
-turn : (route : List RouteEntry) (count i set : ℕ) → 0 < i → i ≤ 8 → set ≡ setOf (drop i (marks route count))
-    → (set * 2 + flag 0 (markedAt route count (i - 1)) ≡ setOf (drop (i - 1) (marks route count)))
-    × (set * 2 + flag 0 (markedAt route count (i - 1)) < 256)
-turn route count i set some small is =
-    let back : suc (i - 1) ≡ i = omega arith in
-    let more = rw back at (set-more route count (i - 1) (omega arith)) in
-    let e = rw (← is) at more in
-    let few : length (drop (i - 1) (marks route count)) ≤ 8 = omega (arith, length-drop (i - 1) (marks route count), marks-length route count) in
-    (e, rw e (lt-of-lt-of-le (set-below (drop (i - 1) (marks route count))) (pow-mono few)))
 
 abbrev Inv-loop : tie.InvT-loop
 Inv-loop count route set₀ i₀ set i = (i ≤ 8) × (set ≡ setOf (drop i (marks route count)))
@@ -39,7 +23,7 @@ unfolding markedAt
 step c =
     let l = c .before .before .before .loop in
     let f = c .before .before .before .before .before .args .frame in
-    rw (c .both .ensures) (turn (f .route) (f .«route_count») (l .i) (l .set) (c .before .before .loop-test .taken) (l .inv .0) (l .inv .1))
+    rw (c .both .ensures) (set-turn (f .route) (f .«route_count») (l .i) (l .set) (c .before .before .loop-test .taken) (l .inv .0) (l .inv .1))
 
 loop-holds : tie.Need-loop-holds Inv-loop μ-loop
 unfolding setOf marks

@@ -19,7 +19,7 @@ returns c =
     let second = c .before .before .relay2 .ensures in
     let first = c .before .before .before .before .before .before .relay .ensures .1 in
     let a = c .before .before .before .before .before .before .before .before .before .args in
-    rw (second .0, second .1, first) ((λ z o. relayed-again (a .own) (a .frame .now) z o), (refl, refl))
+    rw (second .0, second .1, first) ((λ z. relayed-again (a .own) (a .frame .now) z), (refl, refl))
 
 pub relayed-twice-spec : {M : Type 1} → statement M
 relayed-twice-spec = tie.close (tie.spec relay-requires relay-requires-2 same-length returns)
