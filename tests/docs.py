@@ -113,7 +113,12 @@ def edits():
 def statements():
     """The statements that docs/GUARANTEES.md names stand in the files that it names."""
     wrong, many, last = [], 0, []
-    for title in ('Demand 1: every input gets an answer, bad input a number', 'Smaller statements that stand for themselves'):
+    titles = (
+        'Demand 1: every input gets an answer, bad input a number',
+        'Relaying (document 02, M-100 and M-102)',
+        'Smaller statements that stand for themselves',
+    )
+    for title in titles:
         for row in rows(GUARANTEES[title]):
             if len(row) != 3 or row[1].startswith('contracts'):
                 continue

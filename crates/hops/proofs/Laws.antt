@@ -30,22 +30,22 @@ use Rattle.frame.specs.declared.Ax25Frame.{Ax25Frame}
 use Rattle.hops.specs.Hops.{markedAt, marks, setOf, hopSet, hopsUsed, duePlace, broken, firstClear}
 use Rattle.hops.specs.Station.{sameStation}
 
-pub set-below : (ms : List Bool) → setOf ms < 2 ^ length ms
+set-below : (ms : List Bool) → setOf ms < 2 ^ length ms
 unfolding setOf
 set-below [] = omega arith
 set-below (true ∷ ms) = rw (pow-suc 2 (length ms)) (omega (arith, set-below ms))
 set-below (false ∷ ms) = rw (pow-suc 2 (length ms)) (omega (arith, set-below ms))
 
-pub marks-at : (route : List RouteEntry) (count i : ℕ) → i < 8 → getD (marks route count) i false ≡ markedAt route count i
+marks-at : (route : List RouteEntry) (count i : ℕ) → i < 8 → getD (marks route count) i false ≡ markedAt route count i
 unfolding marks
 marks-at route count i h = of-eight (markedAt route count) false i h
 
-pub marks-length : (route : List RouteEntry) (count : ℕ) → length (marks route count) ≡ 8
+marks-length : (route : List RouteEntry) (count : ℕ) → length (marks route count) ≡ 8
 unfolding marks
 marks-length route count = refl
 
 -- one place more, from the top down
-pub set-more : (route : List RouteEntry) (count i : ℕ) → i < 8
+set-more : (route : List RouteEntry) (count i : ℕ) → i < 8
     → setOf (drop (suc i) (marks route count)) * 2 + flag 0 (markedAt route count i) ≡ setOf (drop i (marks route count))
 unfolding setOf
 set-more route count i h =
@@ -68,7 +68,7 @@ half : (x : ℕ) (m : Bool) → (x * 2 + flag 0 m) / 2 ≡ x
 half x true = omega arith
 half x false = omega arith
 
-pub set-bit : (ms : List Bool) (k : ℕ) → bit k (setOf ms) ≡ getD ms k false
+set-bit : (ms : List Bool) (k : ℕ) → bit k (setOf ms) ≡ getD ms k false
 unfolding setOf
 set-bit [] k = rw zero-div
 set-bit (true ∷ ms) zero = eq-eqb ((setOf ms * 2 + 1) / 2 ^ 0 % 2) 1 (omega arith)
@@ -77,7 +77,7 @@ set-bit (m ∷ ms) (suc k) =
     rw (← one-add k, ← shr-shr (setOf ms * 2 + flag 0 m) 1 k, half) (set-bit ms k)
 
 -- the places from k on are the set shifted down by k
-pub set-drop : (ms : List Bool) (k : ℕ) → setOf ms / 2 ^ k ≡ setOf (drop k ms)
+set-drop : (ms : List Bool) (k : ℕ) → setOf ms / 2 ^ k ≡ setOf (drop k ms)
 unfolding setOf
 set-drop [] zero = refl
 set-drop [] (suc k) = rw zero-div
@@ -85,7 +85,7 @@ set-drop (m ∷ ms) zero = omega arith
 set-drop (m ∷ ms) (suc k) = rw (← one-add k, ← shr-shr (setOf ms * 2 + flag 0 m) 1 k, half) (set-drop ms k)
 
 -- the set is 0 where no place is marked
-pub set-none : (ms : List Bool) → eqb (setOf ms) 0 ≡ all not ms
+set-none : (ms : List Bool) → eqb (setOf ms) 0 ≡ all not ms
 unfolding setOf all
 set-none [] = refl
 set-none (true ∷ ms) = ne-eqb (setOf ms * 2 + 1) 0 (λ e. omega arith)
@@ -95,13 +95,13 @@ set-none (false ∷ ms) =
     (λ e. let n = eqb-false (setOf ms) 0 e in ne-eqb (setOf ms * 2 + 0) 0 (λ q. n (omega arith)) ∙ sym e ∙ set-none ms)
 
 -- its first clear bit is the first unmarked of eight places
-pub clear-first : (ms : List Bool) → length ms ≡ 8 → firstClear (setOf ms) ≡ first not ms
+clear-first : (ms : List Bool) → length ms ≡ 8 → firstClear (setOf ms) ≡ first not ms
 unfolding firstClear
 clear-first ms l =
     ap (first not) (ext-getD false _ ms (sym l) (λ k h. of-eight (λ (j : ℕ). bit j (setOf ms)) false k h ∙ set-bit ms k))
 
 -- the ones of the set are the marked places
-pub set-ones : (ms : List Bool) → ones (setOf ms) ≡ count (λ (m : Bool). m) ms
+set-ones : (ms : List Bool) → ones (setOf ms) ≡ count (λ (m : Bool). m) ms
 unfolding setOf count ones
 set-ones [] = refl
 set-ones (true ∷ ms) =
