@@ -63,8 +63,8 @@ fn examples(list: &mut List) {
         list.heading(&format!("Example text {}", text));
         list.text(text.as_bytes());
     }
-    list.heading("Example hops, by documents 01 and 02: of three places in use the first and the third are marked, so that the second is");
-    list.heading("due, and so is one not in use.");
+    list.heading("Example hops, by documents 01 and 02: of three places in use the first and the third are marked, and so is one not in");
+    list.heading("use. The second is due.");
     list.hops(&route(0b1000_0101, 3));
     list.heading("Example hops, by document 01: a route count over 8 is read as 8.");
     list.hops(&route(0xFF, 9));

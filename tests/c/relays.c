@@ -152,7 +152,7 @@ static size_t make(const struct frame *f, uint8_t *out) {
 /* How many marks there are before the first place without. */
 static unsigned in_order(unsigned marks) { return marks & 1 ? 1 + in_order(marks >> 1) : 0; }
 
-static int model_agrees;
+static int model_agrees = 1;
 
 /* One frame, relayed by one station of the route. What is wanted is worked out from the set of marks, and the model has to say so. */
 static void relay_made(const struct frame *f, size_t who) {
@@ -175,12 +175,10 @@ static void relay_made(const struct frame *f, size_t who) {
 static void run_marks(void) {
     struct frame f = {0, 0, 0, 0, 3, NULL};
     set_begin("all 256 sets of marks with 0 to 8 repeaters, by each of eight stations");
-    model_agrees = 1;
     for (f.repeaters = 0; f.repeaters <= 8; f.repeaters++)
         for (f.marks = 0; f.marks < 256; f.marks++)
             for (size_t who = 0; who < 8; who++) relay_made(&f, who);
     set_end();
-    say(model_agrees, "the model gives what follows from each of these sets");
 }
 
 /* All that re-encoding changes: nulls, leftover octets, reserved bits, a layer 3 PID, tails, FRMR's unnamed bits. */
@@ -276,6 +274,7 @@ void run_relays(void) {
     run_none();
     run_marks();
     run_kept();
+    say(model_agrees, "the model gives what follows from the set of marks, in both of these");
     run_lengths();
     run_characters();
     run_ssids();
