@@ -27,16 +27,13 @@ use Rattle.relay.specs.Relay.{usedUp, dueAnswer, relayAnswer, stationOf, relayA
 use Rattle.demands.specs.Due.{places, FirstUnmarked, InOrder, reported, hills, offered}
 
 -- the due place in document 02's words
-places-few : (f : Ax25Frame) → (places f ≤ 8) × (places f ≤ f .«route_count»)
-places-few f =
-    by (ltb 8 (f .«route_count»))
-    (λ e. rw e (omega arith, omega (arith, ltb-true 8 (f .«route_count») e)))
-    (λ e. rw e (ltb-false 8 (f .«route_count») e, omega arith))
+places-few : (f : Ax25Frame) → places f ≤ 8
+places-few f = by (ltb 8 (f .«route_count»)) (λ e. rw e (omega arith)) (λ e. rw e (ltb-false 8 (f .«route_count») e))
 
 pub due-place : (f : Ax25Frame) → FirstUnmarked f (duePlace f)
 due-place f = record {
   before = due-before f;
-  here = λ h. due-free f (omega (arith, places-few f .0));
+  here = λ h. due-free f (omega (arith, places-few f));
   within = by (ltb 8 (f .«route_count»)) (λ e. rw e (due-eight f)) (λ e. rw e (due-within f));
 }
 
