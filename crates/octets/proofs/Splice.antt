@@ -85,6 +85,11 @@ module _ {A : Type 0} where
       → splice (splice l at a) (at + n) b ≡ splice l at (a ++ b)
   splice-then l at n a b e h = rw (← e) (splice-more l at a b (rw e h))
 
+  -- a store, and the rest of the part behind it
+  pub splice-cons : (l : List A) (at : ℕ) (v : A) (part : List A) → at + 1 + length part ≤ length l
+      → splice (set l at v) (at + 1) part ≡ splice l at (v ∷ part)
+  splice-cons l at v part h = rw (← splice-one l at v (omega arith)) (splice-then l at 1 (v ∷ []) part refl h)
+
   -- a part written at the start of `&mut l[at..]`, seen in the whole list
   pub splice-part : (l : List A) (at : ℕ) (part : List A) → at ≤ length l
       → take at l ++ (splice (take (length l - at) (drop at l)) 0 part ++ drop (length l - at) (drop at l)) ≡ splice l at part

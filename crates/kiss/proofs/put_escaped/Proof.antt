@@ -1,0 +1,63 @@
+-- What is still to be written, put where the writing has come to, is the whole.
+use Prim.Native.Nat.{_+_, _-_}
+use mathlib.Core.Path.{_≡_, refl, ap, sym, _∙_}
+use native.Mathlib.Omega.{arith}
+use lib.ListN.{length}
+use Rattle.octets.specs.Splice.{splice}
+use Rattle.octets.proofs.Splice.{splice-length}
+use Rattle.kiss.specs.Packet.{escaped}
+use Rattle.kiss.proofs.Written.{Left, left-room, left-turn, left-none}
+use borrow.Author.Needs.{needs}
+use Rattle.kiss.proofs.put_escaped.Statement.{statement}
+use Rattle.kiss.proofs.put_escaped.Tie as tie
+
+abbrev Inv-loop : tie.InvT-loop
+Inv-loop out₀ at info j₀ i₀ out j i =
+    (length out ≡ length out₀) × Left info out (at + length (escaped info)) i j (splice out₀ at (escaped info))
+
+abbrev μ-loop : tie.MeasureT-loop
+μ-loop out₀ at info j₀ i₀ out j i = length info - i
+
+loop-holds : tie.Need-loop-holds Inv-loop μ-loop
+loop-holds c = (refl, record { many = refl; long = c .before .before .pre; is = refl })
+
+shared-slice-read-put-octet : tie.Need-shared-slice-read-put-octet Inv-loop μ-loop
+shared-slice-read-put-octet c = search needs
+
+put-octet-requires : tie.Need-put-octet-requires Inv-loop μ-loop
+put-octet-requires c κs = left-room _ _ _ _ _ _ (c .before .before .before .loop .inv .1) (c .before .before .loop-test .taken)
+
+add-i : tie.Need-add-i Inv-loop μ-loop
+add-i c = search needs
+
+loop-less : tie.Need-loop-less Inv-loop μ-loop
+loop-less c = search needs
+
+loop-again : tie.Need-loop-again Inv-loop μ-loop
+loop-again c =
+    let p = c .before .before in
+    let l = p .before .before .before .before .loop in (
+      ap length (p .put-octet .ensures .1) ∙ splice-length _ _ _ ∙ l .inv .0,
+      left-turn _ _ _ _ _ _ _ _ (l .inv .1) (p .before .before .before .loop-test .taken) (p .put-octet .ensures .0) (p .put-octet .ensures .1),
+    )
+
+same-length : tie.Need-same-length Inv-loop μ-loop
+same-length c = c .before .loop .inv .0
+
+returns : tie.Need-returns Inv-loop μ-loop
+returns c = left-none _ _ _ _ _ _ (c .before .loop .inv .1) (c .loop-test .left)
+
+pub put-escaped-spec : {M : Type 1} → statement M
+put-escaped-spec =
+    tie.close
+    (tie.spec
+    Inv-loop
+    μ-loop
+    loop-holds
+    shared-slice-read-put-octet
+    put-octet-requires
+    add-i
+    loop-less
+    loop-again
+    same-length
+    returns)

@@ -1,0 +1,5 @@
+pub mod Packet
+pub mod Answer
+pub mod Read
+pub mod Write
+pub mod Steps
