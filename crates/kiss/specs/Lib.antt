@@ -1,5 +1,2 @@
 pub mod Packet
-pub mod Answer
-pub mod Read
 pub mod Write
-pub mod Steps

@@ -6,7 +6,7 @@ use lib.ListN.{length}
 use Rattle.octets.specs.Splice.{splice}
 use Rattle.octets.proofs.Splice.{splice-length}
 use Rattle.kiss.specs.Packet.{escaped}
-use Rattle.kiss.proofs.Written.{Left, left-room, left-turn, left-none}
+use Rattle.kiss.proofs.Laws.{Left, left-room, left-turn, left-none}
 use borrow.Author.Needs.{needs}
 use Rattle.kiss.proofs.put_escaped.Statement.{statement}
 use Rattle.kiss.proofs.put_escaped.Tie as tie

@@ -5,7 +5,7 @@ use native.Mathlib.Omega.{arith}
 use borrow.Author.Tests.{eq-eqb, ne-eqb}
 use lib.ListN.{length}
 use Rattle.octets.proofs.Splice.{splice-one}
-use Rattle.kiss.proofs.Written.{escape-fend, escape-fesc, escape-plain}
+use Rattle.kiss.proofs.Laws.{escape-fend, escape-fesc, escape-plain}
 use borrow.Author.Needs.{needs}
 use Rattle.kiss.proofs.put_octet.Statement.{statement}
 use Rattle.kiss.proofs.put_octet.Tie as tie

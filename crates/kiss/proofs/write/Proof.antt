@@ -9,10 +9,8 @@ use Rattle.octets.specs.Splice.{splice}
 use Rattle.octets.specs.Count.{count}
 use Rattle.octets.proofs.Splice.{splice-none, splice-length}
 use Rattle.kiss.specs.Packet.{fend, escaped, special, typeOf, packet}
-use Rattle.kiss.specs.Answer.{Given, refused, accepted, writtenOf}
-use Rattle.kiss.specs.Write.{writeInto}
-use Rattle.kiss.specs.declared.KissAnswer.the-variants.{Accepted, PortTooHigh, NoRoom}
-use Rattle.kiss.proofs.Written.{escaped-length, packet-length, packet-parts, write-port, write-short, write-fits}
+use Rattle.kiss.specs.declared.KissWriteAnswer.the-variants.{Written, PortTooHigh, NoRoom}
+use Rattle.kiss.proofs.Laws.{escaped-length, packet-length, packet-parts, write-port, write-short, write-fits, written-by}
 use borrow.Author.Needs.{needs}
 use Rattle.kiss.proofs.write.Statement.{statement}
 use Rattle.kiss.proofs.write.Tie as tie
@@ -36,14 +34,11 @@ long c =
     ∙ splice-length (set (set (a .out .now) 0 fend) 1 (a .port * 16 % 256)) 2 (escaped (a .info .now))
     ∙ length-set (set (a .out .now) 0 fend) 1 (a .port * 16 % 256) ∙ length-set (a .out .now) 0 fend
 
-refused-write-requires : tie.Need-refused-write-requires
-refused-write-requires c κs = search needs
-
 returns : tie.Need-returns
 returns c =
-    let a = c .before .before .before .before .args in
-    let e = write-port (a .port) (a .info .now) (length (a .out .now)) (c .before .if1 .taken) in
-    (c .refused-write .ensures ∙ ap writtenOf (sym e), sym (ap (λ (g : Given). splice (a .out .now) 0 (g .octets)) e ∙ splice-none _ _))
+    let a = c .before .before .before .args in
+    let e = written-by (a .port) (a .info .now) (length (a .out .now)) PortTooHigh (write-port _ _ _ (c .if1 .taken)) in
+    (sym (e .0), sym (ap (splice (a .out .now) 0) (e .1) ∙ splice-none _ _))
 
 count-special-requires : tie.Need-count-special-requires
 count-special-requires c κs = search needs
@@ -51,17 +46,15 @@ count-special-requires c κs = search needs
 fits-requires : tie.Need-fits-requires
 fits-requires c κs = search needs
 
-refused-write-requires-2 : tie.Need-refused-write-requires-2
-refused-write-requires-2 c κs = search needs
-
 returns-2 : tie.Need-returns-2
 returns-2 c =
-    let k = c .before .before .before in
+    let k = c .before .before in
     let a = k .before .before .before .before .args in
-    let short = leb-false (3 + length (a .info .now) + k .count-special .result) (length (a .out .now)) (sym (c .before .before .fits2 .ensures) ∙ not-true _ (c .before .if2 .taken)) in
-    let e = write-short (a .port) (a .info .now) (length (a .out .now)) (k .before .if1 .left)
-    (omega (arith, short, k .count-special .ensures .0, packet-length (a .port) (a .info .now))) in
-    (c .refused-write2 .ensures ∙ ap writtenOf (sym e), sym (ap (λ (g : Given). splice (a .out .now) 0 (g .octets)) e ∙ splice-none _ _))
+    let short = leb-false (3 + length (a .info .now) + k .count-special .result) (length (a .out .now)) (sym (c .before .fits2 .ensures) ∙ not-true _ (c .if2 .taken)) in
+    let e = written-by (a .port) (a .info .now) (length (a .out .now)) NoRoom
+    (write-short (a .port) (a .info .now) (length (a .out .now)) (k .before .if1 .left)
+    (omega (arith, short, k .count-special .ensures .0, packet-length (a .port) (a .info .now)))) in
+    (sym (e .0), sym (ap (splice (a .out .now) 0) (e .1) ∙ splice-none _ _))
 
 slice-write-out : tie.Need-slice-write-out
 slice-write-out c = omega (arith, fits c)
@@ -111,21 +104,18 @@ returns-3 c =
     let p = k .before .if1 .left in
     let n = k .count-special .ensures .0 in
     let type : a .port * 16 % 256 ≡ typeOf (a .port) = omega (arith, p) in
-    let e : writeInto (a .port) s (length out) ≡ accepted (a .port) (packet (a .port) s) =
-    write-fits (a .port) s (length out) p (omega (arith, room, packet-length (a .port) s)) in (
-      ap (λ (m : ℕ). record { answer = Accepted; length = m }) (rw n (sym (packet-length (a .port) s))) ∙ ap writtenOf (sym e),
-      rw (c .before .before .put-escaped .ensures, n, type) (packet-parts out (a .port) s room) ∙ ap (λ (g : Given). splice out 0 (g .octets)) (sym e),
+    let e = written-by (a .port) s (length out) Written (write-fits (a .port) s (length out) p (omega (arith, room, packet-length (a .port) s))) in (
+      ap (λ (m : ℕ). record { answer = Written; length = m }) (rw n (sym (packet-length (a .port) s))) ∙ sym (e .0),
+      rw (c .before .before .put-escaped .ensures, n, type) (packet-parts out (a .port) s room) ∙ ap (splice out 0) (sym (e .1)),
     )
 
 pub write-spec : {M : Type 1} → statement M
 write-spec =
     tie.close
     (tie.spec
-    refused-write-requires
     returns
     count-special-requires
     fits-requires
-    refused-write-requires-2
     returns-2
     slice-write-out
     slice-write-out-2

@@ -6,15 +6,15 @@ use native.Mathlib.Omega.{arith}
 use borrow.Author.Tests.{eq-eqb, ne-eqb}
 use lib.Dec.{eqb}
 use lib.ListN.{length, getD, drop, length-drop}
 use Rattle.kiss.specs.Packet.{fend}
-use Rattle.kiss.specs.Answer.{readOf}
-use Rattle.kiss.specs.Read.{typed, opened}
-use Rattle.kiss.specs.Steps.{takenFrom}
-use Rattle.kiss.specs.declared.Taken.{Taken}
-use Rattle.kiss.proofs.Judged.{opened-none, opened-empty, opened-bad, opened-typed}
+use Rattle.kiss_reading.specs.Answer.{readOf}
+use Rattle.kiss_reading.specs.Read.{typed, opened}
+use Rattle.kiss_reading.specs.Steps.{takenFrom}
+use Rattle.kiss_reading.specs.declared.Taken.{Taken}
+use Rattle.kiss_reading.proofs.Judged.{opened-none, opened-empty, opened-bad, opened-typed}
 use borrow.Author.Needs.{needs}
-use Rattle.kiss.proofs.judge_opened.Statement.{statement}
-use Rattle.kiss.proofs.judge_opened.Tie as tie
+use Rattle.kiss_reading.proofs.judge_opened.Statement.{statement}
+use Rattle.kiss_reading.proofs.judge_opened.Tie as tie
 
 more : (c : tie.Else2) → 1 < length (c .before .before .before .before .args .input .now)
 more c = omega arith

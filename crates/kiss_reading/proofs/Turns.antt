@@ -13,14 +13,14 @@ use lib.Seq.{drop-cons, drop-drop}
 use Rattle.octets.specs.Splice.{splice}
 use Rattle.octets.proofs.Choice.{by}
 use Rattle.octets.proofs.Splice.{splice-none, splice-cons}
 use Rattle.kiss.specs.Packet.{fend, fesc, tfend, tfesc}
-use Rattle.kiss.specs.Answer.{isAccepted}
-use Rattle.kiss.specs.Read.{Heard, ends, more, closed, heard}
-use Rattle.kiss.specs.Steps.{taking, secondOf, takenFrom, measuredOf}
-use Rattle.kiss.specs.declared.KissAnswer.{KissAnswer}
-use Rattle.kiss.specs.declared.KissAnswer.the-variants.{Accepted, BadEscape, NoClosing}
-use Rattle.kiss.specs.declared.Taken.{Taken}
-use Rattle.kiss.specs.declared.Measured.{Measured}
+use Rattle.kiss_reading.specs.Answer.{isAccepted}
+use Rattle.kiss_reading.specs.Read.{Heard, ends, more, closed, heard}
+use Rattle.kiss_reading.specs.Steps.{taking, secondOf, takenFrom, measuredOf}
+use Rattle.kiss_reading.specs.declared.KissAnswer.{KissAnswer}
+use Rattle.kiss_reading.specs.declared.KissAnswer.the-variants.{Accepted, BadEscape, NoClosing}
+use Rattle.kiss_reading.specs.declared.Taken.{Taken}
+use Rattle.kiss_reading.specs.declared.Measured.{Measured}
 
 -- ---- what is taken at a place
 pub taken-plain : (s : List ℕ) (at : ℕ) → at < length s → eqb (getD s at 0) fesc ≡ false → takenFrom (drop at s) ≡ taking (getD s at 0) 1

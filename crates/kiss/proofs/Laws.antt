@@ -15,9 +15,10 @@ use Rattle.octets.proofs.Choice.{by}
 use Rattle.octets.proofs.Count.{count-le}
 use Rattle.octets.proofs.Splice.{splice-none, splice-one, splice-length, splice-cons, splice-then}
 use Rattle.kiss.specs.Packet.{fend, fesc, tfend, tfesc, escapeOf, escaped, special, typeOf, lastPort, packet}
-use Rattle.kiss.specs.Answer.{refused, accepted}
-use Rattle.kiss.specs.Write.{writeInto}
-use Rattle.kiss.specs.declared.KissAnswer.the-variants.{PortTooHigh, NoRoom}
+use Rattle.kiss.specs.Write.{writeAnswer, given, octetsWritten, written}
+use Rattle.kiss.specs.declared.KissWriteAnswer.{KissWriteAnswer}
+use Rattle.kiss.specs.declared.KissWriteAnswer.the-variants.{Written, PortTooHigh, NoRoom}
+use Rattle.kiss.specs.declared.KissWritten.{KissWritten}
 
 -- ---- one octet
 pub escape-fend : (b : ℕ) → eqb b fend ≡ true → escapeOf b ≡ fesc ∷ tfend ∷ []
@@ -112,14 +113,20 @@ packet-parts out port s h =
     ∙ splice-cons out 0 fend (typeOf port ∷ (e ++ (fend ∷ []))) (omega arith)
 
 -- ---- the answers
-pub write-port : (port : ℕ) (s : List ℕ) (room : ℕ) → lastPort < port → writeInto port s room ≡ refused PortTooHigh
-unfolding writeInto
+pub write-port : (port : ℕ) (s : List ℕ) (room : ℕ) → lastPort < port → writeAnswer port s room ≡ PortTooHigh
+unfolding writeAnswer
 write-port port s room h = simp (lt-ltb _ _ h)
 
-pub write-short : (port : ℕ) (s : List ℕ) (room : ℕ) → port ≤ lastPort → room < length (packet port s) → writeInto port s room ≡ refused NoRoom
-unfolding writeInto
+pub write-short : (port : ℕ) (s : List ℕ) (room : ℕ) → port ≤ lastPort → room < length (packet port s) → writeAnswer port s room ≡ NoRoom
+unfolding writeAnswer
 write-short port s room p h = simp (le-ltb _ _ p, lt-ltb _ _ h)
 
-pub write-fits : (port : ℕ) (s : List ℕ) (room : ℕ) → port ≤ lastPort → length (packet port s) ≤ room → writeInto port s room ≡ accepted port (packet port s)
-unfolding writeInto
+pub write-fits : (port : ℕ) (s : List ℕ) (room : ℕ) → port ≤ lastPort → length (packet port s) ≤ room → writeAnswer port s room ≡ Written
+unfolding writeAnswer
 write-fits port s room p h = simp (le-ltb _ _ p, le-ltb _ _ h)
+
+-- length and octets by the answer
+pub written-by : (port : ℕ) (s : List ℕ) (room : ℕ) (a : KissWriteAnswer) → writeAnswer port s room ≡ a
+    → (written port s room ≡ record { answer = a; length = length (given a (packet port s)) }) × (octetsWritten port s room ≡ given a (packet port s))
+unfolding written octetsWritten
+written-by port s room a e = rw e (refl, refl)

@@ -13,24 +13,24 @@ use lib.ListN.{length, getD, drop, drop-of-length-le}
 use lib.Seq.{drop-cons, drop-drop}
 use Rattle.octets.specs.Octet.{field}
 use Rattle.octets.proofs.Choice.{by, either}
 use Rattle.kiss.specs.Packet.{fend, fesc, tfend, tfesc, lastPort}
-use Rattle.kiss.specs.Answer.{isAccepted, Given, refused, accepted}
-use Rattle.kiss.specs.Read.{Heard, heard, onPort, typed, typeEscaped, opened, readPacket, readInto}
-use Rattle.kiss.specs.Steps.{secondOf, takenFrom}
-use Rattle.kiss.specs.declared.KissAnswer.{KissAnswer}
-use Rattle.kiss.specs.declared.KissAnswer.the-variants.{Accepted, NoOpening, BadEscape, NoClosing, NotData, Empty, PortTooHigh, NoRoom}
-use Rattle.kiss.proofs.KissAnswer.{the-type}
+use Rattle.kiss_reading.specs.Answer.{isAccepted, Given, refused, accepted}
+use Rattle.kiss_reading.specs.Read.{Heard, heard, onPort, typed, typeEscaped, opened, readPacket, readInto}
+use Rattle.kiss_reading.specs.Steps.{secondOf, takenFrom}
+use Rattle.kiss_reading.specs.declared.KissAnswer.{KissAnswer}
+use Rattle.kiss_reading.specs.declared.KissAnswer.the-variants.{Accepted, NoOpening, Empty, BadEscape, NotData, PortTooHigh, NoClosing, NoRoom}
+use Rattle.kiss_reading.proofs.KissAnswer.{the-type}
 
 -- what a match on the answer tells where it is not the first case
 pub told-refused : (a : KissAnswer) → OneOf (1 ∷ 2 ∷ 3 ∷ 4 ∷ 5 ∷ 6 ∷ 7 ∷ []) (tagOf the-type a) → isAccepted a ≡ false
 told-refused Accepted h = absurd (miss (1 ∷ 2 ∷ 3 ∷ 4 ∷ 5 ∷ 6 ∷ 7 ∷ []) 0 tt h)
-told-refused NoRoom h = refl
 told-refused NoOpening h = refl
-told-refused BadEscape h = refl
-told-refused NoClosing h = refl
-told-refused NotData h = refl
 told-refused Empty h = refl
+told-refused BadEscape h = refl
+told-refused NotData h = refl
 told-refused PortTooHigh h = refl
+told-refused NoClosing h = refl
+told-refused NoRoom h = refl
 
 -- ---- the type octet
 pub typed-command : (t : ℕ) (s : List ℕ) → eqb (field 0 4 t) 0 ≡ false → typed t s ≡ refused NotData

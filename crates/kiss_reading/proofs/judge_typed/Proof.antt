@@ -8,16 +8,16 @@ use lib.Dec.{eqb, ltb}
 use lib.ListN.{drop}
 use Rattle.octets.specs.Octet.{field}
 use Rattle.octets.proofs.Bits.{low-mask}
 use Rattle.kiss.specs.Packet.{lastPort}
-use Rattle.kiss.specs.Answer.{Given, refused, accepted, readOf, isAccepted}
-use Rattle.kiss.specs.Read.{heard, typed, onPort}
-use Rattle.kiss.specs.declared.KissAnswer.{KissAnswer}
-use Rattle.kiss.specs.declared.KissAnswer.the-variants.{Accepted}
-use Rattle.kiss.specs.declared.Measured.{Measured}
-use Rattle.kiss.proofs.Judged.{told-refused, typed-command, typed-port, typed-data, on-refused, on-accepted}
+use Rattle.kiss_reading.specs.Answer.{Given, refused, accepted, readOf, isAccepted}
+use Rattle.kiss_reading.specs.Read.{heard, typed, onPort}
+use Rattle.kiss_reading.specs.declared.KissAnswer.{KissAnswer}
+use Rattle.kiss_reading.specs.declared.KissAnswer.the-variants.{Accepted}
+use Rattle.kiss_reading.specs.declared.Measured.{Measured}
+use Rattle.kiss_reading.proofs.Judged.{told-refused, typed-command, typed-port, typed-data, on-refused, on-accepted}
 use borrow.Author.Needs.{needs}
-use Rattle.kiss.proofs.judge_typed.Statement.{statement}
-use Rattle.kiss.proofs.judge_typed.Tie as tie
+use Rattle.kiss_reading.proofs.judge_typed.Statement.{statement}
+use Rattle.kiss_reading.proofs.judge_typed.Tie as tie
 
 high : (t : ℕ) → t < 256 → field 4 4 t ≡ t / 16
 high t h = omega arith

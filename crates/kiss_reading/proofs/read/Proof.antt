@@ -7,14 +7,14 @@ use native.Mathlib.Omega.{arith}
 use lib.ListN.{length, drop}
 use Rattle.octets.specs.Splice.{splice}
 use Rattle.octets.proofs.Splice.{splice-none}
-use Rattle.kiss.specs.Answer.{Given, isAccepted, refused, readOf}
-use Rattle.kiss.specs.Read.{heard, readPacket, readInto}
-use Rattle.kiss.specs.declared.KissAnswer.the-variants.{NoRoom}
-use Rattle.kiss.specs.declared.KissRead.{KissRead}
-use Rattle.kiss.proofs.Judged.{told-refused, fair-read, into-refused, into-short, into-fits, data-heard}
+use Rattle.kiss_reading.specs.Answer.{Given, isAccepted, refused, readOf}
+use Rattle.kiss_reading.specs.Read.{heard, readPacket, readInto}
+use Rattle.kiss_reading.specs.declared.KissAnswer.the-variants.{NoRoom}
+use Rattle.kiss_reading.specs.declared.KissRead.{KissRead}
+use Rattle.kiss_reading.proofs.Judged.{told-refused, fair-read, into-refused, into-short, into-fits, data-heard}
 use borrow.Author.Needs.{needs}
-use Rattle.kiss.proofs.read.Statement.{statement}
-use Rattle.kiss.proofs.read.Tie as tie
+use Rattle.kiss_reading.proofs.read.Statement.{statement}
+use Rattle.kiss_reading.proofs.read.Tie as tie
 
 accepted : (c : tie.After-enum-told) → isAccepted (readPacket (c .before .before .before .before .before .args .input .now) .answer) ≡ true
 accepted c = sym (ap (λ (r : KissRead). isAccepted (r .answer)) (c .before .before .judge .ensures)) ∙ ap isAccepted (c .enum-told .given .1)

@@ -6,13 +6,13 @@ use native.Mathlib.Omega.{arith}
 use borrow.Author.Tests.{eq-eqb, ne-eqb}
 use lib.ListN.{drop, length-drop}
 use lib.ListN.{length as listLength}
-use Rattle.kiss.specs.Read.{heard, ends}
-use Rattle.kiss.specs.Steps.{measuredOf, takenFrom}
-use Rattle.kiss.specs.declared.Taken.{Taken}
-use Rattle.kiss.proofs.Turns.{Goes, heard-end, heard-bad, heard-goes, heard-closed, measuredBy, measured-start, measured-ends, measured-turn}
+use Rattle.kiss_reading.specs.Read.{heard, ends}
+use Rattle.kiss_reading.specs.Steps.{measuredOf, takenFrom}
+use Rattle.kiss_reading.specs.declared.Taken.{Taken}
+use Rattle.kiss_reading.proofs.Turns.{Goes, heard-end, heard-bad, heard-goes, heard-closed, measuredBy, measured-start, measured-ends, measured-turn}
 use borrow.Author.Needs.{needs}
-use Rattle.kiss.proofs.measure.Statement.{statement}
-use Rattle.kiss.proofs.measure.Tie as tie
+use Rattle.kiss_reading.proofs.measure.Statement.{statement}
+use Rattle.kiss_reading.proofs.measure.Tie as tie
 
 abbrev Inv-loop : tie.InvT-loop
 Inv-loop input at n i₀ length₀ i length =

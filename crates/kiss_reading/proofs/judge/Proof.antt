@@ -2,11 +2,11 @@
 use mathlib.Core.Path.{ap, sym, _∙_}
 use native.Mathlib.Omega.{arith}
 use borrow.Author.Tests.{eq-eqb, ne-eqb}
-use Rattle.kiss.specs.Answer.{readOf}
-use Rattle.kiss.proofs.Judged.{read-none, read-strange, read-opened}
+use Rattle.kiss_reading.specs.Answer.{readOf}
+use Rattle.kiss_reading.proofs.Judged.{read-none, read-strange, read-opened}
 use borrow.Author.Needs.{needs}
-use Rattle.kiss.proofs.judge.Statement.{statement}
-use Rattle.kiss.proofs.judge.Tie as tie
+use Rattle.kiss_reading.proofs.judge.Statement.{statement}
+use Rattle.kiss_reading.proofs.judge.Tie as tie
 
 refused-read-requires : tie.Need-refused-read-requires
 refused-read-requires c κs = search needs

@@ -6,12 +6,12 @@ use native.Mathlib.Omega.{arith}
 use borrow.Author.Tests.{eq-eqb, ne-eqb}
 use lib.Dec.{eqb}
 use lib.ListN.{getD, drop}
 use Rattle.kiss.specs.Packet.{fend, fesc, tfend, tfesc}
-use Rattle.kiss.specs.Steps.{taking, secondOf, takenFrom}
-use Rattle.kiss.proofs.Turns.{taken-plain, taken-escape, second-none, second-at}
+use Rattle.kiss_reading.specs.Steps.{taking, secondOf, takenFrom}
+use Rattle.kiss_reading.proofs.Turns.{taken-plain, taken-escape, second-none, second-at}
 use borrow.Author.Needs.{needs}
-use Rattle.kiss.proofs.taken_at.Statement.{statement}
-use Rattle.kiss.proofs.taken_at.Tie as tie
+use Rattle.kiss_reading.proofs.taken_at.Statement.{statement}
+use Rattle.kiss_reading.proofs.taken_at.Tie as tie
 
 escape : (c : tie.Else1) → takenFrom (drop (c .before .before .args .at) (c .before .before .args .input .now))
     ≡ secondOf (drop (c .before .before .args .at + 1) (c .before .before .args .input .now))

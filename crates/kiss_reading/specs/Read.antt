@@ -5,10 +5,10 @@ use mathlib.Core.List.{List, [], _∷_}
 use lib.Dec.{eqb, ltb}
 use lib.ListN.{length}
 use Rattle.octets.specs.Octet.{field}
 use Rattle.kiss.specs.Packet.{fend, fesc, tfend, tfesc, lastPort}
-use Rattle.kiss.specs.Answer.{isAccepted, Given, refused, accepted}
-use Rattle.kiss.specs.declared.KissAnswer.{KissAnswer}
-use Rattle.kiss.specs.declared.KissAnswer.the-variants.{Accepted, NoOpening, BadEscape, NoClosing, NotData, Empty, PortTooHigh, NoRoom}
+use Rattle.kiss_reading.specs.Answer.{isAccepted, Given, refused, accepted}
+use Rattle.kiss_reading.specs.declared.KissAnswer.{KissAnswer}
+use Rattle.kiss_reading.specs.declared.KissAnswer.the-variants.{Accepted, NoOpening, Empty, BadEscape, NotData, PortTooHigh, NoClosing, NoRoom}
 
 -- what the octets behind the type octet come to, and the data in them so far
 pub record Heard : Type 0 where

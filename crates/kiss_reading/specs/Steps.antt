@@ -4,10 +4,10 @@ use mathlib.Core.Bool.{cond}
 use mathlib.Core.List.{List, [], _∷_}
 use lib.Dec.{eqb}
 use lib.ListN.{length}
 use Rattle.kiss.specs.Packet.{fend, fesc, tfend, tfesc}
-use Rattle.kiss.specs.Read.{Heard}
-use Rattle.kiss.specs.declared.Taken.{Taken}
-use Rattle.kiss.specs.declared.Measured.{Measured}
+use Rattle.kiss_reading.specs.Read.{Heard}
+use Rattle.kiss_reading.specs.declared.Taken.{Taken}
+use Rattle.kiss_reading.specs.declared.Measured.{Measured}
 
 abbrev pub taking : ℕ → ℕ → Taken
 taking octet width = record { octet = octet; width = width }

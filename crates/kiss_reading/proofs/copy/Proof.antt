@@ -6,13 +6,13 @@ use native.Mathlib.Omega.{arith}
 use lib.ListN.{drop, length-drop, length-set}
 use lib.ListN.{length as listLength}
 use Rattle.octets.specs.Splice.{splice}
-use Rattle.kiss.specs.Read.{heard}
-use Rattle.kiss.specs.Steps.{takenFrom}
-use Rattle.kiss.specs.declared.Taken.{Taken}
-use Rattle.kiss.proofs.Turns.{Goes, Left, left-goes, left-turn, left-none}
+use Rattle.kiss_reading.specs.Read.{heard}
+use Rattle.kiss_reading.specs.Steps.{takenFrom}
+use Rattle.kiss_reading.specs.declared.Taken.{Taken}
+use Rattle.kiss_reading.proofs.Turns.{Goes, Left, left-goes, left-turn, left-none}
 use borrow.Author.Needs.{needs}
-use Rattle.kiss.proofs.copy.Statement.{statement}
-use Rattle.kiss.proofs.copy.Tie as tie
+use Rattle.kiss_reading.proofs.copy.Statement.{statement}
+use Rattle.kiss_reading.proofs.copy.Tie as tie
 
 abbrev Inv-loop : tie.InvT-loop
 Inv-loop input at out₀ length i₀ j₀ out i j =

@@ -1,0 +1,2 @@
+pub mod Turns
+pub mod Judged
