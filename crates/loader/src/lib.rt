@@ -2,12 +2,16 @@
 ghost use mathlib.Core.Path.{_≡_};
 ghost use mathlib.Core.Bool.{cond};
 ghost use lib.ListN.{length};
+ghost use lib.ListN.{length as listLength};
 ghost use Rattle.octets.specs.Splice.{splice};
 ghost use Rattle.decode.specs.Answer.{reportOf};
 ghost use Rattle.decode.specs.Read.{decode};
 ghost use Rattle.spelling.specs.Canonical.{canonical};
 ghost use Rattle.respelling.specs.Reencode.{due, reencode, reencoded, reportOf as reencodeReport};
 ghost use Rattle.relay.specs.Relay.{relayAnswerAs, relayedAs, reportOf as relayReport};
+ghost use Rattle.kiss.specs.Write.{numberOf as writeNumber, written, octetsWritten};
+ghost use Rattle.kiss_reading.specs.Answer.{numberOf as readNumber};
+ghost use Rattle.kiss_reading.specs.Read.{readInto};
 
 // The decode number.
 #[no_mangle]
@@ -46,7 +50,7 @@ pub extern "C" fn ax25_reencode(input: &[u8], output: &mut [u8]) -> u32
     answer.number()
 }
 
-// Our mark set in the lent frame, where the repeater that is due is ours: 22, or the decode number, or 41, 42 or 0. A refusal leaves
+// Our mark set in the lent frame, where the repeater that is due is ours: 22, or the decode number, or 41, 43, 42 or 0. A refusal leaves
 // the frame alone.
 #[no_mangle]
 pub extern "C" fn ax25_relay(callsign: &[u8], ssid: u8, frame: &mut [u8]) -> u32
@@ -54,5 +58,44 @@ pub extern "C" fn ax25_relay(callsign: &[u8], ssid: u8, frame: &mut [u8]) -> u32
     ensures { λ r. ⌜ now (frame .exit) ≡ relayedAs (now (callsign .entry)) ssid (now (frame .entry)) ⌝ }
 {
     let answer = relay::relay_as(callsign, ssid, frame);
+    answer.number()
+}
+
+// One whole KISS packet read: its data to the start of the output, its port and the data's length to where they are lent. A refusal
+// leaves the output alone and gives port 0 and length 0.
+#[no_mangle]
+pub extern "C" fn ax25_kiss_read(
+    input: &[u8],
+    output: &mut [u8],
+    port: &mut u8,
+    length: &mut usize,
+) -> u32
+    ensures { λ r. ⌜ r ≡ readNumber (readInto (now (input .entry)) (listLength (now (output .entry))) .answer) ⌝ }
+    ensures { λ r. ⌜ now (output .exit) ≡ splice (now (output .entry)) 0 (readInto (now (input .entry)) (listLength (now (output .entry))) .octets) ⌝ }
+    ensures { λ r. ⌜ now (port .exit) ≡ readInto (now (input .entry)) (listLength (now (output .entry))) .port ⌝ }
+    ensures { λ r. ⌜ now (length .exit) ≡ listLength (readInto (now (input .entry)) (listLength (now (output .entry))) .octets) ⌝ }
+{
+    let done = kiss_reading::read(input, output);
+    *port = done.port;
+    *length = done.length;
+    let answer = done.answer;
+    answer.number()
+}
+
+// One whole KISS packet written to the start of the output, and its length. A refusal leaves the output alone and gives length 0.
+#[no_mangle]
+pub extern "C" fn ax25_kiss_write(
+    port: u8,
+    input: &[u8],
+    output: &mut [u8],
+    length: &mut usize,
+) -> u32
+    ensures { λ r. ⌜ r ≡ writeNumber (written port (now (input .entry)) (listLength (now (output .entry))) .answer) ⌝ }
+    ensures { λ r. ⌜ now (output .exit) ≡ splice (now (output .entry)) 0 (octetsWritten port (now (input .entry)) (listLength (now (output .entry)))) ⌝ }
+    ensures { λ r. ⌜ now (length .exit) ≡ written port (now (input .entry)) (listLength (now (output .entry))) .length ⌝ }
+{
+    let done = kiss::write(port, input, output);
+    *length = done.length;
+    let answer = done.answer;
     answer.number()
 }
