@@ -5,8 +5,11 @@
 #include <string.h>
 
 #include "ax25.h"
+#include "draw.h"
 #include "examine.h"
 #include "relays.h"
+#include "say.h"
+#include "sets.h"
 
 /* Document 01's example frame, and its 14 address octets. */
 #define ADDRESS "8E 82 AA 8E 8A 40 E0 84 9E B0 62 64 40 67 "
@@ -143,19 +146,6 @@ static void run_contents(void) {
     set_end();
 }
 
-static uint64_t state;
-
-/* splitmix64 */
-static uint64_t draw(void) {
-    uint64_t z = state += 0x9E3779B97F4A7C15u;
-    z = (z ^ z >> 30) * 0xBF58476D1CE4E5B9u;
-    z = (z ^ z >> 27) * 0x94D049BB133111EBu;
-    return z ^ z >> 31;
-}
-
-static unsigned below(unsigned bound) { return (unsigned)(draw() >> 32) % bound; }
-static int one_in(unsigned n) { return below(n) == 0; }
-
 static const uint8_t known_controls[] = {0x00, 0x01, 0x05, 0x09, 0x2F, 0x43, 0x0F, 0x63, 0x87, 0x03};
 static const uint8_t known_pids[] = {0x01, 0x06, 0x07, 0x08, 0xC3, 0xC4, 0xCA, 0xCB, 0xCC, 0xCD, 0xCE, 0xCF, 0xF0, 0xFF, 0x10, 0x20, 0x9A, 0xA5};
 
@@ -216,29 +206,6 @@ static size_t random_octets(uint8_t *out) {
     return len;
 }
 
-/* One damage: a bit, an octet, an octet less or more, an end cut off, or two octets swapped. */
-static size_t damage(uint8_t *in, size_t len) {
-    size_t at = len ? below((unsigned)len) : 0;
-    if (len == 0) return len;
-    switch (below(6)) {
-    case 0: in[at] ^= (uint8_t)(1u << below(8)); return len;
-    case 1: in[at] = (uint8_t)below(256); return len;
-    case 2: memmove(in + at, in + at + 1, len - at - 1); return len - 1;
-    case 3:
-        memmove(in + at + 1, in + at, len - at);
-        in[at] = (uint8_t)below(256);
-        return len + 1;
-    case 4: return at;
-    default: {
-        size_t other = below((unsigned)len);
-        uint8_t kept = in[at];
-        in[at] = in[other];
-        in[other] = kept;
-        return len;
-    }
-    }
-}
-
 static unsigned long seen[10], seen_canonical, seen_rewritten;
 
 static void examine_one(const uint8_t *in, size_t len) {
@@ -251,15 +218,15 @@ static void examine_one(const uint8_t *in, size_t len) {
 
 static void run_random(unsigned long thousands, uint64_t seed) {
     uint8_t in[SCRATCH];
-    state = seed;
+    draw_from(seed);
     set_begin("random octets");
     for (unsigned long n = thousands * 200; n > 0; n--) examine_one(in, random_octets(in));
     set_end();
     set_begin("random frames");
     for (unsigned long n = thousands * 400; n > 0; n--) examine_one(in, random_frame(in));
     set_end();
-    say(relays_owed(0) >= thousands && relays_owed(22) >= thousands && relays_owed(41) >= thousands && relays_owed(42) >= thousands &&
-            relays_owed(43) >= thousands,
+    say(owed(0) >= thousands && owed(22) >= thousands && owed(41) >= thousands && owed(42) >= thousands &&
+            owed(43) >= thousands,
         "one random frame in four hundred or more reaches each number of relaying");
     set_begin("canonical frames and damaged copies of them");
     for (unsigned long n = thousands * 100; n > 0; n--) {

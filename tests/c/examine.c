@@ -1,128 +1,25 @@
-#define _GNU_SOURCE
 #include "examine.h"
 
-#include <signal.h>
 #include <stdio.h>
-#include <stdlib.h>
 #include <string.h>
-#include <unistd.h>
 
 #include "ax25.h"
 #include "lent.h"
-
-enum check { NUMBER, CANONICAL, LENGTH, REENCODED, RELAYED, BEYOND, REFUSED, GUARDS, INPUT, AGREE, CHECKS };
-
-static const char *const names[CHECKS] = {
-    "ax25_decode gives the number",
-    "ax25_canonical gives 1 or 0",
-    "ax25_reencoded_length gives the length",
-    "ax25_reencode gives the number and the octets",
-    "ax25_relay gives the number and the octets",
-    "octets beyond the written length stay",
-    "a refusal leaves the output alone, and the frame to be relayed",
-    "guard octets stay",
-    "the input and the callsign stay",
-    "the five calls agree",
-};
-
-static const char *set = "start";
-static unsigned long inputs, looked[CHECKS], missed[CHECKS];
-static unsigned failed;
+#include "sets.h"
 
 static struct arena input_arena, output_arena;
-static const uint8_t *current;
-static size_t current_len;
 static const struct address *relaying; /* by whom; NULL while another call is looked at */
-static unsigned long owed[64];     /* relays of this set, by number */
 
-void say(int holds, const char *what) {
-    printf("%s: %s\n", holds ? "ok" : "FAILED", what);
-    failed += !holds;
-}
-
-unsigned failures(void) { return failed; }
-
-size_t from_hex(const char *text, uint8_t *octets) {
-    size_t len = 0;
-    char *end;
-    for (;;) {
-        unsigned long octet = strtoul(text, &end, 16);
-        if (end == text) return len;
-        octets[len++] = (uint8_t)octet;
-        text = end;
-    }
-}
-
-static void show_input(void) {
-    size_t shown = current_len < 400 ? current_len : 400;
-    printf("  input of %zu octets:", current_len);
-    for (size_t i = 0; i < shown; i++) printf(" %02X", current[i]);
-    printf(shown < current_len ? " ..\n" : "\n");
-    if (!relaying) return;
+static void show_station(void) {
     printf("  relayed by SSID %u and the callsign of %zu octets:", relaying->ssid, relaying->len);
     for (size_t i = 0; i < relaying->len && i < 20; i++) printf(" %02X", relaying->callsign[i]);
     printf(relaying->len > 20 ? " ..\n" : "\n");
 }
 
-/* Not safe in a handler by the letter, but the program is at its end and nothing else of it runs. */
-static void on_stray(int signal_number) {
-    printf("FAILED: %s: a call stopped with signal %d: it touched memory that was not lent, or worse\n", set, signal_number);
-    show_input();
-    fflush(stdout);
-    _exit(1);
-}
-
 void examine_begin(void) {
-    setvbuf(stdout, NULL, _IOLBF, 0);
+    sets_begin();
     input_arena = arena_new(LONGEST + 65536);
     output_arena = arena_new(LONGEST + 65536);
-    signal(SIGSEGV, on_stray);
-    signal(SIGBUS, on_stray);
-    signal(SIGILL, on_stray);
-    signal(SIGFPE, on_stray);
-}
-
-void set_begin(const char *name) {
-    set = name;
-    inputs = 0;
-    memset(looked, 0, sizeof looked);
-    memset(missed, 0, sizeof missed);
-    memset(owed, 0, sizeof owed);
-}
-
-unsigned long relays_owed(unsigned number) { return owed[number]; }
-
-void set_end_brief(void) {
-    char line[200];
-    unsigned long all = 0, wrong = 0;
-    for (int c = 0; c < CHECKS; c++) {
-        all += looked[c];
-        wrong += missed[c];
-    }
-    snprintf(line, sizeof line, "%s: all that is owed (%lu of %lu looks failed)", set, wrong, all);
-    say(all > 0 && wrong == 0, line);
-}
-
-void set_end(void) {
-    char line[200];
-    for (int c = 0; c < CHECKS; c++) {
-        if (missed[c]) snprintf(line, sizeof line, "%s: %s (%lu of %lu failed)", set, names[c], missed[c], looked[c]);
-        else snprintf(line, sizeof line, "%s: %s (%lu inputs, %lu looks)", set, names[c], inputs, looked[c]);
-        if (looked[c]) say(missed[c] == 0, line);
-    }
-    snprintf(line, sizeof line, "%s: there are inputs", set);
-    if (inputs == 0) say(0, line);
-}
-
-/* Counts a look. The first failures of a check in a set are shown. */
-static int look(enum check c, int holds, unsigned long want, unsigned long got) {
-    looked[c]++;
-    if (holds) return 1;
-    if (missed[c]++ < 3) {
-        printf("  %s: %s: wanted %lu, got %lu\n", set, names[c], want, got);
-        show_input();
-    }
-    return 0;
 }
 
 /* `in` was lent to be read and held `octets`; `out` was lent to be written. */
@@ -131,21 +28,15 @@ static void look_at_lent(const struct lent *in, const uint8_t *octets, const str
     look(INPUT, in->len == 0 || memcmp(in->at, octets, in->len) == 0, 1, 0);
 }
 
-static int filled_with(const uint8_t *octets, size_t len, uint8_t value) {
-    for (size_t i = 0; i < len; i++)
-        if (octets[i] != value) return 0;
-    return 1;
-}
-
 /* Re-encodes into a buffer of `room` octets. */
-static void reencode_with(const struct lent *in, const struct answer *want, unsigned place, size_t room) {
+static void reencode_with(const struct lent *in, const uint8_t *octets, const struct answer *want, unsigned place, size_t room) {
     struct lent out = lend(&output_arena, (enum place)place, room);
     uint8_t paint = fresh_paint();
     memset(out.at, paint, room);
     unsigned number = ax25_reencode(in->at, in->len, out.at, room);
     unsigned due = want->number ? want->number : room < want->length ? AX25_NO_ROOM : AX25_ACCEPTED;
     look(REENCODED, number == due, due, number);
-    look_at_lent(in, current, &out);
+    look_at_lent(in, octets, &out);
     if (due != AX25_ACCEPTED) {
         look(REFUSED, filled_with(out.at, room, paint), 1, 0);
         return;
@@ -172,13 +63,6 @@ static void look_at_agreement(const struct lent *in, unsigned number, unsigned c
     look(AGREE, ax25_reencoded_length(out.at, length) == length, length, ax25_reencoded_length(out.at, length));
 }
 
-/* A buffer of the arena that holds these octets. */
-static struct lent lend_octets(const struct arena *arena, unsigned place, const uint8_t *octets, size_t len) {
-    struct lent l = lend(arena, (enum place)place, len);
-    if (len) memcpy(l.at, octets, len);
-    return l;
-}
-
 /* Decoding a relayed frame gives the same frame with that one mark set: its re-encoding has it too, and is else as before. */
 static void look_at_relayed(const uint8_t *before, const uint8_t *after, size_t len, size_t due) {
     static uint8_t wanted[LONGEST], got[LONGEST];
@@ -195,9 +79,8 @@ static void look_at_relayed(const uint8_t *before, const uint8_t *after, size_t 
 static void relay_once(const uint8_t *octets, size_t len, const struct relayed *want, unsigned place) {
     struct lent callsign = lend_octets(&input_arena, place / PLACES, relaying->callsign, relaying->len);
     struct lent frame = lend_octets(&output_arena, place % PLACES, octets, len);
-    current = octets;
-    current_len = len;
-    owed[want->number]++;
+    look_from(octets, len, show_station);
+    owe(want->number);
     unsigned number = ax25_relay(callsign.at, callsign.len, relaying->ssid, frame.at, len);
     look(RELAYED, number == want->number, want->number, number);
     look(want->number == 0 ? RELAYED : REFUSED, len == 0 || memcmp(frame.at, want->octets, len) == 0, 1, 0);
@@ -248,7 +131,7 @@ static void relay_by_stations(const uint8_t *octets, size_t len, unsigned place)
 }
 
 void examine_relay(const struct address *own, const uint8_t *octets, size_t len, const struct relayed *want, unsigned place) {
-    inputs++;
+    count_input();
     relay(own, octets, len, want, place);
 }
 
@@ -258,9 +141,8 @@ void examine_relay_everywhere(const struct address *own, const uint8_t *octets, 
 
 void examine(const uint8_t *octets, size_t len, const struct answer *want, unsigned place) {
     struct lent in = lend_octets(&input_arena, place, octets, len);
-    inputs++;
-    current = octets;
-    current_len = len;
+    count_input();
+    look_from(octets, len, NULL);
 
     unsigned number = ax25_decode(in.at, len);
     look(NUMBER, number == want->number, want->number, number);
@@ -273,13 +155,13 @@ void examine(const uint8_t *octets, size_t len, const struct answer *want, unsig
     look_at_lent(&in, octets, NULL);
 
     size_t exact = want->length;
-    reencode_with(&in, want, place, 0);
-    reencode_with(&in, want, place, exact);
-    reencode_with(&in, want, place, exact + 1);
-    reencode_with(&in, want, place, exact + 77);
+    reencode_with(&in, octets, want, place, 0);
+    reencode_with(&in, octets, want, place, exact);
+    reencode_with(&in, octets, want, place, exact + 1);
+    reencode_with(&in, octets, want, place, exact + 77);
     if (exact) {
-        reencode_with(&in, want, place, exact - 1);
-        reencode_with(&in, want, place, exact / 2);
+        reencode_with(&in, octets, want, place, exact - 1);
+        reencode_with(&in, octets, want, place, exact / 2);
     }
     look_at_agreement(&in, number, canonical, length);
     relay_by_stations(octets, len, place);

@@ -1,4 +1,4 @@
-/* All that the five calls owe on one input, looked at. Inputs come in sets; each set prints one line a check. */
+/* All that the five calls on frames owe on one input, looked at. */
 #ifndef EXAMINE_H
 #define EXAMINE_H
 
@@ -7,11 +7,7 @@
 /* Ready the buffers, and have a stray access reported as a failure. */
 void examine_begin(void);
 
-void set_begin(const char *name);
-void set_end(void);
-void set_end_brief(void); /* one line for all checks */
-
-/* Every call, in one of the places that a buffer can have, held to the answer. The relay is held to the model: by the station that
+/* Each of them, in one of the places that a buffer can have, held to the answer. The relay is held to the model: by the station that
    is due, and by one that differs from it in one bit or is none. */
 void examine(const uint8_t *in, size_t len, const struct answer *want, unsigned place);
 
@@ -23,17 +19,5 @@ void examine_everywhere(const uint8_t *in, size_t len, const struct answer *want
 enum { RELAY_PLACES = 9 };
 void examine_relay(const struct address *own, const uint8_t *in, size_t len, const struct relayed *want, unsigned place);
 void examine_relay_everywhere(const struct address *own, const uint8_t *in, size_t len, const struct relayed *want);
-
-/* How many relays of this set were owed that number. */
-unsigned long relays_owed(unsigned number);
-
-/* Octets from their hex digits; gives how many. */
-size_t from_hex(const char *text, uint8_t *octets);
-
-/* One check by itself: a line `ok: ..` or `FAILED: ..`. */
-void say(int holds, const char *what);
-
-/* How many failed so far. */
-unsigned failures(void);
 
 #endif

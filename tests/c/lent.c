@@ -74,4 +74,14 @@ struct lent lend(const struct arena *arena, enum place place, size_t len) {
     return l;
 }
 
+struct lent lend_octets(const struct arena *arena, enum place place, const uint8_t *octets, size_t len) {
+    struct lent l = lend(arena, place, len);
+    if (len) memcpy(l.at, octets, len);
+    return l;
+}
+
 int guards_hold(const struct lent *l) { return guard_holds(l, guard_before(l)) && guard_holds(l, guard_after(l)); }
+
+int filled_with(const uint8_t *octets, size_t len, uint8_t value) {
+    return len == 0 || (octets[0] == value && memcmp(octets, octets + 1, len - 1) == 0);
+}

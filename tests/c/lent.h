@@ -27,10 +27,16 @@ struct arena arena_new(size_t size);
 /* A buffer of the arena with fresh guards. Its own octets hold whatever they held. */
 struct lent lend(const struct arena *arena, enum place place, size_t len);
 
+/* One that holds these octets. */
+struct lent lend_octets(const struct arena *arena, enum place place, const uint8_t *octets, size_t len);
+
 /* Whether no guard octet has changed. */
 int guards_hold(const struct lent *lent);
 
 /* A paint that differs from call to call, so that no fault can hit on it each time. */
 uint8_t fresh_paint(void);
+
+/* Whether every octet is `value`. */
+int filled_with(const uint8_t *octets, size_t len, uint8_t value);
 
 #endif

@@ -5,6 +5,8 @@
 
 #include "ax25.h"
 #include "examine.h"
+#include "say.h"
+#include "sets.h"
 
 /* GAUGE and BOX12-3; repeaters without their last octet, which has the SSID, the mark and the end bit; four repeaters HILL1-2. */
 #define PEERS "8E 82 AA 8E 8A 40 E0 84 9E B0 62 64 40 66 "

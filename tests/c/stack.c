@@ -6,6 +6,7 @@
 
 #include "ax25.h"
 #include "examine.h"
+#include "say.h"
 
 /* The bound of document 02's M-101: the small board leaves 3 KiB of stack. The header may not state more. */
 #define M101_STACK 3072

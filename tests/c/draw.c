@@ -1,0 +1,40 @@
+#include "draw.h"
+
+#include <string.h>
+
+static uint64_t state;
+
+void draw_from(uint64_t seed) { state = seed; }
+
+/* splitmix64 */
+static uint64_t draw(void) {
+    uint64_t z = state += 0x9E3779B97F4A7C15u;
+    z = (z ^ z >> 30) * 0xBF58476D1CE4E5B9u;
+    z = (z ^ z >> 27) * 0x94D049BB133111EBu;
+    return z ^ z >> 31;
+}
+
+unsigned below(unsigned bound) { return (unsigned)(draw() >> 32) % bound; }
+int one_in(unsigned n) { return below(n) == 0; }
+
+size_t damage(uint8_t *in, size_t len) {
+    size_t at = len ? below((unsigned)len) : 0;
+    if (len == 0) return len;
+    switch (below(6)) {
+    case 0: in[at] ^= (uint8_t)(1u << below(8)); return len;
+    case 1: in[at] = (uint8_t)below(256); return len;
+    case 2: memmove(in + at, in + at + 1, len - at - 1); return len - 1;
+    case 3:
+        memmove(in + at + 1, in + at, len - at);
+        in[at] = (uint8_t)below(256);
+        return len + 1;
+    case 4: return at;
+    default: {
+        size_t other = below((unsigned)len);
+        uint8_t kept = in[at];
+        in[at] = in[other];
+        in[other] = kept;
+        return len;
+    }
+    }
+}

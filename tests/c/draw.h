@@ -1,0 +1,16 @@
+/* Random numbers from a seed, the same on every host, and damage done by them. */
+#ifndef DRAW_H
+#define DRAW_H
+
+#include <stddef.h>
+#include <stdint.h>
+
+void draw_from(uint64_t seed);
+unsigned below(unsigned bound);
+int one_in(unsigned n);
+
+/* One damage to the octets: a bit, an octet, an octet less or more, an end cut off, or two octets swapped. Gives their new number;
+   there is room for one more. */
+size_t damage(uint8_t *in, size_t len);
+
+#endif

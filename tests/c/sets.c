@@ -1,0 +1,103 @@
+#define _GNU_SOURCE
+#include "sets.h"
+
+#include <signal.h>
+#include <stdio.h>
+#include <string.h>
+#include <unistd.h>
+
+#include "say.h"
+
+static const char *const names[CHECKS] = {
+    "ax25_decode gives the number",
+    "ax25_canonical gives 1 or 0",
+    "ax25_reencoded_length gives the length",
+    "ax25_reencode gives the number and the octets",
+    "ax25_relay gives the number and the octets",
+    "octets beyond the written length stay",
+    "a refusal leaves the output alone, and the frame to be relayed",
+    "guard octets stay",
+    "the input and the callsign stay",
+    "the five calls on frames agree",
+};
+
+static const char *set = "start";
+static unsigned long inputs, looked[CHECKS], missed[CHECKS], owed_by_number[64];
+static const uint8_t *current;
+static size_t current_len;
+static void (*show_beside)(void);
+
+static void show_input(void) {
+    size_t shown = current_len < 400 ? current_len : 400;
+    printf("  input of %zu octets:", current_len);
+    for (size_t i = 0; i < shown; i++) printf(" %02X", current[i]);
+    printf(shown < current_len ? " ..\n" : "\n");
+    if (show_beside) show_beside();
+}
+
+/* Not safe in a handler by the letter, but the program is at its end and nothing else of it runs. */
+static void on_stray(int signal_number) {
+    printf("FAILED: %s: a call stopped with signal %d: it touched memory that was not lent, or worse\n", set, signal_number);
+    show_input();
+    fflush(stdout);
+    _exit(1);
+}
+
+void sets_begin(void) {
+    setvbuf(stdout, NULL, _IOLBF, 0);
+    signal(SIGSEGV, on_stray);
+    signal(SIGBUS, on_stray);
+    signal(SIGILL, on_stray);
+    signal(SIGFPE, on_stray);
+}
+
+void set_begin(const char *name) {
+    set = name;
+    inputs = 0;
+    memset(looked, 0, sizeof looked);
+    memset(missed, 0, sizeof missed);
+    memset(owed_by_number, 0, sizeof owed_by_number);
+}
+
+void set_end_brief(void) {
+    char line[200];
+    unsigned long all = 0, wrong = 0;
+    for (int c = 0; c < CHECKS; c++) {
+        all += looked[c];
+        wrong += missed[c];
+    }
+    snprintf(line, sizeof line, "%s: all that is owed (%lu of %lu looks failed)", set, wrong, all);
+    say(all > 0 && wrong == 0, line);
+}
+
+void set_end(void) {
+    char line[200];
+    for (int c = 0; c < CHECKS; c++) {
+        if (missed[c]) snprintf(line, sizeof line, "%s: %s (%lu of %lu failed)", set, names[c], missed[c], looked[c]);
+        else snprintf(line, sizeof line, "%s: %s (%lu inputs, %lu looks)", set, names[c], inputs, looked[c]);
+        if (looked[c]) say(missed[c] == 0, line);
+    }
+    snprintf(line, sizeof line, "%s: there are inputs", set);
+    if (inputs == 0) say(0, line);
+}
+
+void count_input(void) { inputs++; }
+
+void look_from(const uint8_t *octets, size_t len, void (*beside)(void)) {
+    current = octets;
+    current_len = len;
+    show_beside = beside;
+}
+
+int look(enum check c, int holds, unsigned long want, unsigned long got) {
+    looked[c]++;
+    if (holds) return 1;
+    if (missed[c]++ < 3) {
+        printf("  %s: %s: wanted %lu, got %lu\n", set, names[c], want, got);
+        show_input();
+    }
+    return 0;
+}
+
+void owe(unsigned number) { owed_by_number[number]++; }
+unsigned long owed(unsigned number) { return owed_by_number[number]; }

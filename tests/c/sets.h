@@ -1,0 +1,31 @@
+/* Inputs come in sets; each set counts its looks by check and prints one line a check. */
+#ifndef SETS_H
+#define SETS_H
+
+#include <stddef.h>
+#include <stdint.h>
+
+enum check { NUMBER, CANONICAL, LENGTH, REENCODED, RELAYED, BEYOND, REFUSED, GUARDS, INPUT, AGREE, CHECKS };
+
+/* Has a stray access reported as a failure, with the set and the input. */
+void sets_begin(void);
+
+void set_begin(const char *name);
+void set_end(void);
+void set_end_brief(void); /* one line for all checks */
+
+/* One more input of this set. */
+void count_input(void);
+
+/* The octets that are looked at from now on, to be shown where a look fails; `beside`, where it is not NULL, shows what else the
+   call is given. */
+void look_from(const uint8_t *octets, size_t len, void (*beside)(void));
+
+/* Counts a look. The first failures of a check in a set are shown. */
+int look(enum check c, int holds, unsigned long want, unsigned long got);
+
+/* Counts a call of this set that is owed a number, which is below 64; how many were. */
+void owe(unsigned number);
+unsigned long owed(unsigned number);
+
+#endif
