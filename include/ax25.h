@@ -1,15 +1,19 @@
 /* AX.25 frames for the relay box: the calls of libax25frame.a, for x86-64.
 
-   Five calls on octets that the caller lends. Each is proved to give exactly the answer that its contract states, for every
-   input, to read and write nothing but what is lent to it, and to return.
+   Seven calls on octets that the caller lends: five on frames, and two on the KISS packets that carry frames to a modem and
+   back. Each is proved to give exactly the answer that its contract states, for every input, to read and write nothing but
+   what is lent to it, and to return.
 
    What every call asks of its caller:
    - `in` and `callsign` point to `in_len` and `callsign_len` octets that may be read, `out` to `out_len` octets that may be
-     written, `frame` to `frame_len` octets that may be read and written. No octet is kept or looked at after the return, and
-     `in` and `callsign` are never written.
+     written, `frame` to `frame_len` octets that may be read and written. `port`, where it is a pointer, points to one uint8_t and
+     `length` to one size_t that may be written; what they held does not matter. No octet is kept or looked at after the return,
+     and `in` and `callsign` are never written.
    - No pointer is null. Where a length is 0, any pointer that is not null will do.
-   - `in` and `out` do not overlap, not even in part, and neither do `callsign` and `frame`.
-   - No alignment is asked, and no length is too long or too short: whatever can't be read as a frame gets a number.
+   - What is lent to one call does not overlap, not even in part: `in` and `out`, `callsign` and `frame`, and with `in` and `out`
+     also `port` and `length`.
+   - `length` is aligned as C aligns a size_t. No other alignment is asked, and no length is too long or too short: whatever
+     can't be read as a frame or as a packet gets a number.
    - The calling convention is that of System V for x86-64: a stack aligned to 16 octets, and SSE2 usable.
 
    What every call leaves alone: there is no heap, no state, no input or output and no lock. So any call may run at the same time
@@ -28,8 +32,8 @@ extern "C" {
 /* No call uses more stack than this, in octets, its return address included. What memcpy and memset use comes on top. */
 #define AX25_STACK 1024
 
-/* Every number that the component gives. The five calls give 0 to 9, 22, 24 and 41 to 43; the others belong to parts that C does
-   not reach: writing records, text and the dumper. */
+/* Every number that the component gives. The seven calls give 0 to 9, 22, 24, 41 to 43 and 51 to 56; the others belong to parts
+   that C does not reach: writing records, text and the dumper. */
 enum ax25_number {
     AX25_ACCEPTED = 0,
 
@@ -45,7 +49,7 @@ enum ax25_number {
     AX25_WRONG_SIZE_FRMR_INFO = 8,     /* an FRMR whose content is not four octets */
     AX25_TOO_MANY_REPEATERS = 9,       /* nine or more repeaters */
 
-    /* Writing a frame, printing an address, and our own address when relaying. */
+    /* Writing a frame, printing an address, and our own address when relaying; 24 also of KISS packets and their data. */
     AX25_ROUTE_TOO_LONG = 21,          /* a route count over 8 */
     AX25_NOT_ENCODABLE = 22,           /* an address in use has a character of 128 or more, or an SSID over 15; our own address
                                           also where its callsign has more than six octets */
@@ -65,7 +69,15 @@ enum ax25_number {
     AX25_BROKEN_MARKS = 43,            /* a repeater after the first unmarked one is marked */
 
     /* The dumper alone. */
-    AX25_INPUT_TOO_LONG = 50           /* more than 4,096 octets */
+    AX25_INPUT_TOO_LONG = 50,          /* more than 4,096 octets */
+
+    /* Reading a KISS packet, and the last also writing one. */
+    AX25_KISS_NO_OPENING = 51,         /* the first octet is not C0; the empty input too */
+    AX25_KISS_BAD_ESCAPE = 52,         /* a DB that is not followed by DC or DD */
+    AX25_KISS_NO_CLOSING = 53,         /* no C0 at the end, or octets after it */
+    AX25_KISS_NOT_DATA = 54,           /* a command other than 0 */
+    AX25_KISS_EMPTY = 55,              /* nothing between the two C0 */
+    AX25_KISS_PORT_TOO_HIGH = 56       /* a port over 11 */
 };
 
 /* Whether the input can be read as a frame: AX25_ACCEPTED, or the first of 1, 2, 3, 4, 9, 5, 6, 7, 8 that holds. */
@@ -110,6 +122,42 @@ size_t ax25_reencoded_length(const uint8_t *in, size_t in_len);
    - clears FRMR's unnamed bits.
    A canonical frame has none of these and re-encodes as itself. */
 uint32_t ax25_reencode(const uint8_t *in, size_t in_len, uint8_t *out, size_t out_len);
+
+/* KISS packets: how a modem is given a frame, and how it gives one. A packet is C0; a type octet with the port, 0 to 11, in its
+   high half and the command in its low half, which is 0 for data; the data, in which C0 is written as DB DC and DB as DB DD; and
+   C0. So no C0 stands inside, and each packet has one spelling. The data is a frame, or any other octets, or none: the calls do not
+   look what it is.
+
+   Both calls are on one packet, whole. A serial line, which gives pieces and several packets in a row, is not yet handled: its
+   octets have to be cut into packets first, each from its opening C0 to its closing one. A C0 that closes one packet and opens the
+   next is not accepted here: each packet has its own two. */
+
+/* Reads one packet. Where it is accepted, the answer is AX25_ACCEPTED, *port is its port, *length is how many octets of data it
+   has, and those stand at the start of `out`; the octets of `out` beyond them stay as they were.
+
+   Otherwise *port and *length are 0, all of `out` stays as it was, and the answer is the first of these that is met from the
+   first octet to the last. What follows the closing C0, which is the first C0 after the opening one, is not looked at.
+   - AX25_KISS_NO_OPENING: the first octet is not C0, or there is none;
+   - AX25_KISS_EMPTY: the second octet is C0, whatever follows;
+   - AX25_KISS_BAD_ESCAPE: a DB is not followed by DC or DD, or is the last octet;
+   - AX25_KISS_NOT_DATA: the low half of the type octet is not 0;
+   - AX25_KISS_PORT_TOO_HIGH: its low half is 0, and its high half is over 11;
+   - AX25_KISS_NO_CLOSING: the octets end without a closing C0, or go on after it, whatever follows;
+   - AX25_NO_ROOM: none of these is met, and out_len is below the number of data octets.
+   The type octet is looked at after its escape is removed, so that DB DC there is port 12, and DB DD is a command other than 0.
+   Room of in_len octets is always enough; a packet that is accepted has in_len - 3 octets of data or fewer. */
+uint32_t ax25_kiss_read(const uint8_t *in, size_t in_len, uint8_t *out, size_t out_len, uint8_t *port, size_t *length);
+
+/* Writes one packet with `in` as its data. Where it is accepted, the answer is AX25_ACCEPTED, *length is the packet's length, and the
+   packet stands at the start of `out`; the octets of `out` beyond it stay as they were. Its length is in_len + 3 and one more
+   for each C0 and each DB of the data. Reading that packet gives the port and the data, and writing what was read
+   gives the packet.
+
+   Otherwise *length is 0, all of `out` stays as it was, and the answer is the first of these that holds:
+   - AX25_KISS_PORT_TOO_HIGH: the port is over 11;
+   - AX25_NO_ROOM: out_len is below the packet's length.
+   Room of 2 * in_len + 3 octets is always enough. */
+uint32_t ax25_kiss_write(uint8_t port, const uint8_t *in, size_t in_len, uint8_t *out, size_t out_len, size_t *length);
 
 #ifdef __cplusplus
 }
