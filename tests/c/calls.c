@@ -1,4 +1,5 @@
-/* The five calls on document 01's examples, on every octet string of length 0 to 2, and on random, damaged and long frames.
+/* The seven calls: those on frames on document 01's examples, on every octet string of length 0 to 2, and on random, damaged and
+   long frames; the relay and KISS by relays.c and kiss.c.
    usage: calls [THOUSANDS [SEED]]: that many thousand random inputs */
 #include <stdio.h>
 #include <stdlib.h>
@@ -7,6 +8,7 @@
 #include "ax25.h"
 #include "draw.h"
 #include "examine.h"
+#include "kiss.h"
 #include "relays.h"
 #include "say.h"
 #include "sets.h"
@@ -294,6 +296,7 @@ int main(int argc, char **argv) {
     run_contents();
     run_long();
     run_relays();
+    run_kiss(thousands, seed);
     run_random(thousands, seed);
     return failures() != 0;
 }

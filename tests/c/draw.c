@@ -38,3 +38,16 @@ size_t damage(uint8_t *in, size_t len) {
     }
     }
 }
+
+static uint8_t filler(enum filling filling, size_t i) {
+    switch (filling) {
+    case TEXT: return (uint8_t)(' ' + i % 95);
+    case ANY_OCTETS: return (uint8_t)below(256);
+    case ALL_C0: return 0xC0;
+    default: return 0xDB;
+    }
+}
+
+void fill(uint8_t *out, size_t len, enum filling filling) {
+    for (size_t i = 0; i < len; i++) out[i] = filler(filling, i);
+}

@@ -13,4 +13,8 @@ int one_in(unsigned n);
    there is room for one more. */
 size_t damage(uint8_t *in, size_t len);
 
+/* Data that is easy or hard on KISS: text, in which no octet is escaped; random octets; all C0; all DB. */
+enum filling { TEXT, ANY_OCTETS, ALL_C0, ALL_DB, FILLINGS };
+void fill(uint8_t *out, size_t len, enum filling filling);
+
 #endif

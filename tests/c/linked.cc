@@ -14,6 +14,12 @@ int main() {
                 ax25_reencode(frame, sizeof frame, out, 14) == AX25_NO_ROOM && out[14] == 0x01 && out[15] == 0 &&
                 ax25_relay(hill, sizeof hill, 2, routed, sizeof routed) == AX25_ACCEPTED && routed[20] == 0xE5 &&
                 ax25_relay(hill, sizeof hill, 2, routed, sizeof routed) == AX25_ROUTE_USED_UP;
+    const uint8_t data[] = {'O', 0xC0, 'K'};
+    uint8_t packet[2 * sizeof data + 3], port = 0;
+    size_t length = 0;
+    held = held && ax25_kiss_write(11, data, sizeof data, packet, sizeof packet, &length) == AX25_ACCEPTED && length == 7 && packet[3] == 0xDB &&
+           ax25_kiss_read(packet, length, out, 3, &port, &length) == AX25_ACCEPTED && port == 11 && length == 3 && out[1] == 0xC0 &&
+           ax25_kiss_read(packet, 6, out, 3, &port, &length) == AX25_KISS_NO_CLOSING && port == 0 && length == 0;
     printf("%s: a C++ program links the archive\n", held ? "ok" : "FAILED");
     return held ? 0 : 1;
 }

@@ -14,11 +14,16 @@ static const char *const names[CHECKS] = {
     "ax25_reencoded_length gives the length",
     "ax25_reencode gives the number and the octets",
     "ax25_relay gives the number and the octets",
+    "ax25_kiss_read gives the number, the port, the length and the data",
+    "ax25_kiss_write gives the number, the length and the packet",
     "octets beyond the written length stay",
     "a refusal leaves the output alone, and the frame to be relayed",
+    "a refusal gives port 0 and length 0",
     "guard octets stay",
     "the input and the callsign stay",
     "the five calls on frames agree",
+    "reading and writing undo each other",
+    "the plain C gives the same",
 };
 
 static const char *set = "start";

@@ -5,7 +5,7 @@
 #include <stddef.h>
 #include <stdint.h>
 
-enum check { NUMBER, CANONICAL, LENGTH, REENCODED, RELAYED, BEYOND, REFUSED, GUARDS, INPUT, AGREE, CHECKS };
+enum check { NUMBER, CANONICAL, LENGTH, REENCODED, RELAYED, READ, WRITTEN, BEYOND, REFUSED, CLEARED, GUARDS, INPUT, AGREE, UNDONE, PLAIN, CHECKS };
 
 /* Has a stray access reported as a failure, with the set and the input. */
 void sets_begin(void);

@@ -17,8 +17,8 @@
 
 static _Alignas(16) uint8_t stack[SIZE];
 
-/* Calls `call` with five arguments on the stack that ends at `top`, which is aligned to 16. */
-uint64_t on_stack(uint8_t *top, uint64_t call, uint64_t a, uint64_t b, uint64_t c, uint64_t d, uint64_t e);
+/* Calls `call` with six arguments on the stack that ends at `top`, which is aligned to 16. */
+uint64_t on_stack(uint8_t *top, uint64_t call, uint64_t a, uint64_t b, uint64_t c, uint64_t d, uint64_t e, uint64_t f);
 __asm__(".text\n"
         ".type on_stack, @function\n"
         "on_stack:\n"
@@ -31,18 +31,20 @@ __asm__(".text\n"
         "    movq %r8, %rdx\n"
         "    movq %r9, %rcx\n"
         "    movq 16(%rbp), %r8\n"
+        "    movq 24(%rbp), %r9\n"
         "    callq *%rax\n"
         "    movq %rbp, %rsp\n"
         "    popq %rbp\n"
         "    retq\n"
         ".size on_stack, . - on_stack\n");
 
-enum call { DECODE, CANONICAL, LENGTH, REENCODE, RELAY, CALLS };
-static const char *const names[CALLS] = {"ax25_decode", "ax25_canonical", "ax25_reencoded_length", "ax25_reencode", "ax25_relay"};
+enum call { DECODE, CANONICAL, LENGTH, REENCODE, RELAY, KISS_READ, KISS_WRITE, CALLS };
+static const char *const names[CALLS] = {"ax25_decode", "ax25_canonical", "ax25_reencoded_length", "ax25_reencode", "ax25_relay",
+                                          "ax25_kiss_read", "ax25_kiss_write"};
 static size_t deepest[CALLS];
 
-static uint8_t in[1024], out[1024];
-static size_t in_len;
+static uint8_t in[1024], out[1024], port;
+static size_t in_len, length;
 
 static uint64_t address_of(enum call call) {
     switch (call) {
@@ -50,31 +52,35 @@ static uint64_t address_of(enum call call) {
     case CANONICAL: return (uint64_t)(uintptr_t)ax25_canonical;
     case LENGTH: return (uint64_t)(uintptr_t)ax25_reencoded_length;
     case REENCODE: return (uint64_t)(uintptr_t)ax25_reencode;
-    default: return (uint64_t)(uintptr_t)ax25_relay;
+    case RELAY: return (uint64_t)(uintptr_t)ax25_relay;
+    case KISS_READ: return (uint64_t)(uintptr_t)ax25_kiss_read;
+    default: return (uint64_t)(uintptr_t)ax25_kiss_write;
     }
 }
 
 static uint64_t pointer(const void *at) { return (uint64_t)(uintptr_t)at; }
 
-/* The relay is by AAAAAA, the callsign of every repeater of `make`, whose SSID is 0. */
+/* The relay is by AAAAAA, the callsign of every repeater of `make`, whose SSID is 0; a packet is written for that number as its port. */
 static size_t used_by(enum call call, size_t room, uint8_t ssid, uint8_t paint) {
     memset(stack + SIZE - PAINTED, paint, PAINTED);
     if (call == RELAY) {
         memcpy(out, in, in_len);
-        on_stack(stack + SIZE, address_of(call), pointer("AAAAAA"), 6, ssid, pointer(out), in_len);
+        on_stack(stack + SIZE, address_of(call), pointer("AAAAAA"), 6, ssid, pointer(out), in_len, 0);
+    } else if (call == KISS_WRITE) {
+        on_stack(stack + SIZE, address_of(call), ssid, pointer(in), in_len, pointer(out), room, pointer(&length));
     } else {
-        on_stack(stack + SIZE, address_of(call), pointer(in), in_len, pointer(out), room, 0);
+        on_stack(stack + SIZE, address_of(call), pointer(in), in_len, pointer(out), room, pointer(&port), pointer(&length));
     }
     size_t low = SIZE - PAINTED;
     while (low < SIZE && stack[low] == paint) low++;
     return SIZE - low;
 }
 
-/* The relay by the station that is due, by another, and by one that is none. */
+/* The relay by the station that is due, by another, and by one that is none; a packet for two ports and for none. */
 static void measure(size_t room) {
     static const uint8_t ssids[] = {0, 1, 16};
     for (int call = 0; call < CALLS; call++) {
-        for (int turn = 0; turn < (call == RELAY ? 6 : 2); turn++) {
+        for (int turn = 0; turn < (call == RELAY || call == KISS_WRITE ? 6 : 2); turn++) {
             size_t used = used_by((enum call)call, room, ssids[turn / 2], turn % 2 ? 0x5A : 0xA5);
             if (used > deepest[call]) deepest[call] = used;
         }
@@ -93,11 +99,33 @@ static void make(size_t nulls, size_t repeaters, unsigned control, size_t conten
     if (content) in[nulls + 7 * groups] = (uint8_t)control;
 }
 
+/* A KISS packet of this type with so many octets, its last replaced by `last`. */
+static void make_packet(unsigned type, unsigned octet, size_t count, unsigned last) {
+    memset(in, (int)octet, sizeof in);
+    in[0] = 0xC0;
+    in[1] = (uint8_t)type;
+    for (size_t i = 3; octet == 0xDB && i < sizeof in; i += 2) in[i] = i % 4 == 1 ? 0xDC : 0xDD;
+    in_len = 3 + count;
+    in[in_len - 1] = (uint8_t)last;
+}
+
+/* Packets that are accepted or refused by each number, with room and without. As data they are written. */
+static void measure_packets(void) {
+    static const unsigned types[] = {0x00, 0xB0, 0xC0, 0xD0, 0x01}, octets[] = {0x41, 0xC0, 0xDB}, lasts[] = {0xC0, 0xDB, 0x41};
+    static const size_t counts[] = {0, 1, 2, 3, 8, 9, 40, 300};
+    for (size_t i = 0; i < 5 * 3 * 3 * 8; i++) {
+        make_packet(types[i % 5], octets[i / 5 % 3], counts[i / 45], lasts[i / 15 % 3]);
+        measure(sizeof out);
+        measure(i % 3);
+    }
+}
+
 int main(void) {
     static const size_t contents[] = {0, 1, 2, 3, 4, 5, 300};
     examine_begin();
     in_len = 0;
     measure(0);
+    measure_packets();
     for (size_t repeaters = 0; repeaters <= 9; repeaters += repeaters == 1 ? 7 : 1)
         for (unsigned control = 0; control < 256; control++)
             for (size_t i = 0; i < sizeof contents / sizeof *contents; i++) {
