@@ -2,14 +2,17 @@
 
 use crate::check::Checker;
 use crate::classes::class;
+use crate::kiss;
 use crate::report::{self, Report};
 use crate::show;
 
-/// The frames of a capture, each with where it stands, and what was passed over.
+/// The frames of a capture, each with where it stands; the KISS packets, each with where it stands, its octets and how captures.py
+/// read it; and what was passed over.
 struct Capture {
     file: String,
     format: String,
     frames: Vec<(String, Vec<u8>)>,
+    packets: Vec<(String, Vec<u8>, kiss::Read)>,
     passed_over: Vec<String>,
 }
 
@@ -19,7 +22,7 @@ struct Read {
     refused: Vec<(String, String)>,
 }
 
-/// Compares every frame of every capture. Also how many captures could not be read; why is printed.
+/// Compares every frame and every KISS packet of every capture. Also how many captures could not be read; why is printed.
 pub fn compare(list: &str) -> Result<(Report, usize), String> {
     let read = read(list)?;
     let mut checker = Checker::new();
@@ -47,10 +50,14 @@ fn read(list: &str) -> Result<Read, String> {
                 file: file.to_string(),
                 format: format.to_string(),
                 frames: Vec::new(),
+                packets: Vec::new(),
                 passed_over: Vec::new(),
             }),
             (["refused", file, problem], _) => read.refused.push((file.to_string(), problem.to_string())),
             (["frame", place, octets], Some(capture)) => capture.frames.push((place.to_string(), show::unhex(octets)?)),
+            (["packet", place, octets, number, port, data], Some(capture)) => {
+                capture.packets.push((place.to_string(), show::unhex(octets)?, packet_read(number, port, data)?))
+            }
             (["passed over", what], Some(capture)) => capture.passed_over.push(what.to_string()),
             _ => return Err(format!("line {} is none that captures.py prints", i + 1)),
         }
@@ -58,11 +65,22 @@ fn read(list: &str) -> Result<Read, String> {
     Ok(read)
 }
 
+/// A reading of captures.py: a refusal has no port and no data, as the call gives 0 for both.
+fn packet_read(number: &str, port: &str, data: &str) -> Result<kiss::Read, String> {
+    let value = |text: &str| text.parse::<u32>().map_err(|_| format!("'{}' is no number", text));
+    match (value(number)?, u8::try_from(value(port)?), show::unhex(data)?) {
+        (0, Ok(port), data) => Ok(Ok((port, data))),
+        (number, Ok(0), data) if data.is_empty() => Ok(Err(number)),
+        _ => Err(format!("a packet with number {}, port {} and data {}", number, port, data)),
+    }
+}
+
 fn capture_json(capture: &Capture) -> String {
     report::object(&[
         ("file", report::string(&capture.file)),
         ("format", report::string(&capture.format)),
         ("frames", capture.frames.len().to_string()),
+        ("packets", capture.packets.len().to_string()),
         ("passed_over", report::list(capture.passed_over.iter().map(|note| report::string(note)))),
     ])
 }
@@ -80,4 +98,11 @@ fn compare_one(checker: &mut Checker, report: &mut Report, capture: &Capture) {
             class.octets_at(place, octets);
         }
     });
+    if !capture.packets.is_empty() {
+        class(checker, report, &format!("KISS packets of {} ({})", capture.file, capture.format), |class| {
+            for (place, octets, said) in &capture.packets {
+                class.packet_at(place, octets, said);
+            }
+        });
+    }
 }

@@ -4,6 +4,7 @@
 use crate::domain::{self, Listed};
 use crate::flat::{self, Flat, FlatAddress, ADDRESS, FLAT, KIND};
 use crate::inputs::{self, FIELD};
+use crate::kiss;
 use crate::lent::{rooms, Room, Tried, LONGER};
 use crate::oracle::{self, Refusal};
 use crate::port::{Beside, Port, HOPS, PLACES};
@@ -75,12 +76,16 @@ impl Checker {
 
     /// The whole output of the last call, cut after the octets that are owed.
     fn output(&self, owed: usize) -> String {
+        self.output_as(owed, show::left)
+    }
+
+    fn output_as(&self, owed: usize, shown: fn(&[u8]) -> String) -> String {
         if self.port.rest_is_as_it_was(0) {
             return "nothing".to_string();
         }
         let (owed, rest) = self.port.output().split_at(owed.min(self.port.output().len()));
         let touched = if self.port.rest_is_as_it_was(owed.len()) { "as it was" } else { "NOT as it was" };
-        format!("{} and then, {}, {}", show::left(owed), touched, show::hex(rest))
+        format!("{} and then, {}, {}", shown(owed), touched, show::hex(rest))
     }
 
     /// Octets off the air: decoded, written again, and by the loader's calls but the relay.
@@ -196,17 +201,21 @@ impl Checker {
     }
 
     /// What is owed in a room of this size: 24 where an accepted write doesn't fit, and a refusal writes nothing.
-    fn owed_in<'a>(&mut self, writer: Writer, room: usize, number: u32, octets: &'a [u8]) -> (u32, &'a [u8]) {
+    fn fitting<'a>(&mut self, writer: Writer, room: usize, number: u32, octets: &'a [u8]) -> (u32, &'a [u8]) {
         if number != 0 {
             return (number, &[]);
         }
         self.seen.room(writer, Room::of(room, octets.len()));
-        if room < octets.len() {
+        if room < octets.len() { (24, &[]) } else { (0, octets) }
+    }
+
+    /// The same of what the Rust writes too, whose output grows.
+    fn owed_in<'a>(&mut self, writer: Writer, room: usize, number: u32, octets: &'a [u8]) -> (u32, &'a [u8]) {
+        let owed = self.fitting(writer, room, number, octets);
+        if owed.0 == 24 {
             self.seen.listed(Listed::B4);
-            (24, &[])
-        } else {
-            (0, octets)
         }
+        owed
     }
 
     /// The record as `probe` reads it, flat again.
@@ -578,6 +587,112 @@ impl Checker {
         }
         let owed = oracle::accepted(&octets, &owed);
         self.decode(&octets, 0, [0, 0, 0, owed.info_start, owed.info_len], &owed.record);
+    }
+
+    /// A KISS packet of a capture, which captures.py read so.
+    pub fn captured_packet(&mut self, packet: &[u8], said: &kiss::Read) -> Vec<Difference> {
+        let owed = kiss::read(packet);
+        if *said != owed {
+            self.differ("read by captures.py, in the port's place", || show::packet(&owed), |_| show::packet(said));
+        }
+        self.packet(packet)
+    }
+
+    /// A KISS packet, read; where it is accepted, the port and the data that it holds are written, which has to give the packet.
+    pub fn packet(&mut self, packet: &[u8]) -> Vec<Difference> {
+        let owed = kiss::read(packet);
+        self.seen.packet(packet, &owed);
+        for room in self.packet_rooms(packet, &owed) {
+            self.read_packet(packet, &owed, room);
+        }
+        if let Ok((port, data)) = owed {
+            for room in self.rooms(Tried::Some, packet.len()) {
+                self.write_packet(port, &data, &Ok(packet.to_vec()), room);
+            }
+        }
+        self.finish()
+    }
+
+    fn packet_rooms(&mut self, packet: &[u8], owed: &kiss::Read) -> Vec<usize> {
+        match owed {
+            Ok((_, data)) => self.rooms(Tried::Each, data.len()).collect(),
+            Err(_) => self.refused_rooms(packet).collect(),
+        }
+    }
+
+    /// Number, port, length and data; a refusal gives port and length 0 and leaves the output alone.
+    fn read_packet(&mut self, packet: &[u8], owed: &kiss::Read, room: usize) {
+        if let Err(number) = owed {
+            self.seen.packet_refused_room(*number, room, packet.len());
+        }
+        let (number, port, data) = self.owed_of_reading(owed, room);
+        let read = self.port.kiss_read(packet, room);
+        if read != (number, port, data.len()) || !self.port.output_is(data) {
+            let says = |me: &Checker| {
+                format!("number {} port {} length {} data {}", read.0, read.1, read.2, me.output_as(data.len(), show::hex))
+            };
+            let owes = || format!("number {} port {} length {} data {}", number, port, data.len(), show::hex(data));
+            self.differ(&format!("reading a KISS packet into {} octets", room), owes, says);
+        }
+    }
+
+    fn owed_of_reading<'a>(&mut self, owed: &'a kiss::Read, room: usize) -> (u32, u8, &'a [u8]) {
+        let (number, port, data) = match owed {
+            Ok((port, data)) => (0, *port, &data[..]),
+            Err(number) => (*number, 0, &[][..]),
+        };
+        let (number, data) = self.fitting(Writer::PacketRead, room, number, data);
+        (number, if number == 0 { port } else { 0 }, data)
+    }
+
+    /// A port and data, written as a KISS packet, which is then read.
+    pub fn written_packet(&mut self, port: u8, data: &[u8]) -> Vec<Difference> {
+        let owed = kiss::write(port, data);
+        self.seen.written_packet(port, &owed);
+        let rooms: Vec<usize> = match &owed {
+            Ok(packet) => self.rooms(Tried::Each, packet.len()).collect(),
+            Err(_) => self.refused_rooms(data).collect(),
+        };
+        for room in rooms {
+            self.write_packet(port, data, &owed, room);
+        }
+        let mut found = self.finish();
+        found.extend(owed.iter().flat_map(|packet| self.packet(packet)));
+        found
+    }
+
+    fn write_packet(&mut self, port: u8, data: &[u8], owed: &Result<Vec<u8>, u32>, room: usize) {
+        if owed.is_err() {
+            self.seen.packet_write_refused_room(room, data.len());
+        }
+        let packet = owed.as_ref().map_or(&[][..], Vec::as_slice);
+        let (number, packet) = self.fitting(Writer::PacketWrite, room, owed.as_ref().err().copied().unwrap_or(0), packet);
+        let written = self.port.kiss_write(port, data, room);
+        if written != (number, packet.len()) || !self.port.output_is(packet) {
+            let says = |me: &Checker| {
+                format!("number {} length {} octets {}", written.0, written.1, me.output_as(packet.len(), show::hex))
+            };
+            let what = format!("writing a KISS packet on port {} into {} octets", port, room);
+            self.differ(&what, || show::written(number, packet.len(), packet), says);
+        }
+    }
+
+    /// A packet and the room for its data side by side, and where it is accepted the data and the room for the packet.
+    pub fn packet_beside(&mut self, packet: &[u8], beside: &Beside) -> Vec<Difference> {
+        let owed = kiss::read(packet);
+        for room in self.packet_rooms(packet, &owed) {
+            let (number, port, data) = self.owed_of_reading(&owed, room);
+            let read = self.port.kiss_read_beside(packet, room, port, data, beside);
+            self.placed("reading a KISS packet beside its data", read, number, data);
+        }
+        if let Ok((port, data)) = &owed {
+            for room in self.rooms(Tried::Some, packet.len()) {
+                let (number, octets) = self.fitting(Writer::PacketWrite, room, 0, packet);
+                let written = self.port.kiss_write_beside(*port, data, room, octets, beside);
+                self.placed("writing a KISS packet beside its data", written, number, octets);
+            }
+        }
+        self.finish()
     }
 
     /// The refusals that are `probe`'s own: a lent buffer shorter than what is to be left there.

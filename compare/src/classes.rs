@@ -7,7 +7,7 @@ use crate::relays::{self, Own};
 use crate::report::{self, Line, Report};
 use crate::rng::Rng;
 use crate::show;
-use crate::{inputs, records, texts};
+use crate::{inputs, kiss, packets, records, texts};
 use ax25::frame::Ax25Frame;
 
 /// A class under way.
@@ -150,6 +150,30 @@ impl Class<'_> {
         });
     }
 
+    fn packet(&mut self, packet: &[u8]) {
+        let found = self.checker.packet(packet);
+        self.done(found, || (format!("KISS packet {}", show::hex(packet)), report::again("compare kiss", packet)));
+    }
+
+    /// A packet that stands somewhere in a capture, and is read so by captures.py.
+    pub fn packet_at(&mut self, place: &str, packet: &[u8], said: &kiss::Read) {
+        let found = self.checker.captured_packet(packet, said);
+        self.done(found, || (format!("{}: {}", place, show::hex(packet)), report::again("compare kiss", packet)));
+    }
+
+    fn written_packet(&mut self, port: u8, data: &[u8]) {
+        let found = self.checker.written_packet(port, data);
+        self.done(found, || {
+            let command = format!("compare kiss-write {}", port);
+            (format!("port {} data {}", port, show::hex(data)), report::again(&command, data))
+        });
+    }
+
+    fn packet_beside(&mut self, packet: &[u8], beside: &Beside) {
+        let found = self.checker.packet_beside(packet, beside);
+        self.done_beside(found, beside, || format!("KISS packet {}", show::hex(packet)));
+    }
+
     fn other(&mut self, name: &str, found: Vec<Difference>) {
         self.done(found, || (name.to_string(), "compare test".to_string()));
     }
@@ -179,8 +203,9 @@ pub fn test(scale: usize, seed: u64, only: Option<String>) -> Report {
     hops_and_stations(&mut checker, &mut report, scale, &mut seeds);
     address_texts(&mut checker, &mut report, scale, &mut seeds);
     frames_passed_on(&mut checker, &mut report, scale, &mut seeds);
+    kiss_packets(&mut checker, &mut report, scale, &mut seeds);
     let missing = checker.seen.missing();
-    class(&mut checker, &mut report, "met: every number, kind, mark, PID, route length, room, search, due place and listed difference", |c| c.missing(missing));
+    class(&mut checker, &mut report, "met: every number, kind, mark, PID, route length, room, search, due place, KISS port and listed difference", |c| c.missing(missing));
     report::totals(&mut report, &checker.seen);
     report.extra("seed", seed.to_string());
     report.extra("scale", scale.to_string());
@@ -363,5 +388,29 @@ fn frames_passed_on(checker: &mut Checker, report: &mut Report, scale: usize, se
         for length in 0..=12 {
             each(&Own::new(&b"BOX12 BOX12 "[..length], 0), b"BOX12 \0");
         }
+    });
+}
+
+fn kiss_packets(checker: &mut Checker, report: &mut Report, scale: usize, seeds: &mut Rng) {
+    let [a, b, c, d, e] = [0; 5].map(|_: u64| seeds.next());
+    let mut run = |name: &str, body: &mut dyn FnMut(inputs::Each)| {
+        class(checker, report, name, |c| body(&mut |packet| c.packet(packet)));
+    };
+    run("KISS: every string of ten octets to length 3, and to 6 behind C0", &mut |each| packets::short(each));
+    run("KISS: every octet at every place of short packets", &mut |each| packets::every_octet(each));
+    run("KISS: seeded packets", &mut |each| packets::seeded(a, 30_000 * scale, each));
+    run("KISS: damaged copies", &mut |each| packets::damaged(b, 60_000 * scale, each));
+    class(checker, report, "KISS: written, every port, seeded and long data", |class| {
+        let mut draw = Rng::new(c);
+        for port in 0..=255 {
+            (0..30 * scale).for_each(|_| class.written_packet(port, &packets::data(&mut draw)));
+        }
+        packets::long(d, |port, data| class.written_packet(port, data));
+    });
+    class(checker, report, "KISS: packet and data side by side", |class| {
+        let mut gaps = Rng::new(e);
+        let mut each = |packet: &[u8]| class.packet_beside(packet, &Beside { gap: gaps.within(0, 40), output_first: gaps.chance(2) });
+        packets::seeded(e, 10_000 * scale, &mut each);
+        packets::damaged(e, 10_000 * scale, &mut each);
     });
 }

@@ -9,9 +9,11 @@ mod domain;
 mod faults;
 mod flat;
 mod inputs;
+mod kiss;
 mod lent;
 mod lines;
 mod oracle;
+mod packets;
 mod port;
 mod records;
 mod relay_list;
@@ -39,8 +41,8 @@ extern "C" fn pthread_getattr_np(_thread: usize, _attributes: *mut u8) -> i32 {
 const USAGE: &str = "\
 compare test [SCALE]               every class of inputs; the seeded ones SCALE times as large (1)
 compare captures [--raw FILE | FILE]..
-                                   every frame of captures: pcap and pcapng (link types 3 and 202), KISS logs,
-                                   hex lines; --raw, or a file named .raw, .bin or .ax25: one raw frame
+                                   every frame and every KISS packet of captures: pcap and pcapng (link types 3
+                                   and 202), KISS logs, hex lines; --raw, or a file named .raw, .bin or .ax25: one raw frame
 compare frames                     what captures.py, which reads the captures, prints, on standard input
 compare one HEX                    one input: both answers in full ('-': hex on standard input)
 compare text TEXT..                texts to addresses (text-hex HEX..: the text's octets)
@@ -53,6 +55,8 @@ compare content-record HEX INFO    flat content (a record's last twelve octets) 
 compare hops HEX                   the hops of a flat record
 compare same-station HEX HEX       two addresses of seven flat octets
 compare relay HEX SSID HEX         our own callsign and SSID, and a frame to pass on ('-': hex on standard input)
+compare kiss HEX                   a KISS packet, read ('-': hex on standard input)
+compare kiss-write PORT HEX        a port and data, written as a KISS packet ('-': hex on standard input)
 compare bench                      times of both, and their ratios
 compare replay-list [N]            about N (5000) lines of the Rust's answers, for the program replay
   --json FILE    leave counts, mismatches and ratios there (test, captures, frames, bench)
@@ -95,8 +99,12 @@ fn number(text: &str) -> u64 {
     text.parse().unwrap_or_else(|_| refuse(&format!("'{}' is no number", text)))
 }
 
+fn octet(what: &str, text: &str) -> u8 {
+    u8::try_from(number(text)).unwrap_or_else(|_| refuse(&format!("{} is an octet", what)))
+}
+
 fn ssid_of(text: &str) -> u8 {
-    u8::try_from(number(text)).unwrap_or_else(|_| refuse("an SSID is an octet"))
+    octet("an SSID", text)
 }
 
 fn octets(hex: &str) -> Vec<u8> {
@@ -153,6 +161,8 @@ fn main() {
         ["relay", callsign, ssid, frame] => {
             status(single::relay(&Own::new(&octets(callsign), ssid_of(ssid)), &hex_argument(frame)))
         }
+        ["kiss", packet] => status(single::packet(&hex_argument(packet))),
+        ["kiss-write", port, data] => status(single::written_packet(octet("a port", port), &hex_argument(data))),
         #[cfg(feature = "faults")]
         ["faults"] => faults::list(),
         ["bench"] => leave(&bench::run(), &options.json),

@@ -9,6 +9,22 @@ extern "C" {
     fn ax25_reencoded_length(input: *const u8, input_len: usize) -> usize;
     fn ax25_reencode(input: *const u8, input_len: usize, output: *mut u8, output_len: usize) -> u32;
     fn ax25_relay(callsign: *const u8, callsign_len: usize, ssid: u8, frame: *mut u8, frame_len: usize) -> u32;
+    fn ax25_kiss_read(
+        input: *const u8,
+        input_len: usize,
+        output: *mut u8,
+        output_len: usize,
+        port: *mut u8,
+        length: *mut usize,
+    ) -> u32;
+    fn ax25_kiss_write(
+        port: u8,
+        input: *const u8,
+        input_len: usize,
+        output: *mut u8,
+        output_len: usize,
+        length: *mut usize,
+    ) -> u32;
 }
 
 #[link(name = "probe", kind = "static")]
@@ -166,6 +182,44 @@ impl Port {
             unsafe { ax25_relay(self.input.ptr(), self.input.len(), ssid, self.output.mut_ptr(), self.output.len()) };
         self.see_input(callsign);
         number
+    }
+
+    /// The number, the port and the length; the data is in the output. The port is lent as the second input.
+    pub fn kiss_read(&mut self, packet: &[u8], room: usize) -> (u32, u8, usize) {
+        self.input.hold(packet);
+        self.output.room(room);
+        self.second.room(1);
+        self.sizes.room(1);
+        let number = unsafe {
+            ax25_kiss_read(
+                self.input.ptr(),
+                self.input.len(),
+                self.output.mut_ptr(),
+                room,
+                self.second.mut_ptr(),
+                self.sizes.mut_ptr(),
+            )
+        };
+        self.see_input(packet);
+        (number, self.one_port(), self.one_size())
+    }
+
+    fn one_port(&mut self) -> u8 {
+        let holds = self.second.written_only(1);
+        self.see(holds, "something beside the port was written");
+        self.second.items()[0]
+    }
+
+    /// The number and the length; the packet is in the output.
+    pub fn kiss_write(&mut self, port: u8, data: &[u8], room: usize) -> (u32, usize) {
+        self.input.hold(data);
+        self.output.room(room);
+        self.sizes.room(1);
+        let number = unsafe {
+            ax25_kiss_write(port, self.input.ptr(), self.input.len(), self.output.mut_ptr(), room, self.sizes.mut_ptr())
+        };
+        self.see_input(data);
+        (number, self.one_size())
     }
 
     /// Leaves the record in the output and the places in the sizes.
@@ -396,6 +450,23 @@ impl Port {
             probe_encode(record.as_ptr(), record.len(), from, info.len(), to, room, length.as_mut_ptr(), 1)
         });
         (number, holds && length[0] == octets.len())
+    }
+
+    /// Reading a packet close to the room for its data; the port that is owed is held too.
+    pub fn kiss_read_beside(&mut self, packet: &[u8], room: usize, port: u8, data: &[u8], beside: &Beside) -> (u32, bool) {
+        let (mut given, mut length) = (u8::MAX, usize::MAX);
+        let (number, holds) = self.side_by_side(packet, room, data, beside, |from, to| unsafe {
+            ax25_kiss_read(from, packet.len(), to, room, &mut given, &mut length)
+        });
+        (number, holds && given == port && length == data.len())
+    }
+
+    pub fn kiss_write_beside(&mut self, port: u8, data: &[u8], room: usize, packet: &[u8], beside: &Beside) -> (u32, bool) {
+        let mut length = usize::MAX;
+        let (number, holds) = self.side_by_side(data, room, packet, beside, |from, to| unsafe {
+            ax25_kiss_write(port, from, data.len(), to, room, &mut length)
+        });
+        (number, holds && length == packet.len())
     }
 }
 

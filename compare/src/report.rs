@@ -112,6 +112,9 @@ pub fn totals(report: &mut Report, seen: &Seen) {
     let (relays, relayed) = seen.relay_counts();
     println!("decodes compared: {}; writes compared: {}", seen.decodes, seen.writes);
     println!("relays compared: {}, {} of them passed on", relays, relayed);
+    let packets = seen.packet_counts();
+    let said: Vec<String> = packets.iter().map(|(number, count)| format!("{}: {}", number, count)).collect();
+    println!("KISS packets compared: {}; by number: {}", packets.iter().map(|(_, count)| count).sum::<u64>(), said.join(", "));
     let numbers = seen.number_counts();
     let said: Vec<String> = numbers.iter().map(|(number, count)| format!("{}: {}", number, count)).collect();
     println!("decode numbers: {}", said.join(", "));
@@ -131,6 +134,7 @@ pub fn totals(report: &mut Report, seen: &Seen) {
     report.extra("canonical", seen.canonical[1].to_string());
     report.extra("accepted", (seen.canonical[0] + seen.canonical[1]).to_string());
     report.extra("decode_numbers", counts(numbers.iter().map(|(number, count)| (number.to_string(), *count))));
+    report.extra("packet_numbers", counts(packets.iter().map(|(number, count)| (number.to_string(), *count))));
     report.extra("kinds", counts(kinds.iter().map(|(kind, count)| (kind.to_string(), *count))));
     report.extra("rooms", counts(rooms.iter().map(|(room, count)| (room.to_string(), *count))));
     report.extra("listed", counts(seen.listed_counts().into_iter().map(|(number, _, count)| (number, count))));

@@ -2,6 +2,7 @@
 
 use crate::domain::{self, Listed, LISTED};
 use crate::flat::*;
+use crate::kiss::{self, FEND, FESC, PORTS, TFEND, TFESC};
 use crate::lent::{Room, ROOMS};
 use crate::relays::Own;
 use ax25::frame::Ax25Frame;
@@ -17,6 +18,9 @@ const CONTENT_NUMBERS: [u32; 7] = [0, 4, 5, 6, 7, 8, 23];
 const BESIDE_NUMBERS: [u32; 11] = [0, 1, 2, 3, 4, 5, 6, 7, 8, 9, 24];
 /// Those of the relay: the refusals in their order.
 const RELAY_NUMBERS: [u32; 14] = [0, 22, 1, 2, 3, 4, 9, 5, 6, 7, 8, 41, 43, 42];
+/// Those of a KISS packet, read and written.
+const PACKET_NUMBERS: [u32; 7] = [0, 51, 52, 53, 54, 55, 56];
+const PACKET_WRITE_NUMBERS: [u32; 2] = [0, 56];
 const TABLE: usize = 64;
 /// The places of a search by eights that are looked at: three turns.
 const SEARCHED: usize = 24;
@@ -41,15 +45,20 @@ pub enum Writer {
     /// Either, with the output close to the input.
     Beside,
     Print,
+    /// The data of a KISS packet that is read.
+    PacketRead,
+    PacketWrite,
 }
 
-const WRITERS: [(Writer, &str); 6] = [
+const WRITERS: [(Writer, &str); 8] = [
     (Writer::Reencode, "re-encoding"),
     (Writer::Read, "writing a record that was read"),
     (Writer::MadeUp, "writing a record that was made up"),
     (Writer::Content, "writing content alone"),
     (Writer::Beside, "writing side by side"),
     (Writer::Print, "printing"),
+    (Writer::PacketRead, "reading a KISS packet"),
+    (Writer::PacketWrite, "writing a KISS packet"),
 ];
 
 /// How often each case of a record was written, by the kind of room.
@@ -61,6 +70,94 @@ struct Written {
     routes: [Rooms; REPEATERS + 1],
     /// By kind, a sequence number of 8 or more.
     large: [Rooms; 11],
+}
+
+/// What of KISS packets was met.
+#[derive(Default)]
+struct Packets {
+    /// By port, those that were read, and those that were written from a port and data.
+    ports: [[u64; PORTS as usize]; 2],
+    /// By port from 12 on, those that were refused by 56.
+    ports_over: [u64; 4],
+    /// By command from 1 on, those that were refused by 54; whether the port was over 11 too.
+    commands: [u64; 15],
+    commands_over: [u64; 2],
+    /// A type octet that was escaped: C0, DB.
+    escaped_types: [u64; 2],
+    /// Those that were read, without data and with it; and with C0, DB, both in the data.
+    data: [u64; 2],
+    escapes: [u64; 3],
+    /// 51 for nothing at all, for another first octet.
+    openings: [u64; 2],
+    /// 52 for DB before C0, before another octet, as the last.
+    bad_escapes: [u64; 3],
+    /// 53 for a lacking C0, for octets after it.
+    endings: [u64; 2],
+    /// By number from 51 on, no room for the data of a refused packet, less than the packet and more; 56 of the writer, beside its data.
+    refused_rooms: [[u64; 3]; 6],
+    write_refused_rooms: [u64; 3],
+}
+
+impl Packets {
+    fn read(&mut self, port: u8, data: &[u8]) {
+        count(&mut self.ports[0], port.into());
+        self.data[usize::from(!data.is_empty())] += 1;
+        let has = [data.contains(&FEND), data.contains(&FESC)];
+        let cells = [has[0], has[1], has[0] && has[1]];
+        self.escapes.iter_mut().zip(cells).for_each(|(cell, met)| *cell += u64::from(met));
+    }
+
+    fn refused(&mut self, packet: &[u8], number: u32) {
+        match number {
+            51 => self.openings[usize::from(!packet.is_empty())] += 1,
+            52 => self.bad_escapes[bad_escape(packet)] += 1,
+            53 => self.endings[usize::from(packet[1..].contains(&FEND))] += 1,
+            54 => {
+                let kind = self.kind(packet);
+                count(&mut self.commands, usize::from(kind & 0x0F) - 1);
+                self.commands_over[usize::from(kind >> 4 >= PORTS)] += 1;
+            }
+            56 => {
+                let port = self.kind(packet) >> 4;
+                count(&mut self.ports_over, usize::from(port - PORTS));
+            }
+            _ => {}
+        }
+    }
+
+    /// The type octet of a packet that has one.
+    fn kind(&mut self, packet: &[u8]) -> u8 {
+        if packet[1] != FESC {
+            return packet[1];
+        }
+        let which = usize::from(packet[2] == TFESC);
+        self.escaped_types[which] += 1;
+        [FEND, FESC][which]
+    }
+
+    fn missing(&self, missing: &mut Missing) {
+        missing.cases("KISS packet read on port", &self.ports[0]);
+        missing.cases("KISS packet written on port", &self.ports[1]);
+        missing.cases("KISS packet refused by 56, from port 12 on: case", &self.ports_over);
+        missing.cases("KISS packet refused by 54, from command 1 on: case", &self.commands);
+        missing.cases("KISS packet refused by 54, port to 11 and over it: case", &self.commands_over);
+        missing.cases("KISS type escaped, C0 and DB: case", &self.escaped_types);
+        missing.cases("KISS packet read without data and with it: case", &self.data);
+        missing.cases("KISS packet read with C0, DB, both in its data: case", &self.escapes);
+        missing.cases("KISS packet refused by 51, empty or with another first octet: case", &self.openings);
+        missing.cases("KISS packet refused by 52, DB before C0, before another octet, last: case", &self.bad_escapes);
+        missing.cases("KISS packet refused by 53, no C0 or octets after it: case", &self.endings);
+        for (number, rooms) in (51..).zip(&self.refused_rooms) {
+            missing.cases(&format!("KISS packet refused by {} with no room, less than the packet, more: case", number), rooms);
+        }
+        missing.cases("KISS packet not written by 56 with no room, less than the data, more: case", &self.write_refused_rooms);
+    }
+}
+
+/// What follows the first DB that is no escape: C0, another octet, nothing.
+fn bad_escape(packet: &[u8]) -> usize {
+    let bad = packet.windows(2).find(|pair| pair[0] == FESC && ![TFEND, TFESC].contains(&pair[1]));
+    bad.map_or(2, |pair| usize::from(pair[1] != FEND))
 }
 
 pub struct Seen {
@@ -110,12 +207,20 @@ pub struct Seen {
     not_own: [u64; 3],
     /// By whether the callsign is another, 42 for a station with the same SSID and with another.
     others: [[u64; 2]; 2],
+    packet_numbers: [u64; TABLE],
+    packet_write_numbers: [u64; TABLE],
+    packets: Packets,
 }
 
 fn count(table: &mut [u64], at: usize) {
     if let Some(cell) = table.get_mut(at) {
         *cell += 1;
     }
+}
+
+/// No room, less than so much, or more.
+fn refused_case(room: usize, length: usize) -> usize {
+    if room == 0 { 0 } else { 1 + usize::from(room > length) }
 }
 
 fn has_pid(record: &Flat) -> bool {
@@ -182,6 +287,9 @@ impl Seen {
             around_relayed: [[0; 2]; 2],
             not_own: [0; 3],
             others: [[0; 2]; 2],
+            packet_numbers: [0; TABLE],
+            packet_write_numbers: [0; TABLE],
+            packets: Packets::default(),
         }
     }
 
@@ -234,8 +342,18 @@ impl Seen {
     /// A refused input of this length was to be re-encoded.
     pub fn refused_room(&mut self, number: u32, room: usize, length: usize) {
         if let Some(rooms) = self.refused_rooms.get_mut(number as usize) {
-            rooms[if room == 0 { 0 } else { 1 + usize::from(room > length) }] += 1;
+            rooms[refused_case(room, length)] += 1;
         }
+    }
+
+    /// A refused KISS packet of this length was to be read.
+    pub fn packet_refused_room(&mut self, number: u32, room: usize, length: usize) {
+        self.packets.refused_rooms[number as usize - 51][refused_case(room, length)] += 1;
+    }
+
+    /// Data of this length was to be written on a port over 11.
+    pub fn packet_write_refused_room(&mut self, room: usize, length: usize) {
+        self.packets.write_refused_rooms[refused_case(room, length)] += 1;
     }
 
     pub fn beside(&mut self, number: u32) {
@@ -305,6 +423,26 @@ impl Seen {
         (self.relay_numbers.iter().sum(), self.relay_numbers[0])
     }
 
+    /// A KISS packet, and how it is to be read.
+    pub fn packet(&mut self, packet: &[u8], owed: &kiss::Read) {
+        match owed {
+            Ok((port, data)) => self.packets.read(*port, data),
+            Err(number) => self.packets.refused(packet, *number),
+        }
+        count(&mut self.packet_numbers, owed.as_ref().err().copied().unwrap_or(0) as usize);
+    }
+
+    /// A port and data, and what is to be written of them.
+    pub fn written_packet(&mut self, port: u8, owed: &Result<Vec<u8>, u32>) {
+        count(&mut self.packets.ports[1], port.into());
+        count(&mut self.packet_write_numbers, owed.as_ref().err().copied().unwrap_or(0) as usize);
+    }
+
+    /// How often each number of reading KISS packets was met.
+    pub fn packet_counts(&self) -> Vec<(u32, u64)> {
+        PACKET_NUMBERS.iter().map(|&number| (number, self.packet_numbers[number as usize])).collect()
+    }
+
     pub fn listed(&mut self, which: Listed) {
         self.listed[which as usize] += 1;
     }
@@ -356,6 +494,9 @@ impl Seen {
         missing.cases("stations that the Rust can't hold, other or same: case", &self.stations[0]);
         missing.cases("stations that the Rust can hold, other or same: case", &self.stations[1]);
         self.missing_relays(&mut missing);
+        missing.numbers("KISS packet read, number", &PACKET_NUMBERS, &self.packet_numbers);
+        missing.numbers("KISS packet written, number", &PACKET_WRITE_NUMBERS, &self.packet_write_numbers);
+        self.packets.missing(&mut missing);
         for number in 1..self.refused_rooms.len() {
             missing.cases(&format!("re-encoding refused by {} with no room, less than the input, more: case", number), &self.refused_rooms[number]);
         }

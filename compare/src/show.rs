@@ -1,6 +1,7 @@
 //! Answers as lines that people read.
 
 use crate::flat::*;
+use crate::kiss;
 use crate::oracle;
 
 pub fn hex(octets: &[u8]) -> String {
@@ -89,4 +90,12 @@ pub fn left(octets: &[u8]) -> String {
 /// A written output: its number, length and octets.
 pub fn written(number: u32, length: usize, octets: &[u8]) -> String {
     format!("number {} length {} octets {}", self::number(number), length, hex(octets))
+}
+
+/// A KISS packet as it is read.
+pub fn packet(read: &kiss::Read) -> String {
+    match read {
+        Ok((port, data)) => format!("number 0 port {} length {} data {}", port, data.len(), hex(data)),
+        Err(number) => format!("number {}", number),
+    }
 }

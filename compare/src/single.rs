@@ -4,6 +4,7 @@ use crate::check::{self, padded, Checker, Difference};
 use crate::domain;
 use crate::flat::{self, ADDRESS, FLAT};
 use crate::inputs;
+use crate::kiss;
 use crate::oracle;
 use crate::port::{Port, HOPS, PLACES};
 use crate::relays::Own;
@@ -204,4 +205,27 @@ pub fn relay(own: &Own, input: &[u8]) -> bool {
     let number = checker.port.relay(&own.callsign, own.ssid, input);
     println!("port: number {} octets {}", number, show::hex(checker.port.output()));
     verdict(checker.relay(own, input, &check::decoded(input)))
+}
+
+pub fn packet(packet: &[u8]) -> bool {
+    println!("KISS packet: {} octets: {}", packet.len(), show::hex(packet));
+    println!("the laboratory's reader: {}", show::packet(&kiss::read(packet)));
+    let mut checker = Checker::thorough();
+    let (number, port, length) = checker.port.kiss_read(packet, packet.len());
+    let data = &checker.port.output()[..length.min(packet.len())];
+    println!("port: number {} port {} length {} data {}", number, port, length, show::hex(data));
+    verdict(checker.packet(packet))
+}
+
+pub fn written_packet(port: u8, data: &[u8]) -> bool {
+    println!("port {} data: {} octets: {}", port, data.len(), show::hex(data));
+    match kiss::write(port, data) {
+        Ok(packet) => println!("the laboratory's writer: {}", show::written(0, packet.len(), &packet)),
+        Err(number) => println!("the laboratory's writer: number {}", number),
+    }
+    let mut checker = Checker::thorough();
+    let room = 2 * data.len() + 3;
+    let (number, length) = checker.port.kiss_write(port, data, room);
+    println!("port: {}", show::written(number, length, &checker.port.output()[..length.min(room)]));
+    verdict(checker.written_packet(port, data))
 }
