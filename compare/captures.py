@@ -11,7 +11,12 @@ which starts with C0 hex, or lines of hex: one frame a line, spaces where one li
 alone and at most 4,096 of them, is asked for by --raw, or its octets say nothing else and its name ends in .raw, .bin or .ax25.
 
 What is printed has lines of fields between tabs: 'capture', its file, its format; then of that capture 'frame', the frame's place, its
-octets in hex; 'passed over', what and why; and 'refused', a file, why. Exit status 2 where a capture is refused."""
+octets in hex; 'packet', a KISS packet's place, its octets in hex as they stood, with the C0 before and after them (the last of a log may
+lack that), the number that it is read by, the port, the data in hex; 'passed over', what and why; and 'refused', a file, why. Every
+packet of a KISS log is printed, those that are passed over too; two C0 with nothing between them are no packet there. A pcap of link
+type 202 holds packets without C0 and escapes: each is printed as it would be sent. The numbers are those of include/ax25.h: a packet
+that is no frame has the first of 54, 56, 52, 53 that is met from its start on (55 for one of link type 202 without a type), port 0 and
+no data. Exit status 2 where a capture is refused."""
 import os
 import re
 import struct
@@ -21,6 +26,7 @@ import sys
 RAW_NAMES = ('.raw', '.bin', '.ax25')
 RAW_LIMIT = 4096  # the dumper's
 FEND = b'\xC0'
+PORTS = 12  # KISS ports are 0 to 11
 PCAPNG = b'\x0A\x0D\x0D\x0A'
 # How a pcap file's numbers are to be read, by its magic number: of microseconds or nanoseconds.
 PCAP = {b'\xA1\xB2\xC3\xD4': '>', b'\xA1\xB2\x3C\x4D': '>', b'\xD4\xC3\xB2\xA1': '<', b'\x4D\x3C\xB2\xA1': '<'}
@@ -46,6 +52,8 @@ FOREIGN = [(re.compile(first, re.DOTALL), kind, turn) for first, kind, turn in [
     (rb'\x7FELF', 'ELF (a program)', 'there are no frames in it'),
 ]]
 
+# What stands before the first DB that is no escape.
+WELL_ESCAPED = re.compile(rb'([^\xDB]|\xDB[\xDC\xDD])*')
 # A KISS packet of data behind a C0 that begins with two addresses of letters, digits and spaces. No one writes that inside a frame.
 CHARACTER = b'[' + bytes(2 * character for character in b' 0123456789ABCDEFGHIJKLMNOPQRSTUVWXYZ') + b']'
 KISS_PACKET = re.compile(FEND + rb'[\0\x10\x20\x30\x40\x50\x60\x70\x80\x90\xA0\xB0\xD0\xE0\xF0](' + CHARACTER + rb'{6}.){2}', re.DOTALL)
@@ -59,20 +67,44 @@ class Unclear(Refused):
     """The same, of a file that may be a raw frame for all that its octets say."""
 
 
+class PassedOver(Exception):
+    """Why a KISS packet is no frame, by its number and in words."""
+
+
+def kiss_frame(inside, closed):
+    """The port and the frame of what stands behind a C0, up to the next one or to the end: the port and the command, of which 0 is data,
+    then the frame. What is wrong first counts."""
+    good = WELL_ESCAPED.match(inside)[0]
+    octets = good.replace(b'\xDB\xDC', FEND).replace(b'\xDB\xDD', b'\xDB')
+    if not inside:
+        raise PassedOver(55, 'without a command octet')
+    if octets and octets[0] & 0x0F:
+        raise PassedOver(54, f'KISS command {octets[0]:02X}, no data')
+    if octets and octets[0] >> 4 >= PORTS:
+        raise PassedOver(56, f'KISS port {octets[0] >> 4}: only 0 to {PORTS - 1} are read')
+    if good != inside:
+        raise PassedOver(52, 'DB is followed by neither DC nor DD')
+    if not closed:
+        raise PassedOver(53, f'no C0 ends the last {len(inside)} octets')
+    return octets[0] >> 4, octets[1:]
+
+
 class Capture:
-    """The frames of a capture, each with its place, and what was passed over."""
+    """The frames of a capture, each with its place, its KISS packets with what they are read as, and what was passed over."""
 
     def __init__(self, form):
-        self.form, self.frames, self.passed_over = form, [], []
+        self.form, self.frames, self.packets, self.passed_over = form, [], [], []
 
-    def kiss_packet(self, place, octets):
-        """A packet without its C0s and escapes: the port and the command, of which 0 is data, then the frame."""
-        if not octets:
-            self.passed_over.append(f'{place}: without a command octet')
-        elif octets[0] & 0x0F == 0:
-            self.frames.append((f'{place}, port {octets[0] >> 4}', octets[1:]))
-        else:
-            self.passed_over.append(f'{place}: KISS command {octets[0]:02X}, no data')
+    def kiss_packet(self, place, inside, closed=True):
+        packet = FEND + inside + FEND * closed
+        try:
+            port, frame = kiss_frame(inside, closed)
+            self.frames.append((f'{place}, port {port}', frame))
+            self.packets.append((place, packet, 0, port, frame))
+        except PassedOver as why:
+            number, words = why.args
+            self.passed_over.append(f'{place}: {words}')
+            self.packets.append((place, packet, number, 0, b''))
 
 
 def raw_frame(octets):
@@ -125,20 +157,18 @@ def hex_lines(text):
 
 
 def kiss(octets):
-    """Everything between two C0 octets, unescaped."""
+    """Everything between two C0 octets, and what follows the last. Two packets share a C0, or have one each, or more."""
     capture = Capture('KISS log')
-    *pieces, rest = octets.split(FEND)
     at = 0
-    for piece in pieces:
-        place = f'octet {at}'
+    for piece in octets.split(FEND):
+        if piece:
+            capture.kiss_packet(f'octet {at}', piece, closed=at + len(piece) < len(octets))
         at += len(piece) + 1
-        if re.search(rb'\xDB(?![\xDC\xDD])', piece):
-            capture.passed_over.append(f'{place}: DB is followed by neither DC nor DD')
-        elif piece:
-            capture.kiss_packet(place, piece.replace(b'\xDB\xDC', FEND).replace(b'\xDB\xDD', b'\xDB'))
-    if rest:
-        capture.passed_over.append(f'octet {at}: no C0 ends the last {len(rest)} octets')
     return capture
+
+
+def escaped(octets):
+    return octets.replace(b'\xDB', b'\xDB\xDD').replace(FEND, b'\xDB\xDC')
 
 
 def pcap(octets, form='pcap'):
@@ -167,7 +197,7 @@ def pcap(octets, form='pcap'):
         if whole > length:
             capture.passed_over.append(f'{place}: only {length} of its {whole} octets were captured')
         elif link == 202:
-            capture.kiss_packet(place, frame)
+            capture.kiss_packet(place, escaped(frame))
         else:
             capture.frames.append((place, frame))
     return capture
@@ -250,6 +280,7 @@ def lines_of(path, raw):
         return [f'refused\t{name}\t{why}'], str(why)
     lines = [f'capture\t{name}\t{capture.form}']
     lines += [f'frame\t{place}\t{octets.hex()}' for place, octets in capture.frames]
+    lines += [f'packet\t{place}\t{octets.hex()}\t{number}\t{port}\t{data.hex()}' for place, octets, number, port, data in capture.packets]
     return lines + [f'passed over\t{what}' for what in capture.passed_over], None
 
 

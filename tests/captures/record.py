@@ -4,7 +4,7 @@
 usage: record.py listen FILE PORTFILE READY      on a free port, whose number it writes to PORTFILE
        record.py connect FILE PORT READY         to a port of this host, as soon as something listens there
        record.py port                            prints a port that is free, below 32768: direwolf takes none above 49151
-       record.py count FILE                      prints how many frames a KISS log holds
+       record.py count FILE                      prints how many frames a KISS log holds on ports 0 to 11
 
 It makes the file READY once it is connected."""
 import os
@@ -69,9 +69,8 @@ def record(connection, path, ready):
 
 
 def is_frame(part):
-    """Between two delimiters: the type's low half is 0. On port 12 the type is C0, which is escaped."""
-    kind = 0xC0 if part[:2] == b'\xDB\xDC' else part[0] if part else 0xFF
-    return kind & 0x0F == 0
+    """Between two delimiters: the type's low half is 0 and its high half, the port, at most 11."""
+    return part[:1] in [bytes([port << 4]) for port in range(12)]
 
 
 def main():
