@@ -2,11 +2,12 @@
 //! fault that COMPARE_FAULT names. The linker puts these in the calls' places (`--wrap`) and leaves the port's own under `__real_`.
 
 use crate::flat::{ABSENT, COUNT, KIND, MARK, RECEIVE, RNR, RR, UNKNOWN_CONTENT};
+use crate::kiss::{FEND, FESC, TFEND, TFESC};
 use std::slice::{from_raw_parts, from_raw_parts_mut};
 use std::sync::atomic::{AtomicUsize, Ordering};
 
 /// What each fault does, from 1 on, and words in the name of a class that has to find it.
-const FAULTS: [(&str, &str); 34] = [
+const FAULTS: [(&str, &str); 61] = [
     ("re-encoding writes the address field, then answers 24", "every prefix"),
     ("re-encoding writes the address field, then refuses the content", "every prefix"),
     ("re-encoding into no room at all answers 0", "every prefix"),
@@ -41,6 +42,33 @@ const FAULTS: [(&str, &str); 34] = [
     ("the relay passes broken marks on", "relay: every way to mark"),
     ("the relay looks for marks beyond the route", "relay: every way to mark"),
     ("the relay looks at the frame before our own address", "relay: leading nulls"),
+    ("the KISS reader takes DC and DD for each other", "KISS: every octet"),
+    ("the KISS reader examines the type before its escape is removed", "KISS: every octet"),
+    ("the KISS reader answers 56 before 54", "KISS: every octet"),
+    ("the KISS reader takes port 12", "KISS: every octet"),
+    ("the KISS reader passes over a doubled C0", "KISS: every string"),
+    ("the KISS reader takes octets after the closing C0", "KISS: every string"),
+    ("the KISS reader answers 53 where the last octet is DB", "KISS: every string"),
+    ("the KISS reader looks for the closing C0 before the type", "KISS: every string"),
+    ("the KISS reader answers 55 where there is no data", "KISS: every string"),
+    ("the KISS reader answers 53 to nothing at all", "KISS: every string"),
+    ("the KISS reader answers 24 before 53", "KISS: damaged copies"),
+    ("the KISS reader drops data beyond 1,024 octets", "KISS: written"),
+    ("a KISS packet refused by 53 touches the output", "KISS: damaged copies"),
+    ("a refused KISS packet leaves the port", "KISS: every string"),
+    ("a refused KISS packet leaves the length", "KISS: every string"),
+    ("too little room for a KISS packet's data: touches it", "KISS: seeded packets"),
+    ("too little room for a KISS packet's data: gives its port", "KISS: seeded packets"),
+    ("the KISS reader goes on after the data", "KISS: seeded packets"),
+    ("the KISS reader goes on after data close to the packet", "KISS: packet and data side by side"),
+    ("the KISS writer does not escape DB", "KISS: written"),
+    ("the KISS writer takes DC and DD for each other", "KISS: written"),
+    ("the KISS writer takes port 12", "KISS: written"),
+    ("the KISS writer puts the port into the low half", "KISS: written"),
+    ("the KISS writer answers 24 before 56", "KISS: written"),
+    ("a refused KISS packet is written with a length", "KISS: written"),
+    ("the KISS writer touches room that is short", "KISS: written"),
+    ("the KISS writer goes on after its end", "KISS: written"),
 ];
 
 /// A line for each fault: its number, the words, and what it does.
@@ -65,6 +93,8 @@ extern "C" {
     fn __real_ax25_decode(input: *const u8, input_len: usize) -> u32;
     fn __real_ax25_reencode(input: *const u8, input_len: usize, out: *mut u8, out_len: usize) -> u32;
     fn __real_ax25_relay(callsign: *const u8, callsign_len: usize, ssid: u8, frame: *mut u8, frame_len: usize) -> u32;
+    fn __real_ax25_kiss_read(input: *const u8, input_len: usize, out: *mut u8, out_len: usize, port: *mut u8, length: *mut usize) -> u32;
+    fn __real_ax25_kiss_write(port: u8, input: *const u8, input_len: usize, out: *mut u8, out_len: usize, length: *mut usize) -> u32;
     fn __real_probe_decode(input: *const u8, input_len: usize, record: *mut u8, record_len: usize, places: *mut usize, places_len: usize) -> u32;
     fn __real_probe_encode(record: *const u8, record_len: usize, info: *const u8, info_len: usize, out: *mut u8, out_len: usize, length: *mut usize, length_len: usize) -> u32;
     fn __real_probe_from_parts(callsign: *const u8, callsign_len: usize, ssid: u8, address: *mut u8, address_len: usize) -> u32;
@@ -162,6 +192,114 @@ unsafe extern "C" fn __wrap_ax25_relay(callsign: *const u8, callsign_len: usize,
             return 43;
         }
         _ => {}
+    }
+    number
+}
+
+/// The escapes with their second octets exchanged.
+fn exchanged(octets: &[u8]) -> Vec<u8> {
+    let mut all = octets.to_vec();
+    for i in 1..all.len() {
+        all[i] = match (all[i - 1], all[i]) {
+            (FESC, TFEND) => TFESC,
+            (FESC, TFESC) => TFEND,
+            (_, octet) => octet,
+        };
+    }
+    all
+}
+
+/// A packet as a faulty reader might take it; most are as they came.
+fn taken(packet: &[u8]) -> Vec<u8> {
+    let closing = packet.iter().skip(2).position(|&octet| octet == FEND).map(|at| at + 2);
+    match (packet, closing) {
+        (packet, _) if is("the KISS reader takes DC and DD for each other") => exchanged(packet),
+        ([FEND, FESC, TFEND, ..], _) if is("the KISS reader examines the type before its escape is removed") => vec![FEND, FESC, TFESC],
+        ([FEND, FEND, ..], _) if is("the KISS reader passes over a doubled C0") => packet[1..].to_vec(),
+        ([FEND, ..], Some(at)) if is("the KISS reader takes octets after the closing C0") => packet[..=at].to_vec(),
+        ([FEND, ..], None) if is("the KISS reader looks for the closing C0 before the type") && packet.last() != Some(&FESC) => vec![FEND],
+        _ => packet.to_vec(),
+    }
+}
+
+/// The number that a faulty reader might give in place of this one, with port and length 0.
+fn misread(packet: &[u8], number: u32, length: usize, room: usize) -> u32 {
+    let kind = packet.get(1).copied().unwrap_or(0);
+    match number {
+        54 if is("the KISS reader answers 56 before 54") && kind >= 0xC0 => 56,
+        52 if is("the KISS reader answers 53 where the last octet is DB") && packet.last() == Some(&FESC) => 53,
+        0 if is("the KISS reader answers 55 where there is no data") && length == 0 => 55,
+        51 if is("the KISS reader answers 53 to nothing at all") && packet.is_empty() => 53,
+        53 if is("the KISS reader answers 24 before 53") && room + 3 < packet.len() => 24,
+        _ => number,
+    }
+}
+
+#[no_mangle]
+unsafe extern "C" fn __wrap_ax25_kiss_read(input: *const u8, input_len: usize, out: *mut u8, out_len: usize, port: *mut u8, length: *mut usize) -> u32 {
+    let packet = from_raw_parts(input, input_len);
+    let before = (*port, *length);
+    let given = taken(packet);
+    // What is given otherwise is a copy elsewhere, so a packet that came as it is stays where it was.
+    let number = if given == packet {
+        __real_ax25_kiss_read(input, input_len, out, out_len, port, length)
+    } else {
+        __real_ax25_kiss_read(given.as_ptr(), given.len(), out, out_len, port, length)
+    };
+    let out = from_raw_parts_mut(out, out_len);
+    let beyond = is("the KISS reader goes on after the data") || is("the KISS reader goes on after data close to the packet") && close(packet, out);
+    if number == 0 && beyond {
+        spoil(&mut out[*length..]);
+    }
+    if number == 0 && is("the KISS reader drops data beyond 1,024 octets") {
+        *length = (*length).min(1024);
+    }
+    if is("a KISS packet refused by 53 touches the output") && number == 53 || is("too little room for a KISS packet's data: touches it") && number == 24 {
+        spoil(out);
+    }
+    if is("a refused KISS packet leaves the port") && number > 50 {
+        *port = before.0;
+    }
+    if is("a refused KISS packet leaves the length") && number > 50 {
+        *length = before.1;
+    }
+    if is("too little room for a KISS packet's data: gives its port") && number == 24 {
+        *port = packet[1] >> 4;
+    }
+    if is("the KISS reader takes port 12") && number == 56 && packet[1] == FESC {
+        *port = 12;
+        return 0;
+    }
+    misread(packet, number, *length, out_len)
+}
+
+#[no_mangle]
+unsafe extern "C" fn __wrap_ax25_kiss_write(port: u8, input: *const u8, input_len: usize, out: *mut u8, out_len: usize, length: *mut usize) -> u32 {
+    let taken = if is("the KISS writer takes port 12") && port == 12 { 0 } else { port };
+    let number = __real_ax25_kiss_write(taken, input, input_len, out, out_len, length);
+    let out = from_raw_parts_mut(out, out_len);
+    if number == 0 {
+        let packet = &mut out[..*length];
+        let escape = packet.windows(2).position(|pair| pair == [FESC, TFESC]);
+        if let (Some(at), true) = (escape, is("the KISS writer does not escape DB")) {
+            packet.copy_within(at + 2.., at + 1);
+            *length -= 1;
+        } else if is("the KISS writer takes DC and DD for each other") {
+            packet.copy_from_slice(&exchanged(packet));
+        } else if is("the KISS writer puts the port into the low half") {
+            packet[1] = port;
+        } else if is("the KISS writer goes on after its end") {
+            spoil(&mut out[*length..]);
+        }
+    }
+    if number == 24 && is("the KISS writer touches room that is short") {
+        spoil(out);
+    }
+    if number > 0 && is("a refused KISS packet is written with a length") {
+        *length = input_len + 3;
+    }
+    if number == 56 && is("the KISS writer answers 24 before 56") && out_len < input_len + 3 {
+        return 24;
     }
     number
 }
