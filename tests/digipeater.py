@@ -2,8 +2,8 @@
 """The part of tests/outside that runs direwolf's two digipeaters beside ax25_relay. Each is the station HILL1-2 and is given the same
 frames; what they send is compared, octet by octet, with what ax25_relay leaves in the buffer.
 
-usage: digipeater.py DIREWOLF DIR RELAYED..
-       DIREWOLF is direwolf's program, DIR a folder to work in, RELAYED.. the command that runs tests/relayed.c
+usage: digipeater.py DIREWOLF DIR CALLS..
+       DIREWOLF is direwolf's program, DIR a folder to work in, CALLS.. the command that runs tests/calls.c
 
 No radio and no sound card is needed: direwolf hears its standard input, for which the sound is made here, and speaks to ALSA's null
 device. It prints the octets of each frame that it hears, and of each that it hands to its modem.
@@ -156,11 +156,10 @@ def sound(frame):
 
 # direwolf
 
-# No network. It sends at once, while it hears, and by a fast modem, since sending takes it as long as on the air.
+# It sends at once, while it hears, and by a fast modem, since sending takes it as long as on the air.
 SETTINGS = f"""ADEVICE stdin null
 ARATE {ARATE}
 AGWPORT 0
-KISSPORT 0
 CHANNEL 0
 MYCALL {OWN}-{OWN_SSID}
 MODEM {BAUD}
@@ -241,12 +240,12 @@ class Direwolf:
 
 
 @contextlib.contextmanager
-def running(program, folder, digipeater):
-    """direwolf as one of its digipeaters, which the end of the test ends."""
-    sounds, settings = folder / 'asound.conf', folder / f'{digipeater}.conf'
+def running(program, folder, name, settings):
+    """direwolf with these settings, which the end of the test ends."""
+    sounds, configuration = folder / 'asound.conf', folder / f'{name}.conf'
     sounds.write_text('pcm.null { type null }\n')
-    settings.write_text(SETTINGS + DIGIPEATERS[digipeater] + '\n')
-    command = [program, '-c', str(settings), '-t', '0', '-q', 'hd', '-d', 'p']
+    configuration.write_text(settings)
+    command = [program, '-c', str(configuration), '-t', '0', '-q', 'hd', '-d', 'p']
     process = subprocess.Popen(command, cwd=folder, env={**os.environ, 'ALSA_CONFIG_PATH': str(sounds)},
                                stdin=subprocess.PIPE, stdout=subprocess.PIPE, stderr=subprocess.STDOUT)
     try:
@@ -261,14 +260,13 @@ def running(program, folder, digipeater):
 AS_LISTED = 'does otherwise as docs/DIFFERENCES.md lists, '
 
 
-def answers(command, cases):
-    """ax25_relay's number for each frame, and the octets that it leaves."""
-    lines = ''.join(f'{OWN} {OWN_SSID} {case.frame.hex()}\n' for case in cases)
-    printed = subprocess.run(command, input=lines, stdout=subprocess.PIPE, text=True, check=True).stdout
-    pairs = [line.split() for line in printed.splitlines()]
-    if len(pairs) != len(cases):
-        sys.exit(f'ax25_relay answers {len(pairs)} of {len(cases)} frames')
-    return [(int(number), bytes.fromhex(octets)) for number, octets in pairs]
+def answers(command, lines):
+    """What tests/calls.c answers to each line: a number and octets."""
+    printed = subprocess.run(command, input='\n'.join(lines), stdout=subprocess.PIPE, text=True, check=True).stdout
+    pairs = [line.partition(' ') for line in printed.splitlines()]
+    if len(pairs) != len(lines):
+        sys.exit(f'tests/calls.c answers {len(pairs)} of {len(lines)} lines')
+    return [(int(number), bytes.fromhex(octets)) for number, _, octets in pairs]
 
 
 def check_docs(count):
@@ -336,11 +334,12 @@ def main():
         sys.exit(__doc__)
     program, folder, command = sys.argv[1], pathlib.Path(sys.argv[2]), sys.argv[3:]
     count, cases = Count(), all_cases()
-    ours = answers(command, cases)
+    ours = answers(command, [f'relay {OWN} {OWN_SSID} {case.frame.hex()}' for case in cases])
     check_docs(count)
     check_ours(count, cases, ours)
     with contextlib.ExitStack() as stack:
-        started = {digipeater: stack.enter_context(running(program, folder, digipeater)) for digipeater in DIGIPEATERS}
+        started = {digipeater: stack.enter_context(running(program, folder, digipeater, f'{SETTINGS}KISSPORT 0\n{line}\n'))
+                   for digipeater, line in DIGIPEATERS.items()}
         for digipeater, direwolf in started.items():
             compare(count, digipeater, direwolf, cases, ours)
     count.end()
