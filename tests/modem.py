@@ -29,7 +29,7 @@ def infos():
     yield from map(bytes, itertools.product(SPECIAL, repeat=3))
     yield from (bytes([octet]) * 200 for octet in SPECIAL)
     dice = Dice(103)
-    for length in range(1, 100):
+    for length in range(1, 100, 3):
         yield bytes(dice.roll(256) if dice.roll(2) else SPECIAL[dice.roll(4)] for _ in range(length)) + b'.'
 
 
@@ -106,7 +106,7 @@ def check_kissutil(count, program, command):
 # direwolf
 
 def check_direwolf(count, program, folder, command):
-    frames = FRAMES + made_frames()[::3]
+    frames = FRAMES + made_frames()[::9]
     port, wrong = free_port(), []
     with running(program, folder, 'modem', f'{SETTINGS}KISSPORT {port}\n') as direwolf, connected(port) as connection:
         for frame, packet in zip(frames, packets(command, [(0, frame) for frame in frames])):

@@ -107,6 +107,12 @@ def relays(part):
     return f"{part['relayed_routes']} frames with a route were relayed by each of their repeaters: {part['relays']} relays, {part['relayed']} of them passed on."
 
 
+def packets(part):
+    numbers = part["packet_numbers"]
+    refused = [f", {count} refused by {number}" for number, count in numbers.items() if number != "0" and count]
+    return f"{sum(numbers.values())} KISS packets were read: {numbers['0']} accepted" + "".join(refused) + "."
+
+
 def rooms(part):
     return "Room lent to writers: " + ", ".join(f"{name} {count} times" for name, count in part["rooms"].items()) + "."
 
@@ -131,15 +137,16 @@ def markdown(report):
     out += ["## Captures", ""]
     if report["captures"]:
         part = report["captures"]
-        out += table(["file", "format", "frames", "passed over"], [(c["file"], c["format"], c["frames"], len(c["passed_over"])) for c in part["captures"]])
-        out += ["", f"{part['decodes']} decodes and {part['writes']} writes compared; {part['accepted']} accepted, {part['canonical']} of them canonical. " + relays(part) + " " + listed(part), ""]
+        rows = [(c["file"], c["format"], c["frames"], c["packets"], len(c["passed_over"])) for c in part["captures"]]
+        out += table(["file", "format", "frames", "KISS packets", "passed over"], rows)
+        out += ["", f"{part['decodes']} decodes and {part['writes']} writes compared; {part['accepted']} accepted, {part['canonical']} of them canonical. " + relays(part) + " " + packets(part) + " " + listed(part), ""]
     else:
         out += ["Not compared.", ""]
     out += ["## The Rust beside the port", ""]
     if report["compared"]:
         out += classes(report["compared"])
         part = report["compared"]
-        out += ["", f"{part['decodes']} decodes, {part['writes']} writes and {part['relays']} relays compared, {part['relayed']} of the relays passed on. " + rooms(part) + " " + listed(part), ""]
+        out += ["", f"{part['decodes']} decodes, {part['writes']} writes and {part['relays']} relays compared, {part['relayed']} of the relays passed on. " + packets(part) + " " + rooms(part) + " " + listed(part), ""]
     else:
         out += ["Not compared.", ""]
     if report["ratios"]:
