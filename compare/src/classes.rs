@@ -400,7 +400,7 @@ fn kiss_packets(checker: &mut Checker, report: &mut Report, scale: usize, seeds:
     run("KISS: every octet at every place of short packets", &mut |each| packets::every_octet(each));
     run("KISS: seeded packets", &mut |each| packets::seeded(a, 30_000 * scale, each));
     run("KISS: damaged copies", &mut |each| packets::damaged(b, 60_000 * scale, each));
-    class(checker, report, "KISS: written, every port, seeded and long data", |class| {
+    class(checker, report, "KISS: written, every port, seeded data, and long data to 131,074", |class| {
         let mut draw = Rng::new(c);
         for port in 0..=255 {
             (0..30 * scale).for_each(|_| class.written_packet(port, &packets::data(&mut draw)));
