@@ -1,5 +1,6 @@
 /* Answers lines by calls of the archive, for tests/digipeater.py and tests/modem.py, each line by `NUMBER HEX`:
    `relay CALLSIGN SSID HEX`    ax25_relay's number, and the frame as the call leaves it
+   `read HEX`                   ax25_kiss_read's number, and the port as an octet before the data
    `write PORT HEX`             ax25_kiss_write's number, and the packet */
 #include <stdio.h>
 #include <string.h>
@@ -38,6 +39,13 @@ static void relay(void)
     answer(number, octets, len);
 }
 
+static void read_packet(void)
+{
+    size_t len = read_octets(), length = 0;
+    uint32_t number = ax25_kiss_read(octets, len, packet + 1, sizeof packet - 1, packet, &length);
+    answer(number, packet, 1 + length);
+}
+
 static void write_packet(void)
 {
     unsigned port = 0;
@@ -54,6 +62,8 @@ int main(void)
     while (scanf("%5s", call) == 1)
         if (strcmp(call, "relay") == 0)
             relay();
+        else if (strcmp(call, "read") == 0)
+            read_packet();
         else if (strcmp(call, "write") == 0)
             write_packet();
         else

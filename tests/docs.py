@@ -141,9 +141,10 @@ def departures():
         f'each of the {len(entries)} departures of docs/DIFFERENCES.md is named by a definition',
         [entry for entry in entries if not re.search(rf'\b{entry}\b', specs)],
     )
-    listed = set(re.findall(r'^\| (D\d+) \|', read('docs/DIFFERENCES.md'), re.M))
-    held = set(re.findall(r"'(D\d+)'", read('tests/digipeater.py')))
-    check(f"each of the {len(listed)} entries on direwolf's digipeaters is held by tests/digipeater.py, which holds no other", sorted(listed ^ held))
+    for letter, whose, script in (('D', "direwolf's digipeaters", 'tests/digipeater.py'), ('E', 'kissutil', 'tests/modem.py')):
+        listed = set(re.findall(rf'^\| ({letter}\d+) \|', read('docs/DIFFERENCES.md'), re.M))
+        held = set(re.findall(rf"'({letter}\d+)'", read(script)))
+        check(f'each of the {len(listed)} entries on {whose} is held by {script}, which holds no other', sorted(listed ^ held))
     named = set(re.findall(r'\b([ABC][1-9]\d?)\b(?=[^\n]*)', ' '.join(re.findall(r'DIFFERENCES\.md[^\n]*', specs))))
     every = set(re.findall(r'^\| ([ABC]\d+) \|', read('docs/DIFFERENCES.md'), re.M))
     check('and the definitions name no other', sorted(named - every))

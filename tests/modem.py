@@ -1,9 +1,13 @@
 #!/usr/bin/env python3
 """The part of tests/outside that gives packets of ax25_kiss_write to programs of others: to kissutil, in the place of a modem, and to
 direwolf, which is a modem. kissutil shows the packet as it came, the port, and the frame as text; direwolf the octets that it sends.
+And packets that have something wrong are read by kissutil and by ax25_kiss_read.
 
 usage: modem.py KISSUTIL DIREWOLF DIR CALLS..
-       KISSUTIL and DIREWOLF are direwolf's programs, DIR is a folder to work in, CALLS.. the command that runs tests/calls.c"""
+       KISSUTIL and DIREWOLF are direwolf's programs, DIR is a folder to work in, CALLS.. the command that runs tests/calls.c
+
+E1, E2 and so on are entries of docs/DIFFERENCES.md."""
+import collections
 import itertools
 import pathlib
 import re
@@ -103,6 +107,66 @@ def check_kissutil(count, program, command):
         count.ok(f'kissutil shows the port, 0 to {PORTS - 1}, and the frame of packets by ax25_kiss_write (packets: {len(read)})')
 
 
+# Packets that have something wrong, and are read by both
+
+FEND = b'\xC0'
+FRAME, LAST = spelled('', UI + b'LEVEL'), spelled('', UI + b'LAST')
+# The packet, the number that ax25_kiss_read owes it, the text that kissutil shows of it, or None, and where that is otherwise the entry of E.
+Case = collections.namedtuple('Case', 'packet number text entry', defaults=(None, None))
+
+
+def between(kind, data):
+    return FEND + kind + data + FEND
+
+
+def cases():
+    # Of command 6 kissutil shows the data, which is no frame but an answer of the modem's hardware.
+    for command in (1, 2, 3, 4, 5, *range(7, 16)):
+        yield Case(between(bytes([command]), FRAME), 54)
+    yield Case(between(b'\xDB\xDD', FRAME), 54)
+    yield Case(between(b'\xF1', FRAME), 54)
+    yield Case(between(b'\xDB\x00', FRAME), 52)
+    yield Case(b'\x50' + FRAME + FEND, 51)
+    for port, kind in ((12, b'\xDB\xDC'), (13, b'\xD0'), (14, b'\xE0'), (15, b'\xF0')):
+        yield Case(between(kind, FRAME), 56, as_text(port, FRAME), 'E1')
+    for more, left in ((b'\xDB\x41', b''), (b'\xDB', b''), (b'\xDB\xDB\xDC', b'\xDC'), (b'\xDB\x41\xDB\xDC', b'\xC0')):
+        yield Case(between(b'\x50', FRAME + more), 52, as_text(5, FRAME + left), 'E2')
+    for length in (0, 1, 14):
+        yield Case(between(b'\x00', FRAME[:length]), 0, None, 'E3')
+    for more in (1, 3):
+        yield Case(FEND * more + between(b'\x50', FRAME), 55, as_text(5, FRAME), 'E4')
+
+
+def check_docs(count):
+    """The row of each entry of E has the octets of its first case, and the text that kissutil shows."""
+    differences = pathlib.Path(__file__).resolve().parent.parent / 'docs' / 'DIFFERENCES.md'
+    rows = dict(re.findall(r'^\| (E\d+) \|(.*)', differences.read_text('utf-8').replace('`', ''), re.M))
+    first = {case.entry: case for case in reversed([*cases()]) if case.entry}
+    for entry, case in sorted(first.items()):
+        lacking = [text for text in (hex_line(case.packet), case.text or 'nothing', str(case.number)) if f' {text} ' not in rows[entry]]
+        count.fail_all([f'docs/DIFFERENCES.md, {entry}: {text} is not there' for text in lacking])
+        if not lacking:
+            count.ok(f'docs/DIFFERENCES.md, {entry}: the octets are those of the test')
+
+
+def check_wrong(count, program, command):
+    """Behind each packet stands a good one, which kissutil has to show, so that it was there and read the other."""
+    every, wrong, tally = [*cases()], [], collections.Counter()
+    ours = answers(command, [f'read {case.packet.hex()}' for case in every])
+    for case, (number, _) in zip(every, ours):
+        text = [text for _, text in shown(by_kissutil(program, case.packet + between(b'\x00', LAST)))]
+        owed = [text for text in (case.text, as_text(0, LAST)) if text]
+        if number != case.number:
+            wrong.append(f'ax25_kiss_read owes {case.number} to {hex_line(case.packet)}, and gives {number}')
+        elif text != owed:
+            wrong.append(f'kissutil owes {owed!a} to {hex_line(case.packet)} and the packet behind it, and shows {text!a}')
+        tally[case.entry] += 1
+    count.fail_all(wrong)
+    for entry, packets_of in tally.items() if not wrong else ():
+        outcome = f'reads otherwise than ax25_kiss_read as docs/DIFFERENCES.md lists, {entry}' if entry else 'shows no frame where ax25_kiss_read refuses'
+        count.ok(f'kissutil {outcome} (packets: {packets_of})')
+
+
 # direwolf
 
 def check_direwolf(count, program, folder, command):
@@ -127,9 +191,10 @@ def main():
         sys.exit(__doc__)
     kissutil, direwolf, folder, command = sys.argv[1], sys.argv[2], pathlib.Path(sys.argv[3]), sys.argv[4:]
     count = Count()
-    for check in (lambda: check_kissutil(count, kissutil, command), lambda: check_direwolf(count, direwolf, folder, command)):
+    for check, words in ((check_docs, ()), (check_kissutil, (kissutil, command)), (check_wrong, (kissutil, command)),
+                         (check_direwolf, (direwolf, folder, command))):
         try:
-            check()
+            check(count, *words)
         except Trouble as trouble:
             count.fail(str(trouble))
     count.end()
