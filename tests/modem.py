@@ -111,7 +111,7 @@ def check_kissutil(count, program, command):
 
 FEND = b'\xC0'
 FRAME, LAST = spelled('', UI + b'LEVEL'), spelled('', UI + b'LAST')
-# The packet, the number that ax25_kiss_read owes it, the text that kissutil shows of it, or None, and where that is otherwise the entry of E.
+# The packet, the number that ax25_kiss_read owes it, the text that kissutil shows of it, or None; where that is otherwise, the entry of E.
 Case = collections.namedtuple('Case', 'packet number text entry', defaults=(None, None))
 
 
@@ -163,8 +163,8 @@ def check_wrong(count, program, command):
         tally[case.entry] += 1
     count.fail_all(wrong)
     for entry, packets_of in tally.items() if not wrong else ():
-        outcome = f'reads otherwise than ax25_kiss_read as docs/DIFFERENCES.md lists, {entry}' if entry else 'shows no frame where ax25_kiss_read refuses'
-        count.ok(f'kissutil {outcome} (packets: {packets_of})')
+        otherwise = f'reads otherwise than ax25_kiss_read as docs/DIFFERENCES.md lists, {entry}'
+        count.ok(f"kissutil {otherwise if entry else 'shows no frame where ax25_kiss_read refuses'} (packets: {packets_of})")
 
 
 # direwolf
