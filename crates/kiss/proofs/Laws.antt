@@ -5,20 +5,25 @@ use mathlib.Core.Bool.{true, false, cond}
 use mathlib.Core.List.{List, [], _∷_, _++_}
 use native.Mathlib.Numerals.{add-one}
 use native.Mathlib.Omega.{arith}
-use borrow.Author.Tests.{lt-ltb, le-ltb}
+use borrow.Author.Tests.{ne-eqb, lt-ltb, le-ltb}
 use lib.Dec.{eqb}
-use lib.ListN.{length, getD, set, drop, length-append, length-set, drop-of-length-le}
-use lib.Seq.{drop-cons}
+use lib.ListN.{length, getD, set, take, drop, length-append, length-drop, length-set, drop-of-length-le}
+use lib.Seq.{drop-cons, drop-drop, length-take-le}
 use Rattle.octets.specs.Splice.{splice}
 use Rattle.octets.specs.Count.{count}
-use Rattle.octets.proofs.Choice.{by}
+use Rattle.octets.specs.First.{first}
+use Rattle.octets.proofs.Choice.{by, neither}
+use Rattle.octets.proofs.First.{first-le}
 use Rattle.octets.proofs.Count.{count-le}
 use Rattle.octets.proofs.Splice.{splice-none, splice-one, splice-length, splice-cons, splice-then}
-use Rattle.kiss.specs.Packet.{fend, fesc, tfend, tfesc, escapeOf, escaped, special, typeOf, lastPort, packet}
+use Rattle.escapes.specs.Escape.{fend, fesc, tfend, tfesc, escapeOf, escaped, special}
+use Rattle.kiss.specs.Packet.{typeOf, lastPort, packet}
+use Rattle.kiss.specs.Steps.{nextCount, nextOctets, nextPlace}
 use Rattle.kiss.specs.Write.{writeAnswer, given, octetsWritten, written}
 use Rattle.kiss.specs.declared.KissWriteAnswer.{KissWriteAnswer}
 use Rattle.kiss.specs.declared.KissWriteAnswer.the-variants.{Written, PortTooHigh, NoRoom}
 use Rattle.kiss.specs.declared.KissWritten.{KissWritten}
+use Rattle.kiss.specs.declared.Place.{Place}
 
 -- ---- one octet
 pub escape-fend : (b : ℕ) → eqb b fend ≡ true → escapeOf b ≡ fesc ∷ tfend ∷ []
@@ -53,9 +58,96 @@ escaped-length (b ∷ s) =
     (λ e. rw e (omega (arith, both, rw e at (escape-length b))))
     (λ e. rw e (omega (arith, both, rw e at (escape-length b))))
 
-pub escaped-step : (s : List ℕ) (i : ℕ) → i < length s → escaped (drop i s) ≡ escapeOf (getD s i 0) ++ escaped (drop (i + 1) s)
-unfolding escaped
-escaped-step s i h = rw (add-one, drop-cons s i 0) refl
+-- up to the first special octet it stands for itself
+escaped-run : (l : List ℕ) → escaped l ≡ take (first special l) l ++ escaped (drop (first special l) l)
+unfolding escaped first
+escaped-run [] = refl
+escaped-run (x ∷ l) =
+    by (special x)
+    (λ e. rw e refl)
+    (λ e. let n = neither (eqb x fend) (eqb x fesc) e in
+    rw (e, escape-plain x (n .0) (n .1)) (ap (λ (t : List ℕ). x ∷ t) (escaped-run l)))
+
+-- ---- one step of the writing loop
+first-none : (x : ℕ) (l : List ℕ) → special x ≡ true → first special (x ∷ l) ≡ 0
+unfolding first
+first-none x l e = rw e refl
+
+first-some : (x : ℕ) (l : List ℕ) → special x ≡ false → first special (x ∷ l) ≡ suc (first special l)
+unfolding first
+first-some x l e = rw e refl
+
+-- a special octet is written as two
+module _ (s : List ℕ) (from to : ℕ) (h : from < length s) where
+  abbrev x : ℕ
+  x = getD s from 0
+
+  special-count : special x ≡ true → nextCount (drop from s) ≡ 1
+  unfolding nextCount
+  special-count e = rw (drop-cons s from 0 h, first-none x (drop (suc from) s) e) refl
+
+  plain-some : special x ≡ false → first special (drop from s) ≡ suc (first special (drop (suc from) s))
+  plain-some e = ap (first special) (drop-cons s from 0 h) ∙ first-some x (drop (suc from) s) e
+
+  plain-count : special x ≡ false → nextCount (drop from s) ≡ first special (drop from s)
+  unfolding nextCount
+  plain-count e =
+      let some = plain-some e in
+      rw (ne-eqb (first special (drop from s)) 0 (λ z. omega arith)) refl
+
+  special-place : (n : ℕ) → nextCount (drop from s) ≡ 1 → length (nextOctets (drop from s)) ≡ n → record { from = from + 1; to = to + n } ≡ nextPlace s from to
+  unfolding nextPlace
+  special-place n c l = rw (c, l) refl
+
+  pub next-fend : eqb x fend ≡ true → (record { from = from + 1; to = to + 2 } ≡ nextPlace s from to) × (nextOctets (drop from s) ≡ fesc ∷ tfend ∷ [])
+  unfolding nextOctets
+  next-fend e =
+      let o : nextOctets (drop from s) ≡ fesc ∷ tfend ∷ [] = rw (drop-cons s from 0 h) (simp e) in
+      (special-place 2 (special-count (rw e refl)) (ap length o), o)
+
+  pub next-fesc : eqb x fend ≡ false → eqb x fesc ≡ true → (record { from = from + 1; to = to + 2 } ≡ nextPlace s from to) × (nextOctets (drop from s) ≡ fesc ∷ tfesc ∷ [])
+  unfolding nextOctets
+  next-fesc e f =
+      let o : nextOctets (drop from s) ≡ fesc ∷ tfesc ∷ [] = rw (drop-cons s from 0 h) (simp (e, f)) in
+      (special-place 2 (special-count (rw (e, f) refl)) (ap length o), o)
+
+  -- all others are written as they are, as far as they go
+  pub next-plain : eqb x fend ≡ false → eqb x fesc ≡ false → let k = first special (drop from s) in
+      (record { from = from + k; to = to + k } ≡ nextPlace s from to) × (nextOctets (drop from s) ≡ take k (drop from s))
+  unfolding nextOctets nextPlace
+  next-plain e f =
+      let k : ℕ = first special (drop from s) in
+      let o : nextOctets (drop from s) ≡ take k (drop from s) = rw (drop-cons s from 0 h) (simp (e, f)) in
+      let c : nextCount (drop from s) ≡ k = plain-count (rw (e, f) refl) in
+      let l : length (nextOctets (drop from s)) ≡ k = ap length o ∙ length-take-le k (drop from s) (first-le special (drop from s)) in
+      (rw (c, l) refl, o)
+
+  -- either way it is a part of what is to be written, and goes on by some octets
+  pub next-some : (1 ≤ nextCount (drop from s)) × (from + nextCount (drop from s) ≤ length s)
+  next-some =
+      by (special x)
+      (λ e. rw (special-count e) (omega arith, omega arith))
+      (λ e. let c = plain-count e in
+      let some = plain-some e in
+      rw c (omega arith, omega (arith, first-le special (drop from s), length-drop from s)))
+
+  pub next-step : escaped (drop from s) ≡ nextOctets (drop from s) ++ escaped (drop (from + nextCount (drop from s)) s)
+  unfolding escaped
+  next-step =
+      by (eqb x fend)
+      (λ e. one (escape-fend x e) (next-fend e .1) (special-count (rw e refl)))
+      (λ e. by (eqb x fesc)
+      (λ f. one (escape-fesc x e f) (next-fesc e f .1) (special-count (rw (e, f) refl)))
+      (λ f. let k : ℕ = first special (drop from s) in
+      rw (next-plain e f .1, plain-count (rw (e, f) refl)) (escaped-run (drop from s) ∙ rw (drop-drop k from s) refl)))
+    where
+      one : {a : List ℕ} → escapeOf x ≡ a → nextOctets (drop from s) ≡ a → nextCount (drop from s) ≡ 1
+          → escaped (drop from s) ≡ nextOctets (drop from s) ++ escaped (drop (from + nextCount (drop from s)) s)
+      one d o c = rw (o, c, add-one) (rw (drop-cons s from 0 h) (ap (λ (t : List ℕ). t ++ escaped (drop (suc from) s)) d))
+
+  -- so that it has room where all that is to be written has
+  pub next-room : length (nextOctets (drop from s)) ≤ length (escaped (drop from s))
+  next-room = omega (arith, ap length next-step, length-append (nextOctets (drop from s)) (escaped (drop (from + nextCount (drop from s)) s)))
 
 -- the data from place i on is still to be written from place j on
 pub record Left (s out : List ℕ) (n i j : ℕ) (whole : List ℕ) : Type 0 where
@@ -63,27 +155,25 @@ pub record Left (s out : List ℕ) (n i j : ℕ) (whole : List ℕ) : Type 0 whe
   pub long : n ≤ length out
   pub is : splice out j (escaped (drop i s)) ≡ whole
 
--- the next octet has room
-pub left-room : (s out : List ℕ) (n i j : ℕ) (whole : List ℕ) → Left s out n i j whole → i < length s → j + length (escapeOf (getD s i 0)) ≤ length out
-left-room s out n i j whole l h =
+pub left-turn : (s out out₁ : List ℕ) (n i j : ℕ) (p : Place) (whole : List ℕ) → Left s out n i j whole → i < length s
+    → p ≡ nextPlace s i j → out₁ ≡ splice out j (nextOctets (drop i s)) → Left s out₁ n (p .from) (p .to) whole
+unfolding nextPlace
+left-turn s out out₁ n i j p whole l h e f =
+    let a : List ℕ = nextOctets (drop i s) in
+    let b : List ℕ = escaped (drop (i + nextCount (drop i s)) s) in
     let many = l .many in
     let long = l .long in
-    omega (arith, ap length (escaped-step s i h), length-append (escapeOf (getD s i 0)) (escaped (drop (i + 1) s)))
-
-pub left-turn : (s out out₁ : List ℕ) (n i j j₁ : ℕ) (whole : List ℕ) → Left s out n i j whole → i < length s
-    → j₁ ≡ j + length (escapeOf (getD s i 0)) → out₁ ≡ splice out j (escapeOf (getD s i 0)) → Left s out₁ n (i + 1) j₁ whole
-left-turn s out out₁ n i j j₁ whole l h e f =
-    let a : List ℕ = escapeOf (getD s i 0) in
-    let b : List ℕ = escaped (drop (i + 1) s) in
-    let many = l .many in
-    let long = l .long in
-    let step = escaped-step s i h in
+    let step : escaped (drop i s) ≡ a ++ b = next-step s i j h in
     let both : length (escaped (drop i s)) ≡ length a + length b = ap length step ∙ length-append a b in
-    record {
+    rw e (record {
       many = omega arith;
       long = rw (f, splice-length) long;
-      is = rw (f, e) (splice-then out j (length a) a b refl (omega arith) ∙ ap (λ (x : List ℕ). splice out j x) (sym step) ∙ l .is);
-    }
+      is = rw f (splice-then out j (length a) a b refl (omega arith) ∙ ap (splice out j) (sym step) ∙ l .is);
+    })
+
+pub next-further : (s : List ℕ) (from to : ℕ) (p : Place) → from < length s → p ≡ nextPlace s from to → from < p .from
+unfolding nextPlace
+next-further s from to p h e = rw e (omega (arith, next-some s from to h .0))
 
 pub left-none : (s out : List ℕ) (n i j : ℕ) (whole : List ℕ) → Left s out n i j whole → length s ≤ i → out ≡ whole
 unfolding escaped

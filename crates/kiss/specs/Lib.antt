@@ -1,2 +1,3 @@
 pub mod Packet
 pub mod Write
+pub mod Steps

@@ -1,25 +1,20 @@
 // KISS packets, which a modem's line carries: writing one whole packet. A refusal leaves the output alone, so that there are two passes:
 // one that measures, and one that copies.
+use escapes::FEND;
+use escapes::FESC;
+use escapes::TFEND;
+use escapes::TFESC;
 ghost use mathlib.Core.Path.{_≡_};
-ghost use mathlib.Core.Bool.{cond};
 ghost use mathlib.Core.List.{[], _∷_};
-ghost use Prim.Native.Nat.{_+_, _≤_};
+ghost use Prim.Native.Nat.{_+_, _≤_, _<_};
 ghost use lib.Dec.{leb};
-ghost use lib.ListN.{length};
+ghost use lib.ListN.{length, drop};
 ghost use Rattle.octets.specs.Splice.{splice};
-ghost use Rattle.octets.specs.Count.{count};
-ghost use Rattle.kiss.specs.Packet.{fesc, escapeOf, escaped, special};
+ghost use Rattle.escapes.specs.Escape.{fesc, escaped};
+ghost use Rattle.kiss.specs.Steps.{nextPlace, nextOctets};
 ghost use Rattle.kiss.specs.Write.{numberOf, written, octetsWritten};
 
-// The octets that open and close a packet and that escape, by their names in the KISS document.
-pub const FEND: u8 = 0xC0;
-
-pub const FESC: u8 = 0xDB;
-
-pub const TFEND: u8 = 0xDC;
-
-pub const TFESC: u8 = 0xDD;
-
+// The highest port.
 pub const LAST_PORT: u8 = 11;
 
 // How writing a packet ended.
@@ -47,36 +42,6 @@ pub struct KissWritten {
     pub length: usize,
 }
 
-// Whether an octet of data is written as two.
-fn is_special(octet: u8) -> bool
-    ensures { λ r. ⌜ r ≡ special octet ⌝ }
-{
-    if octet == FEND {
-        return true;
-    }
-    octet == FESC
-}
-
-fn one_if(on: bool) -> usize
-    ensures { λ r. ⌜ r ≡ cond on 1 0 ⌝ }
-{
-    if on { 1 } else { 0 }
-}
-
-// The first pass: how many octets of the data are written as two.
-fn count_special(info: &[u8]) -> usize
-    ensures { λ r. ⌜ r ≡ count special (now (info .entry)) ⌝ }
-    ensures { λ r. ⌜ r ≤ length (now (info .entry)) ⌝ }
-{
-    let mut found = 0;
-    let mut i = 0;
-    while i < info.len() {
-        found += one_if(is_special(info[i]));
-        i += 1;
-    }
-    found
-}
-
 // Whether a packet with so many octets of data, and so many of them special, has room.
 fn fits(room: usize, n: usize, found: usize) -> bool
     ensures { λ r. ⌜ r ≡ leb (3 + n + found) room ⌝ }
@@ -93,31 +58,48 @@ fn fits(room: usize, n: usize, found: usize) -> bool
     true
 }
 
-// Two octets for one: a DB and what follows it. It gives the place behind them.
-fn put_escape(out: &mut [u8], at: usize, second: u8) -> usize
+// How far writing has come: in the data, and in the output.
+struct Place {
+    from: usize,
+    to: usize,
+}
+
+// Two octets for one: a DB and what follows it.
+fn put_escape(out: &mut [u8], at: usize, second: u8)
     requires { ⌜ at + 2 ≤ length (now out) ⌝ }
-    ensures { λ r. ⌜ r ≡ at + 2 ⌝ }
     ensures { λ r. ⌜ now (out .exit) ≡ splice (now (out .entry)) at (fesc ∷ second ∷ []) ⌝ }
 {
     out[at] = FESC;
     out[at + 1] = second;
-    at + 2
 }
 
-// One octet of data as it is written. It gives the place behind it.
-fn put_octet(out: &mut [u8], at: usize, octet: u8) -> usize
-    requires { ⌜ at + length (escapeOf octet) ≤ length (now out) ⌝ }
-    ensures { λ r. ⌜ r ≡ at + length (escapeOf octet) ⌝ }
-    ensures { λ r. ⌜ now (out .exit) ≡ splice (now (out .entry)) at (escapeOf octet) ⌝ }
+// The next octet, where it is written as two; else all that stand for themselves from there on.
+fn put_next(out: &mut [u8], to: usize, info: &[u8], from: usize) -> Place
+    requires { ⌜ (from < length (now info)) × (to + length (escaped (drop from (now info))) ≤ length (now out)) ⌝ }
+    ensures { λ r. ⌜ r ≡ nextPlace (now (info .entry)) from to ⌝ }
+    ensures { λ r. ⌜ now (out .exit) ≡ splice (now (out .entry)) to (nextOctets (drop from (now (info .entry)))) ⌝ }
 {
+    let octet = info[from];
     if octet == FEND {
-        return put_escape(out, at, TFEND);
+        put_escape(out, to, TFEND);
+        return Place {
+            from: from + 1,
+            to: to + 2,
+        };
     }
     if octet == FESC {
-        return put_escape(out, at, TFESC);
+        put_escape(out, to, TFESC);
+        return Place {
+            from: from + 1,
+            to: to + 2,
+        };
     }
-    out[at] = octet;
-    at + 1
+    let stop = escapes::plain_to(info, from);
+    lent::put(out, to, &info[from..stop]);
+    Place {
+        from: stop,
+        to: to + (stop - from),
+    }
 }
 
 // The second pass: the data, escaped, from `at` on.
@@ -128,8 +110,9 @@ fn put_escaped(out: &mut [u8], at: usize, info: &[u8])
     let mut j = at;
     let mut i = 0;
     while i < info.len() {
-        j = put_octet(out, j, info[i]);
-        i += 1;
+        let next = put_next(out, j, info, i);
+        i = next.from;
+        j = next.to;
     }
 }
 
@@ -144,7 +127,7 @@ pub fn write(port: u8, info: &[u8], out: &mut [u8]) -> KissWritten
             length: 0,
         };
     }
-    let found = count_special(info);
+    let found = escapes::count_special(info);
     let n = info.len();
     if !fits(out.len(), n, found) {
         return KissWritten {

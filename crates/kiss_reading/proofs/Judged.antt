@@ -1,22 +1,21 @@
 -- Reading by its cases: what stands before the data decides which packets are judged by it.
-use Prim.Native.Nat.{ℕ, zero, suc, _+_, _≤_, _<_}
+use Prim.Native.Nat.{ℕ, _≤_, _<_}
 use mathlib.Core.Path.{_≡_, refl, ap, sym, _∙_}
 use mathlib.Core.Bool.{Bool, true, false, cond, false≢true}
 use mathlib.Core.List.{List, [], _∷_}
-use mathlib.Core.Logic.{_⊎_, inl, inr, ⊎-elim}
 use native.Mathlib.Omega.{arith}
 use borrow.Author.Tests.{eqb-true, ltb-false, lt-ltb, le-ltb}
 use types.Run.{OneOf, miss}
 use denote.Enum.Declared.{tagOf}
 use lib.Dec.{eqb, ltb}
 use lib.ListN.{length, getD, drop, drop-of-length-le}
-use lib.Seq.{drop-cons, drop-drop}
+use lib.Seq.{drop-cons}
 use Rattle.octets.specs.Octet.{field}
 use Rattle.octets.proofs.Choice.{by, either}
-use Rattle.kiss.specs.Packet.{fend, fesc, tfend, tfesc, lastPort}
+use Rattle.escapes.specs.Escape.{fend, fesc, tfend, tfesc}
+use Rattle.kiss.specs.Packet.{lastPort}
 use Rattle.kiss_reading.specs.Answer.{isAccepted, Given, refused, accepted}
 use Rattle.kiss_reading.specs.Read.{Heard, heard, onPort, typed, typeEscaped, opened, readPacket, readInto}
-use Rattle.kiss_reading.specs.Steps.{secondOf, takenFrom}
 use Rattle.kiss_reading.specs.declared.KissAnswer.{KissAnswer}
 use Rattle.kiss_reading.specs.declared.KissAnswer.the-variants.{Accepted, NoOpening, Empty, BadEscape, NotData, PortTooHigh, NoClosing, NoRoom}
 use Rattle.kiss_reading.proofs.KissAnswer.{the-type}
@@ -54,57 +53,35 @@ pub on-accepted : (port : ℕ) (h : Heard) → isAccepted (h .answer) ≡ true �
 unfolding onPort
 on-accepted port h e = simp e
 
+-- ---- an escaped type octet
+pub escaped-none : (s : List ℕ) → length s ≤ 2 → refused BadEscape ≡ typeEscaped (drop 2 s)
+unfolding typeEscaped
+escaped-none s h = rw (drop-of-length-le s h) refl
+
+-- it is C0, on port 12, or DB, with command 11
+pub escaped-at : (s : List ℕ) → 2 < length s
+    → typeEscaped (drop 2 s) ≡ cond (eqb (getD s 2 0) tfend) (refused PortTooHigh) (cond (eqb (getD s 2 0) tfesc) (refused NotData) (refused BadEscape))
+unfolding typeEscaped
+escaped-at s h =
+    rw (drop-cons s 2 0 h) (simp (typed-port fend (drop 3 s) refl refl, typed-command fesc (drop 3 s) refl))
+
 -- ---- what stands behind the opening C0
-record Typed (l : List ℕ) : Type 0 where
-  some : 1 ≤ takenFrom l .width
-  wide : takenFrom l .width ≤ length l
-  is : opened l ≡ typed (takenFrom l .octet) (drop (takenFrom l .width) l)
-
-abbrev Bad : List ℕ → Type 0
-Bad l = (takenFrom l .width ≡ 0) × (opened l ≡ refused BadEscape)
-
-behind : (x : ℕ) (l : List ℕ) → eqb x fend ≡ false → eqb x fesc ≡ true → Bad (x ∷ l) ⊎ Typed (x ∷ l)
-unfolding opened typeEscaped takenFrom secondOf
-behind x [] f e = inl (simp e, simp (f, e))
-behind x (y ∷ l) f e =
-    by (eqb y tfend)
-    (λ a. inr (record { some = simp (e, a) (omega arith); wide = simp (e, a) (omega arith); is = simp (f, e, a) }))
-    (λ a. by (eqb y tfesc)
-    (λ b. inr (record { some = simp (e, a, b) (omega arith); wide = simp (e, a, b) (omega arith); is = simp (f, e, a, b) }))
-    (λ b. inl (simp (e, a, b), simp (f, e, a, b))))
-
-first : (x : ℕ) (l : List ℕ) → eqb x fend ≡ false → Bad (x ∷ l) ⊎ Typed (x ∷ l)
-unfolding opened takenFrom
-first x l f =
-    by (eqb x fesc)
-    (behind x l f)
-    (λ e. inr (record { some = simp e (omega arith); wide = simp e (omega arith); is = simp (f, e) }))
-
-first-at : (s : List ℕ) → 1 < length s → eqb (getD s 1 0) fend ≡ false → Bad (drop 1 s) ⊎ Typed (drop 1 s)
-first-at s h f = rw (drop-cons s 1 0) (first (getD s 1 0) (drop 2 s) f)
-
 pub opened-none : (s : List ℕ) → length s ≤ 1 → opened (drop 1 s) ≡ refused NoClosing
 unfolding opened
 opened-none s h = rw (drop-of-length-le s h) refl
 
 pub opened-empty : (s : List ℕ) → 1 < length s → eqb (getD s 1 0) fend ≡ true → opened (drop 1 s) ≡ refused Empty
 unfolding opened
-opened-empty s h e = rw (drop-cons s 1 0) (simp e)
+opened-empty s h e = rw (drop-cons s 1 0 h) (simp e)
 
-pub opened-bad : (s : List ℕ) → 1 < length s → eqb (getD s 1 0) fend ≡ false → takenFrom (drop 1 s) .width ≡ 0 → opened (drop 1 s) ≡ refused BadEscape
-opened-bad s h f w =
-    ⊎-elim
-    (λ (b : Bad (drop 1 s)). b .1)
-    (λ (t : Typed (drop 1 s)). absurd (omega (arith, w, t .some)))
-    (first-at s h f)
+pub opened-escaped : (s : List ℕ) → 1 < length s → eqb (getD s 1 0) fend ≡ false → eqb (getD s 1 0) fesc ≡ true → opened (drop 1 s) ≡ typeEscaped (drop 2 s)
+unfolding opened
+opened-escaped s h f e = rw (drop-cons s 1 0 h) (simp (f, e))
 
-pub opened-typed : (s : List ℕ) → 1 < length s → eqb (getD s 1 0) fend ≡ false → (takenFrom (drop 1 s) .width ≡ 0 → ⊥)
-    → (takenFrom (drop 1 s) .width ≤ length (drop 1 s)) × (opened (drop 1 s) ≡ typed (takenFrom (drop 1 s) .octet) (drop (1 + takenFrom (drop 1 s) .width) s))
-opened-typed s h f w =
-    ⊎-elim
-    (λ (b : Bad (drop 1 s)). absurd (w (b .0)))
-    (λ (t : Typed (drop 1 s)). (t .wide, t .is ∙ rw (drop-drop (takenFrom (drop 1 s) .width) 1 s) refl))
-    (first-at s h f)
+pub opened-typed : (s : List ℕ) → 1 < length s → eqb (getD s 1 0) fend ≡ false → eqb (getD s 1 0) fesc ≡ false
+    → opened (drop 1 s) ≡ typed (getD s 1 0) (drop 2 s)
+unfolding opened
+opened-typed s h f e = rw (drop-cons s 1 0 h) (simp (f, e))
 
 -- ---- the opening C0
 pub read-none : (s : List ℕ) → length s ≡ 0 → readPacket s ≡ refused NoOpening

@@ -5,7 +5,8 @@ use mathlib.Core.List.{List, [], _∷_}
 use lib.Dec.{eqb, ltb}
 use lib.ListN.{length}
 use Rattle.octets.specs.Octet.{field}
-use Rattle.kiss.specs.Packet.{fend, fesc, tfend, tfesc, lastPort}
+use Rattle.escapes.specs.Escape.{fend, fesc, tfend, tfesc}
+use Rattle.kiss.specs.Packet.{lastPort}
 use Rattle.kiss_reading.specs.Answer.{isAccepted, Given, refused, accepted}
 use Rattle.kiss_reading.specs.declared.KissAnswer.{KissAnswer}
 use Rattle.kiss_reading.specs.declared.KissAnswer.the-variants.{Accepted, NoOpening, Empty, BadEscape, NotData, PortTooHigh, NoClosing, NoRoom}

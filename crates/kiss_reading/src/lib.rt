@@ -1,20 +1,19 @@
 // Reading one whole KISS packet. A refusal leaves the output alone, so that there are two passes: one that judges and measures, and one
 // that copies.
-use kiss::FEND;
-use kiss::FESC;
+use escapes::FEND;
+use escapes::FESC;
+use escapes::TFEND;
+use escapes::TFESC;
 use kiss::LAST_PORT;
-use kiss::TFEND;
-use kiss::TFESC;
 ghost use mathlib.Core.Path.{_≡_};
-ghost use mathlib.Core.Bool.{true, false, cond};
-ghost use Prim.Native.Nat.{_≤_, _<_};
+ghost use mathlib.Core.Bool.{true, false};
+ghost use Prim.Native.Nat.{_+_, _≤_, _<_};
 ghost use lib.ListN.{length, drop};
 ghost use lib.ListN.{length as listLength};
 ghost use Rattle.octets.specs.Splice.{splice};
 ghost use Rattle.kiss_reading.specs.Answer.{numberOf, isAccepted, refused, readOf};
-ghost use Rattle.kiss_reading.specs.Read.{heard, typed, opened, readPacket, readInto};
-ghost use Rattle.kiss_reading.specs.Steps.{takenFrom, measuredOf};
-ghost use Rattle.kiss_reading.specs.declared.KissAnswer.the-variants.{Accepted, NoClosing};
+ghost use Rattle.kiss_reading.specs.Read.{heard, typed, typeEscaped, opened, readPacket, readInto};
+ghost use Rattle.kiss_reading.specs.Steps.{stepFrom, dataOf, stoppedAt, restoredOf, measuredOf, Goes};
 
 // How reading a packet ended.
 pub enum KissAnswer {
@@ -52,10 +51,10 @@ pub struct KissRead {
     pub length: usize,
 }
 
-// An octet of data, escape removed, and how many octets it takes: none where a DB is followed by neither DC nor DD.
-struct Taken {
-    octet: u8,
+// How far a step goes in the packet, and how many octets of data it takes.
+struct Step {
     width: usize,
+    length: usize,
 }
 
 // What the octets behind the type octet come to, and how many octets of data are in them.
@@ -74,42 +73,56 @@ fn refused_read(answer: KissAnswer) -> KissRead
     }
 }
 
-// The octet of data that starts at `at`.
-fn taken_at(input: &[u8], at: usize) -> Taken
+// The step from `at` on: an escaped octet, or all that stand for themselves. There is none at a C0 or at a bad escape.
+fn step_at(input: &[u8], at: usize) -> Step
     requires { ⌜ at < length (now input) ⌝ }
-    ensures { λ r. ⌜ r ≡ takenFrom (drop at (now (input .entry))) ⌝ }
+    ensures { λ r. ⌜ r ≡ stepFrom (drop at (now (input .entry))) ⌝ }
 {
     let octet = input[at];
     if octet != FESC {
-        return Taken { octet, width: 1 };
+        let run = escapes::plain_to(input, at) - at;
+        return Step {
+            width: run,
+            length: run,
+        };
     }
     if input.len() - at == 1 {
-        return Taken { octet: 0, width: 0 };
+        return Step {
+            width: 0,
+            length: 0,
+        };
     }
     let second = input[at + 1];
     if second == TFEND {
-        return Taken {
-            octet: FEND,
+        return Step {
             width: 2,
+            length: 1,
         };
     }
     if second == TFESC {
-        return Taken {
-            octet: FESC,
+        return Step {
             width: 2,
+            length: 1,
         };
     }
-    Taken { octet: 0, width: 0 }
+    Step {
+        width: 0,
+        length: 0,
+    }
 }
 
-fn closed(last: bool) -> KissAnswer
-    ensures { λ r. ⌜ r ≡ cond last Accepted NoClosing ⌝ }
+// The answer where no step is left: a C0 closes the packet, if it is the last octet.
+fn stopped(input: &[u8], at: usize) -> KissAnswer
+    requires { ⌜ at < length (now input) ⌝ }
+    ensures { λ r. ⌜ r ≡ stoppedAt (drop at (now (input .entry))) ⌝ }
 {
-    if last {
-        KissAnswer::Accepted
-    } else {
-        KissAnswer::NoClosing
+    if input[at] != FEND {
+        return KissAnswer::BadEscape;
     }
+    if input.len() - at == 1 {
+        return KissAnswer::Accepted;
+    }
+    KissAnswer::NoClosing
 }
 
 // The first pass: judges and measures the octets behind the type octet, which start at `at`. It writes nothing.
@@ -117,25 +130,18 @@ fn measure(input: &[u8], at: usize) -> Measured
     requires { ⌜ at ≤ length (now input) ⌝ }
     ensures { λ r. ⌜ r ≡ measuredOf (heard false (drop at (now (input .entry)))) ⌝ }
 {
-    let n = input.len();
     let mut i = at;
     let mut length = 0;
-    while i < n {
-        if input[i] == FEND {
+    while i < input.len() {
+        let step = step_at(input, i);
+        if step.width == 0 {
             return Measured {
-                answer: closed(n - i == 1),
+                answer: stopped(input, i),
                 length,
             };
         }
-        let next = taken_at(input, i);
-        if next.width == 0 {
-            return Measured {
-                answer: KissAnswer::BadEscape,
-                length,
-            };
-        }
-        i += next.width;
-        length += 1;
+        i += step.width;
+        length += step.length;
     }
     Measured {
         answer: KissAnswer::NoClosing,
@@ -143,10 +149,10 @@ fn measure(input: &[u8], at: usize) -> Measured
     }
 }
 
-// A type octet, escapes removed, and the data behind it, which starts at `at`.
-fn judge_typed(input: &[u8], octet: u8, at: usize) -> KissRead
-    requires { ⌜ at ≤ length (now input) ⌝ }
-    ensures { λ r. ⌜ r ≡ readOf (typed octet (drop at (now (input .entry)))) ⌝ }
+// A type octet that stands for itself, and the data behind it.
+fn judge_typed(input: &[u8], octet: u8) -> KissRead
+    requires { ⌜ 2 ≤ length (now input) ⌝ }
+    ensures { λ r. ⌜ r ≡ readOf (typed octet (drop 2 (now (input .entry)))) ⌝ }
 {
     let command = octet & 0b0000_1111;
     if command != 0 {
@@ -156,7 +162,7 @@ fn judge_typed(input: &[u8], octet: u8, at: usize) -> KissRead
     if port > LAST_PORT {
         return refused_read(KissAnswer::PortTooHigh);
     }
-    let measured = measure(input, at);
+    let measured = measure(input, 2);
     let answer = measured.answer;
     let KissAnswer::Accepted = answer else {
         return refused_read(answer);
@@ -168,6 +174,24 @@ fn judge_typed(input: &[u8], octet: u8, at: usize) -> KissRead
     }
 }
 
+// The answer to an escaped type octet. With the escape removed it is C0, which is port 12, or DB, whose command is not 0.
+fn escaped_type(input: &[u8]) -> KissAnswer
+    requires { ⌜ 2 ≤ length (now input) ⌝ }
+    ensures { λ r. ⌜ refused r ≡ typeEscaped (drop 2 (now (input .entry))) ⌝ }
+{
+    if input.len() == 2 {
+        return KissAnswer::BadEscape;
+    }
+    let second = input[2];
+    if second == TFEND {
+        return KissAnswer::PortTooHigh;
+    }
+    if second == TFESC {
+        return KissAnswer::NotData;
+    }
+    KissAnswer::BadEscape
+}
+
 // What stands behind the opening C0.
 fn judge_opened(input: &[u8]) -> KissRead
     requires { ⌜ 1 ≤ length (now input) ⌝ }
@@ -176,14 +200,14 @@ fn judge_opened(input: &[u8]) -> KissRead
     if input.len() == 1 {
         return refused_read(KissAnswer::NoClosing);
     }
-    if input[1] == FEND {
+    let first = input[1];
+    if first == FEND {
         return refused_read(KissAnswer::Empty);
     }
-    let first = taken_at(input, 1);
-    if first.width == 0 {
-        return refused_read(KissAnswer::BadEscape);
+    if first == FESC {
+        return refused_read(escaped_type(input));
     }
-    judge_typed(input, first.octet, 1 + first.width)
+    judge_typed(input, first)
 }
 
 // Everything but the room.
@@ -199,20 +223,46 @@ fn judge(input: &[u8]) -> KissRead
     judge_opened(input)
 }
 
-// The second pass: so many octets of data, which start at `at`, to the start of the output.
+// The octet that stands behind a DB, for the two that may.
+fn restored(second: u8) -> u8
+    ensures { λ r. ⌜ r ≡ restoredOf second ⌝ }
+{
+    if second == TFEND { FEND } else { FESC }
+}
+
+// The step from `at` on, and its octets of data written to `to`.
+fn copy_step(input: &[u8], at: usize, out: &mut [u8], to: usize) -> Step
+    requires { ⌜ (at < length (now input)) × Goes (drop at (now input)) × (to + length (dataOf (drop at (now input))) ≤ length (now out)) ⌝ }
+    ensures { λ r. ⌜ r ≡ stepFrom (drop at (now (input .entry))) ⌝ }
+    ensures { λ r. ⌜ now (out .exit) ≡ splice (now (out .entry)) to (dataOf (drop at (now (input .entry)))) ⌝ }
+{
+    let octet = input[at];
+    if octet != FESC {
+        let stop = escapes::plain_to(input, at);
+        lent::put(out, to, &input[at..stop]);
+        return Step {
+            width: stop - at,
+            length: stop - at,
+        };
+    }
+    out[to] = restored(input[at + 1]);
+    Step {
+        width: 2,
+        length: 1,
+    }
+}
+
+// The second pass: so many octets of data, which start at `at` in the packet, to the start of the output.
 fn copy(input: &[u8], at: usize, out: &mut [u8], length: usize)
-    requires { ⌜ isAccepted (heard false (drop at (now input)) .answer) ≡ true ⌝ }
-    requires { ⌜ length ≡ listLength (heard false (drop at (now input)) .octets) ⌝ }
-    requires { ⌜ length ≤ listLength (now out) ⌝ }
+    requires { ⌜ (isAccepted (heard false (drop at (now input)) .answer) ≡ true) × (length ≡ listLength (heard false (drop at (now input)) .octets)) × (length ≤ listLength (now out)) ⌝ }
     ensures { λ r. ⌜ now (out .exit) ≡ splice (now (out .entry)) 0 (heard false (drop at (now (input .entry))) .octets) ⌝ }
 {
     let mut i = at;
     let mut j = 0;
     while j < length {
-        let next = taken_at(input, i);
-        out[j] = next.octet;
-        i += next.width;
-        j += 1;
+        let step = copy_step(input, i, out, j);
+        i += step.width;
+        j += step.length;
     }
 }
 

@@ -1,11 +1,12 @@
 -- Laws of the first element that passes: what a search finds, what it goes past, and how a loop comes to it.
 use Prim.Native.Nat.{ℕ, zero, suc, _+_, _≤_, _<_}
 use mathlib.Core.Path.{_≡_, refl, ap, _∙_}
-use mathlib.Core.Bool.{Bool, true, false, cond, not}
+use mathlib.Core.Bool.{Bool, true, false, cond, not, _&&_}
 use mathlib.Core.List.{List, [], _∷_, _++_}
 use native.Mathlib.Numerals.{add-one}
 use native.Mathlib.Omega.{arith}
-use lib.Dec.{eqb, eqb·zero-suc, eqb·suc-suc}
+use borrow.Author.Tests.{leb-true, leb-false, le-leb}
+use lib.Dec.{eqb, leb, eqb·zero-suc, eqb·suc-suc}
 use lib.ListN.{length, getD, drop, drop-of-length-le}
 use lib.Seq.{drop-cons}
 use Rattle.octets.specs.First.{first}
@@ -52,6 +53,28 @@ module _ {A : Type 0} (p : A → Bool) where
   first-is (x ∷ s) d zero h e f = rw e
   first-is (x ∷ s) d (suc k) h e f =
       rw (f 0 (omega arith)) (ap suc (first-is s d k (omega arith) e (λ j l. f (suc j) (omega arith))))
+
+  -- a search may start as far on as nothing passes before
+  pub first-skip : (s : List A) (k : ℕ) → k ≤ first p s → first p s ≡ k + first p (drop k s)
+  unfolding first
+  first-skip s zero h = omega arith
+  first-skip [] (suc k) h = absurd (omega arith)
+  first-skip (x ∷ s) (suc k) h =
+      by (p x) (λ e. let l : suc k ≤ 0 = rw e at h in absurd (omega arith))
+      (λ e. let l : suc k ≤ suc (first p s) = rw e at h in rw e (omega (arith, first-skip s k (omega arith))))
+
+  -- whether nothing passes at places below the next one, by whether nothing does below this one
+  pub first-beyond : (s : List A) (k : ℕ) (d : A) → k < length s → leb (k + 1) (first p s) ≡ (leb k (first p s) && not (p (getD s k d)))
+  first-beyond s k d h =
+      by (leb (k + 1) (first p s))
+      (λ e. let l : k + 1 ≤ first p s = leb-true _ _ e in
+      rw (e, le-leb k (first p s) (omega arith), first-before s d k (omega arith)) refl)
+      (λ e. let l : first p s < k + 1 = leb-false _ _ e in
+      by (leb k (first p s))
+      (λ f. let m : k ≤ first p s = leb-true _ _ f in
+      let here : first p s ≡ k = omega arith in
+      rw (e, f, rw here at (first-passes s d (omega arith))) refl)
+      (λ f. rw (e, f) refl))
 
   -- a search goes past a part in which nothing passes
   pub first-past : (a s : List A) (d : A) → ((j : ℕ) → j < length a → p (getD a j d) ≡ false) → first p (a ++ s) ≡ length a + first p s

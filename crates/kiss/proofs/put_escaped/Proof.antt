@@ -5,8 +5,9 @@ use native.Mathlib.Omega.{arith}
 use lib.ListN.{length}
 use Rattle.octets.specs.Splice.{splice}
 use Rattle.octets.proofs.Splice.{splice-length}
-use Rattle.kiss.specs.Packet.{escaped}
-use Rattle.kiss.proofs.Laws.{Left, left-room, left-turn, left-none}
+use Rattle.escapes.specs.Escape.{escaped}
+use Rattle.kiss.specs.declared.Place.{Place}
+use Rattle.kiss.proofs.Laws.{Left, left-turn, left-none, next-further}
 use borrow.Author.Needs.{needs}
 use Rattle.kiss.proofs.put_escaped.Statement.{statement}
 use Rattle.kiss.proofs.put_escaped.Tie as tie
@@ -21,24 +22,24 @@ abbrev μ-loop : tie.MeasureT-loop
 loop-holds : tie.Need-loop-holds Inv-loop μ-loop
 loop-holds c = (refl, record { many = refl; long = c .before .before .pre; is = refl })
 
-shared-slice-read-put-octet : tie.Need-shared-slice-read-put-octet Inv-loop μ-loop
-shared-slice-read-put-octet c = search needs
-
-put-octet-requires : tie.Need-put-octet-requires Inv-loop μ-loop
-put-octet-requires c κs = left-room _ _ _ _ _ _ (c .before .before .before .loop .inv .1) (c .before .before .loop-test .taken)
-
-add-i : tie.Need-add-i Inv-loop μ-loop
-add-i c = search needs
+put-next-requires : tie.Need-put-next-requires Inv-loop μ-loop
+put-next-requires c κs =
+    let l = c .before .before .loop in
+    (c .before .loop-test .taken, omega (arith, l .inv .1 .many, l .inv .1 .long))
 
 loop-less : tie.Need-loop-less Inv-loop μ-loop
-loop-less c = search needs
+loop-less c =
+    let p = c .before .before in
+    let l = p .before .before .before .loop in
+    let s = p .before .before .before .before .before .before .args .info .now in
+    omega (arith, next-further s (l .i) (l .j) (p .put-next .result) (p .before .before .loop-test .taken) (p .put-next .ensures .0))
 
 loop-again : tie.Need-loop-again Inv-loop μ-loop
 loop-again c =
     let p = c .before .before in
-    let l = p .before .before .before .before .loop in (
-      ap length (p .put-octet .ensures .1) ∙ splice-length _ _ _ ∙ l .inv .0,
-      left-turn _ _ _ _ _ _ _ _ (l .inv .1) (p .before .before .before .loop-test .taken) (p .put-octet .ensures .0) (p .put-octet .ensures .1),
+    let l = p .before .before .before .loop in (
+      ap length (p .put-next .ensures .1) ∙ splice-length _ _ _ ∙ l .inv .0,
+      left-turn _ _ _ _ _ _ _ _ (l .inv .1) (p .before .before .loop-test .taken) (p .put-next .ensures .0) (p .put-next .ensures .1),
     )
 
 same-length : tie.Need-same-length Inv-loop μ-loop
@@ -54,9 +55,7 @@ put-escaped-spec =
     Inv-loop
     μ-loop
     loop-holds
-    shared-slice-read-put-octet
-    put-octet-requires
-    add-i
+    put-next-requires
     loop-less
     loop-again
     same-length

@@ -8,7 +8,8 @@ use lib.ListN.{length, set, length-set}
 use Rattle.octets.specs.Splice.{splice}
 use Rattle.octets.specs.Count.{count}
 use Rattle.octets.proofs.Splice.{splice-none, splice-length}
-use Rattle.kiss.specs.Packet.{fend, escaped, special, typeOf, packet}
+use Rattle.escapes.specs.Escape.{fend, escaped, special}
+use Rattle.kiss.specs.Packet.{typeOf, packet}
 use Rattle.kiss.specs.declared.KissWriteAnswer.the-variants.{Written, PortTooHigh, NoRoom}
 use Rattle.kiss.proofs.Laws.{escaped-length, packet-length, packet-parts, write-port, write-short, write-fits, written-by}
 use borrow.Author.Needs.{needs}
@@ -20,7 +21,7 @@ fits : (c : tie.Else2) → let a = c .before .before .before .before .before .be
     3 + length (a .info .now) + count special (a .info .now) ≤ length (a .out .now)
 fits c =
     let a = c .before .before .before .before .before .before .args in
-    let n = c .before .before .count-special .ensures .0 in
+    let n = c .before .before .count-special .ensures in
     let room : 3 + length (a .info .now) + c .before .before .count-special .result ≤ length (a .out .now) =
     leb-true _ _ (sym (c .before .fits2 .ensures) ∙ not-false _ (c .if2 .left)) in
     omega (arith, n, room)
@@ -53,7 +54,7 @@ returns-2 c =
     let short = leb-false (3 + length (a .info .now) + k .count-special .result) (length (a .out .now)) (sym (c .before .fits2 .ensures) ∙ not-true _ (c .if2 .taken)) in
     let e = written-by (a .port) (a .info .now) (length (a .out .now)) NoRoom
     (write-short (a .port) (a .info .now) (length (a .out .now)) (k .before .if1 .left)
-    (omega (arith, short, k .count-special .ensures .0, packet-length (a .port) (a .info .now)))) in
+    (omega (arith, short, k .count-special .ensures, packet-length (a .port) (a .info .now)))) in
     (sym (e .0), sym (ap (splice (a .out .now) 0) (e .1) ∙ splice-none _ _))
 
 slice-write-out : tie.Need-slice-write-out
@@ -76,12 +77,12 @@ add-out c = search needs
 add-out-2 : tie.Need-add-out-2
 add-out-2 c =
     let k = c .before .before .before .before .before .before in
-    omega (arith, fits (c .before .before .before .before), k .count-special .ensures .0)
+    omega (arith, fits (c .before .before .before .before), k .count-special .ensures)
 
 slice-write-out-3 : tie.Need-slice-write-out-3
 slice-write-out-3 c =
     let k = c .before .before .before .before .before .before in
-    omega (arith, fits (c .before .before .before .before), k .count-special .ensures .0, long c)
+    omega (arith, fits (c .before .before .before .before), k .count-special .ensures, long c)
 
 add-t8 : tie.Need-add-t8
 add-t8 c = search needs
@@ -89,7 +90,7 @@ add-t8 c = search needs
 add-t17 : tie.Need-add-t17
 add-t17 c =
     let k = c .before .before .before .before .before .before in
-    omega (arith, fits (c .before .before .before .before), k .count-special .ensures .0)
+    omega (arith, fits (c .before .before .before .before), k .count-special .ensures)
 
 same-length : tie.Need-same-length
 same-length c = length-set (c .before .before .put-escaped .last .0) _ _ ∙ long c
@@ -102,7 +103,7 @@ returns-3 c =
     let out = a .out .now in
     let room = fits (c .before .before .before .before) in
     let p = k .before .if1 .left in
-    let n = k .count-special .ensures .0 in
+    let n = k .count-special .ensures in
     let type : a .port * 16 % 256 ≡ typeOf (a .port) = omega (arith, p) in
     let e = written-by (a .port) s (length out) Written (write-fits (a .port) s (length out) p (omega (arith, room, packet-length (a .port) s))) in (
       ap (λ (m : ℕ). record { answer = Written; length = m }) (rw n (sym (packet-length (a .port) s))) ∙ sym (e .0),

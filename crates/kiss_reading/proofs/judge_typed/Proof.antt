@@ -28,12 +28,12 @@ command c = eq-eqb _ _ (sym (low-mask (c .before .before .args .octet) 4) ∙ c 
 -- the command is 0 and the port is one of ours: what is heard decides
 onto : (c : tie.Else2) →
     let a = c .before .before .before .args in
-    typed (a .octet) (drop (a .at) (a .input .now)) ≡ onPort (a .octet / 16) (heard false (drop (a .at) (a .input .now)))
+    typed (a .octet) (drop 2 (a .input .now)) ≡ onPort (a .octet / 16) (heard false (drop 2 (a .input .now)))
 onto c =
     let a = c .before .before .before .args in
     let h = high (a .octet) (omega arith) in
     typed-data _ _ (command (c .before)) (rw h (le-ltb _ _ (c .if2 .left)))
-    ∙ ap (λ (p : ℕ). onPort p (heard false (drop (a .at) (a .input .now)))) h
+    ∙ ap (λ (p : ℕ). onPort p (heard false (drop 2 (a .input .now)))) h
 
 refused-read-requires : tie.Need-refused-read-requires
 refused-read-requires c κs = search needs

@@ -57,7 +57,7 @@ copy-requires c κs =
     let j = t .before .before in
     let s = j .before .before .before .args .input .now in
     let d = data-heard s (accepted t) in
-    (d .0, (ap (λ (r : KissRead). r .length) (j .judge .ensures) ∙ ap length (d .1), c .before .if1 .left))
+    (d .0, ap (λ (r : KissRead). r .length) (j .judge .ensures) ∙ ap length (d .1), c .before .if1 .left)
 
 same-length : tie.Need-same-length
 same-length c = search needs
