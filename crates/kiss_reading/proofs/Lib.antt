@@ -1,3 +1,4 @@
 pub mod Turns
 pub mod Judged
 pub mod Spelling
+pub mod Numbers

@@ -84,13 +84,13 @@ read-typed t l f e = simp (f, e)
 pub read-written : (port : ℕ) (s : List ℕ) → port ≤ lastPort → readPacket (packet port s) ≡ accepted port s
 read-written port s h =
     let t : ℕ = typeOf port in
-    let h₁ = heard-written s in
+    let all = heard-written s in
     let high : field 4 4 t ≡ port = omega arith in
     ap readPacket (packet-is port s)
     ∙ read-typed t (behind s) (ne-eqb t fend (λ e. omega (arith, e))) (ne-eqb t fesc (λ e. omega (arith, e)))
     ∙ typed-data t (behind s) (eq-eqb (field 0 4 t) 0 (omega arith)) (le-ltb lastPort (field 4 4 t) (omega arith))
-    ∙ on-accepted (field 4 4 t) (heard false (behind s)) (rw h₁ refl)
-    ∙ rw (h₁, high) refl
+    ∙ on-accepted (field 4 4 t) (heard false (behind s)) (rw all refl)
+    ∙ rw (all, high) refl
 
 -- ---- nothing else is
 no : {A : Type 0} → isAccepted NoRoom ≡ true → A

@@ -1,3 +1,4 @@
 pub mod Answer
 pub mod Read
 pub mod Steps
+pub mod Numbers
