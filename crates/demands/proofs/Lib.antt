@@ -7,3 +7,4 @@ pub mod Examples
 pub mod OneResult
 pub mod Relay
 pub mod Due
+pub mod Kiss

@@ -6,3 +6,4 @@ pub mod Shape
 pub mod Examples
 pub mod Relay
 pub mod Due
+pub mod Kiss
