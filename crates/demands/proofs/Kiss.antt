@@ -27,7 +27,7 @@ use Rattle.kiss_reading.specs.Read.{heard, onPort, typed, typeEscaped, opened, 
 use Rattle.kiss_reading.specs.declared.KissAnswer.{KissAnswer}
 use Rattle.kiss_reading.specs.declared.KissAnswer.the-variants as read
 use Rattle.kiss_reading.proofs.Judged.{fair-read, into-short, into-fits}
-use Rattle.kiss_reading.proofs.Spelling.{read-written, only, one-packet, packet-most}
+use Rattle.kiss_reading.proofs.Spelling.{read-written, only, data-octets, one-packet, packet-most}
 use Rattle.kiss_reading.proofs.Numbers.{read-rows}
 use Rattle.demands.specs.Table.{given, FirstRow}
 use Rattle.demands.specs.Lent.{starting}
@@ -167,7 +167,8 @@ kiss-one-spelling s t o p a b e f = one-packet s t o p a b e f
 -- what is accepted is what some port and octets spell
 pub kiss-accepted : (s : List ℕ) → Octets s → (isAccepted (readPacket s .answer) ≡ true) ↔ SpelledPacket s
 kiss-accepted s o = (
-  (λ a. let p = only s o a in record { port = readPacket s .port; octets = readPacket s .octets; in-range = p .0; spells = p .1 }),
+  (λ a. let p = only s o a in
+      record { port = readPacket s .port; octets = readPacket s .octets; bytes = data-octets s o a; in-range = p .0; spells = p .1 }),
   (λ q. rw (← q .spells, read-written (q .port) (q .octets) (q .in-range)) refl),
 )
 

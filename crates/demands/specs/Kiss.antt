@@ -4,6 +4,7 @@ use mathlib.Core.Path.{_≡_}
 use mathlib.Core.List.{List, [], _∷_}
 use lib.Dec.{ltb}
 use lib.ListN.{length}
+use Rattle.octets.specs.Octet.{Octets}
 use Rattle.octets.specs.Count.{count}
 use Rattle.kiss.specs.Packet.{special, packet}
 use Rattle.kiss_reading.specs.Numbers.{noOpening, nothing, strayType, notData, portOver, strayData, notClosed, short}
@@ -28,6 +29,7 @@ kissWriteTable port s room = (56, ltb 11 port) ∷ (24, ltb room (kissLength s))
 pub record SpelledPacket (s : List ℕ) : Type 0 where
   pub port : ℕ
   pub octets : List ℕ
+  pub bytes : Octets octets
   pub in-range : port ≤ 11
   pub spells : packet port octets ≡ s
 

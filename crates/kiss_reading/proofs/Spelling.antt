@@ -1,14 +1,15 @@
 -- One spelling: reading what was written gives port and octets, and nothing else is accepted.
-use Prim.Native.Nat.{ℕ, _+_, _*_, _≤_, _<_}
+use Prim.Native.Nat.{ℕ, zero, suc, _+_, _*_, _≤_, _<_}
 use mathlib.Core.Path.{_≡_, refl, ap, sym, _∙_}
 use mathlib.Core.Bool.{true, false, false≢true}
 use mathlib.Core.List.{List, [], _∷_, _++_}
 use native.Mathlib.Omega.{arith}
 use borrow.Author.Tests.{eqb-true, eq-eqb, ne-eqb, le-ltb}
 use lib.Dec.{eqb}
-use lib.ListN.{length, getD}
+use lib.ListN.{length, getD, drop}
 use Rattle.octets.specs.Octet.{Octets, field}
 use Rattle.octets.proofs.Choice.{by}
+use Rattle.octets.proofs.Octet.{octets-drop}
 use Rattle.octets.proofs.Count.{count-le}
 use Rattle.kiss.specs.Packet.{fend, fesc, tfend, tfesc, escaped, special, typeOf, lastPort, packet}
 use Rattle.kiss.proofs.Laws.{escape-fend, escape-fesc, escape-plain, packet-length}
@@ -16,7 +17,7 @@ use Rattle.kiss.proofs.Grammar.{escaped-none, escaped-cons, packet-is}
 use Rattle.kiss_reading.specs.Answer.{isAccepted, Given, accepted}
 use Rattle.kiss_reading.specs.Read.{Heard, ends, more, closed, heard, typed, opened, readPacket}
 use Rattle.kiss_reading.specs.declared.KissAnswer.the-variants.{Accepted, BadEscape, NoRoom}
-use Rattle.kiss_reading.proofs.Judged.{accepted-read, typed-data, on-accepted}
+use Rattle.kiss_reading.proofs.Judged.{accepted-read, typed-data, on-accepted, data-heard}
 
 -- ---- what is heard, one octet of data at a time
 pub heard-close : (x : ℕ) (l : List ℕ) → eqb x fend ≡ true → heard false (x ∷ l) ≡ ends (closed l)
@@ -132,6 +133,37 @@ only s o h =
       r .port,
       packet-is (field 4 4 kind) (heard false (r .rest) .octets) ∙ rw (type, data-is) (sym (r .is)),
     )
+
+-- ---- octets are read from octets
+octets-more : (b : ℕ) (h : Heard) → b < 256 → Octets (h .octets) → Octets (more b h .octets)
+octets-more b h l o zero = l
+octets-more b h l o (suc k) = o k
+
+heard-octets : (l : List ℕ) → Octets l → Octets (heard false l .octets)
+unfolding heard
+heard-octets [] o = o
+heard-octets (x ∷ []) o =
+    by (eqb x fend)
+    (λ f. rw (heard-close x [] f) (λ k. omega arith))
+    (λ f. by (eqb x fesc)
+    (λ e. rw (heard-last x f e) (λ k. omega arith))
+    (λ e. rw (heard-plain x [] f e) o))
+heard-octets (x ∷ y ∷ l) o =
+    let rest = octets-drop (x ∷ (y ∷ l)) 1 o in
+    let h : Heard = heard false l in
+    by (eqb x fend)
+    (λ f. rw (heard-close x (y ∷ l) f) (λ k. omega arith))
+    (λ f. by (eqb x fesc)
+    (λ e. let behind-it = heard-octets l (octets-drop (y ∷ l) 1 rest) in
+    by (eqb y tfend)
+    (λ a. rw (heard-tfend x y l f e a) (octets-more fend h (omega arith) behind-it))
+    (λ a. by (eqb y tfesc)
+    (λ b. rw (heard-tfesc x y l f e a b) (octets-more fesc h (omega arith) behind-it))
+    (λ b. rw (heard-stray x y l f e a b) (λ k. omega arith))))
+    (λ e. rw (heard-plain x (y ∷ l) f e) (octets-more x (heard false (y ∷ l)) (o 0) (heard-octets (y ∷ l) rest))))
+
+pub data-octets : (s : List ℕ) → Octets s → isAccepted (readPacket s .answer) ≡ true → Octets (readPacket s .octets)
+data-octets s o h = rw (data-heard s h .1) (heard-octets (drop 2 s) (octets-drop s 2 o))
 
 -- ---- so each packet has one spelling, and each spelling is of one packet
 pub one-packet : (s t : List ℕ) → Octets s → Octets t → isAccepted (readPacket s .answer) ≡ true → isAccepted (readPacket t .answer) ≡ true
