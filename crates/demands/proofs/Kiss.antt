@@ -103,6 +103,13 @@ accepted-kiss-read s out o z =
     let p = only s o (a .0) in
     rw (a .2) (p .0, p .1, splice-start out (readPacket s .octets) (a .1))
 
+-- of which the length tells them apart from the rest
+pub data-left : (s out : List ℕ) → numberOf (readInto s (length out) .answer) ≡ 0
+    → take (length (readInto s (length out) .octets)) (splice out 0 (readInto s (length out) .octets)) ≡ readInto s (length out) .octets
+data-left s out z =
+    let a = into-accepted s (length out) z in
+    rw (a .2) (rw (splice-start out (readPacket s .octets) (a .1)) (take-at (readPacket s .octets) _ _ refl))
+
 -- ---- writing
 -- a refusal has length 0, and leaves the output as it was
 none-given : (a : KissWriteAnswer) (t : List ℕ) → (write.numberOf a ≡ 0 → ⊥) → write.given a t ≡ []

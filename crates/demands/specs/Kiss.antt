@@ -6,7 +6,8 @@ use lib.Dec.{ltb}
 use lib.ListN.{length}
 use Rattle.octets.specs.Octet.{Octets}
 use Rattle.octets.specs.Count.{count}
-use Rattle.kiss.specs.Packet.{special, packet}
+use Rattle.escapes.specs.Escape.{special}
+use Rattle.kiss.specs.Packet.{packet}
 use Rattle.kiss_reading.specs.Numbers.{noOpening, nothing, strayType, notData, portOver, strayData, notClosed, short}
 use Rattle.demands.specs.Table.{Table}
 

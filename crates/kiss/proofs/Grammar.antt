@@ -7,7 +7,8 @@ use lib.Dec.{ltb}
 use lib.ListN.{length}
 use Rattle.octets.specs.Count.{count}
 use Rattle.octets.proofs.Choice.{by}
-use Rattle.kiss.specs.Packet.{fend, escapeOf, escaped, special, typeOf, lastPort, packet}
+use Rattle.escapes.specs.Escape.{fend, escapeOf, escaped, special}
+use Rattle.kiss.specs.Packet.{typeOf, lastPort, packet}
 use Rattle.kiss.specs.Write.{numberOf, writeAnswer}
 use Rattle.kiss.proofs.Laws.{packet-length}
 

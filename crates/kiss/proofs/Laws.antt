@@ -5,8 +5,8 @@ use mathlib.Core.Bool.{true, false, cond}
 use mathlib.Core.List.{List, [], _∷_, _++_}
 use native.Mathlib.Numerals.{add-one}
 use native.Mathlib.Omega.{arith}
-use borrow.Author.Tests.{ne-eqb, lt-ltb, le-ltb}
-use lib.Dec.{eqb}
+use borrow.Author.Tests.{ne-eqb, lt-ltb, le-ltb, ltb-false}
+use lib.Dec.{eqb, ltb}
 use lib.ListN.{length, getD, set, take, drop, length-append, length-drop, length-set, drop-of-length-le}
 use lib.Seq.{drop-cons, drop-drop, length-take-le}
 use Rattle.octets.specs.Splice.{splice}
@@ -220,3 +220,17 @@ pub written-by : (port : ℕ) (s : List ℕ) (room : ℕ) (a : KissWriteAnswer) 
     → (written port s room ≡ record { answer = a; length = length (given a (packet port s)) }) × (octetsWritten port s room ≡ given a (packet port s))
 unfolding written octetsWritten
 written-by port s room a e = rw e (refl, refl)
+
+pub written-answer : (port : ℕ) (s : List ℕ) (room : ℕ) → written port s room .answer ≡ writeAnswer port s room
+unfolding written
+written-answer port s room = refl
+
+-- what is written has room
+pub written-room : (port : ℕ) (s : List ℕ) (room : ℕ) → written port s room .length ≤ room
+unfolding written octetsWritten writeAnswer
+written-room port s room =
+    by (ltb lastPort port)
+    (λ e. rw e (omega arith))
+    (λ e. by (ltb room (length (packet port s)))
+    (λ f. rw (e, f) (omega arith))
+    (λ f. rw (e, f) (ltb-false room (length (packet port s)) f)))

@@ -11,7 +11,8 @@ use Rattle.octets.specs.Octet.{field}
 use Rattle.octets.specs.First.{first}
 use Rattle.octets.specs.Count.{count}
 use Rattle.octets.proofs.Choice.{by}
-use Rattle.kiss.specs.Packet.{fend, fesc, tfend, tfesc, lastPort}
+use Rattle.escapes.specs.Escape.{fend, fesc, tfend, tfesc}
+use Rattle.kiss.specs.Packet.{lastPort}
 use Rattle.kiss_reading.specs.Answer.{numberOf, isAccepted, refused}
 use Rattle.kiss_reading.specs.Read.{more, heard, onPort, typed, typeEscaped, opened, readPacket, readInto}
 use Rattle.kiss_reading.specs.Numbers.{isFend, isFesc, upTo, between, follows, stray, typeOctet, noOpening, nothing, strayType, notData, portOver, strayData, notClosed, short}

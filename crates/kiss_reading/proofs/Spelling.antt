@@ -11,7 +11,8 @@ use Rattle.octets.specs.Octet.{Octets, field}
 use Rattle.octets.proofs.Choice.{by}
 use Rattle.octets.proofs.Octet.{octets-drop}
 use Rattle.octets.proofs.Count.{count-le}
-use Rattle.kiss.specs.Packet.{fend, fesc, tfend, tfesc, escaped, special, typeOf, lastPort, packet}
+use Rattle.escapes.specs.Escape.{fend, fesc, tfend, tfesc, escaped, special}
+use Rattle.kiss.specs.Packet.{typeOf, lastPort, packet}
 use Rattle.kiss.proofs.Laws.{escape-fend, escape-fesc, escape-plain, packet-length}
 use Rattle.kiss.proofs.Grammar.{escaped-none, escaped-cons, packet-is}
 use Rattle.kiss_reading.specs.Answer.{isAccepted, Given, accepted}

@@ -7,7 +7,8 @@ use lib.ListN.{length, getD, take, drop}
 use Rattle.octets.specs.Octet.{field}
 use Rattle.octets.specs.First.{first}
 use Rattle.octets.specs.Count.{count}
-use Rattle.kiss.specs.Packet.{fend, fesc, tfend, tfesc, lastPort}
+use Rattle.escapes.specs.Escape.{fend, fesc, tfend, tfesc}
+use Rattle.kiss.specs.Packet.{lastPort}
 
 abbrev pub isFend : ℕ → Bool
 isFend b = eqb b fend
