@@ -116,6 +116,7 @@ def statements():
     titles = (
         'Demand 1: every input gets an answer, bad input a number',
         'Relaying (document 02, M-100 and M-102)',
+        'KISS packets (document 02, M-103)',
         'Smaller statements that stand for themselves',
     )
     for title in titles:

@@ -1,5 +1,5 @@
 -- What is written: its length, one turn of the writing loop, and the whole packet from its parts.
-use Prim.Native.Nat.{ℕ, suc, _+_, _*_, _≤_, _<_}
+use Prim.Native.Nat.{ℕ, suc, _+_, _≤_, _<_}
 use mathlib.Core.Path.{_≡_, refl, ap, sym, _∙_}
 use mathlib.Core.Bool.{true, false, cond}
 use mathlib.Core.List.{List, [], _∷_, _++_}
@@ -14,7 +14,6 @@ use Rattle.octets.specs.Count.{count}
 use Rattle.octets.specs.First.{first}
 use Rattle.octets.proofs.Choice.{by, neither}
 use Rattle.octets.proofs.First.{first-le}
-use Rattle.octets.proofs.Count.{count-le}
 use Rattle.octets.proofs.Splice.{splice-none, splice-one, splice-length, splice-cons, splice-then}
 use Rattle.escapes.specs.Escape.{fend, fesc, tfend, tfesc, escapeOf, escaped, special}
 use Rattle.kiss.specs.Packet.{typeOf, lastPort, packet}
@@ -22,7 +21,6 @@ use Rattle.kiss.specs.Steps.{nextCount, nextOctets, nextPlace}
 use Rattle.kiss.specs.Write.{writeAnswer, given, octetsWritten, written}
 use Rattle.kiss.specs.declared.KissWriteAnswer.{KissWriteAnswer}
 use Rattle.kiss.specs.declared.KissWriteAnswer.the-variants.{Written, PortTooHigh, NoRoom}
-use Rattle.kiss.specs.declared.KissWritten.{KissWritten}
 use Rattle.kiss.specs.declared.Place.{Place}
 
 -- ---- one octet

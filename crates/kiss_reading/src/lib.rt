@@ -119,7 +119,7 @@ fn stopped(input: &[u8], at: usize) -> KissAnswer
     if input[at] != FEND {
         return KissAnswer::BadEscape;
     }
-    if input.len() - at == 1 {
+    if at == input.len() - 1 {
         return KissAnswer::Accepted;
     }
     KissAnswer::NoClosing

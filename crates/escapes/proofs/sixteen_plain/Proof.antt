@@ -1,8 +1,7 @@
 -- So far none has been met, or one has.
-use Prim.Native.Nat.{_+_, _-_, _≤_}
-use mathlib.Core.Path.{_≡_, refl, ap, sym, _∙_}
+use Prim.Native.Nat.{_-_, _≤_}
+use mathlib.Core.Path.{_≡_, sym}
 use native.Mathlib.Omega.{arith}
-use lib.Dec.{eqb}
 use lib.ListN.{drop}
 use Rattle.octets.specs.Octet.{flag}
 use Rattle.escapes.proofs.Marks.{met, met-start, met-none, met-turn}

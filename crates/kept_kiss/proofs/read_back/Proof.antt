@@ -1,14 +1,11 @@
 -- The second call reads the octets that the first one left.
 use Prim.Native.Nat.{_≤_}
-use mathlib.Core.Path.{_≡_, refl, ap, sym, _∙_}
-use native.Mathlib.Omega.{arith}
-use lib.ListN.{length, take}
+use mathlib.Core.Path.{refl, sym}
+use lib.ListN.{length}
 use lib.Seq.{length-take-le}
-use Rattle.octets.specs.Splice.{splice}
 use Rattle.octets.proofs.Splice.{splice-length}
-use Rattle.kiss.specs.Write.{octetsWritten, written}
+use Rattle.kiss.specs.Write.{octetsWritten}
 use Rattle.kiss.proofs.Laws.{written-room}
-use Rattle.kiss_reading.specs.Answer.{Given, numberOf}
 use Rattle.demands.proofs.Kiss.{kiss-round}
 use Rattle.demands.proofs.Lent.{splice-start}
 use borrow.Author.Needs.{needs}

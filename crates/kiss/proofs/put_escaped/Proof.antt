@@ -1,14 +1,12 @@
 -- What is still to be written, put where the writing has come to, is the whole.
 use Prim.Native.Nat.{_+_, _-_}
-use mathlib.Core.Path.{_≡_, refl, ap, sym, _∙_}
+use mathlib.Core.Path.{_≡_, refl, ap, _∙_}
 use native.Mathlib.Omega.{arith}
 use lib.ListN.{length}
 use Rattle.octets.specs.Splice.{splice}
 use Rattle.octets.proofs.Splice.{splice-length}
 use Rattle.escapes.specs.Escape.{escaped}
-use Rattle.kiss.specs.declared.Place.{Place}
 use Rattle.kiss.proofs.Laws.{Left, left-turn, left-none, next-further}
-use borrow.Author.Needs.{needs}
 use Rattle.kiss.proofs.put_escaped.Statement.{statement}
 use Rattle.kiss.proofs.put_escaped.Tie as tie
 

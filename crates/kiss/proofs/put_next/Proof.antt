@@ -1,16 +1,13 @@
 -- The three ways of going on.
 use Prim.Native.Nat.{_+_, _-_, _≤_}
 use mathlib.Core.Path.{_≡_, ap, sym, _∙_}
-use mathlib.Core.List.{List}
 use native.Mathlib.Omega.{arith}
 use borrow.Author.Tests.{eq-eqb, ne-eqb}
-use lib.ListN.{length, take, drop, length-drop, length-take}
+use lib.ListN.{length, drop, length-drop}
 use Rattle.octets.specs.First.{first}
 use Rattle.octets.specs.Splice.{splice}
 use Rattle.octets.proofs.First.{first-le}
 use Rattle.escapes.specs.Escape.{special}
-use Rattle.kiss.specs.Steps.{nextPlace, nextOctets}
-use Rattle.kiss.specs.declared.Place.{Place}
 use Rattle.kiss.proofs.Laws.{next-fend, next-fesc, next-plain, next-room}
 use borrow.Author.Needs.{needs}
 use Rattle.kiss.proofs.put_next.Statement.{statement}

@@ -1,7 +1,6 @@
 -- Each refusal by its own test; then the packet from its parts.
 use Prim.Native.Nat.{ℕ, _+_, _*_, _%_, _≤_}
-use mathlib.Core.Path.{_≡_, refl, ap, sym, _∙_}
-use mathlib.Core.List.{List}
+use mathlib.Core.Path.{_≡_, ap, sym, _∙_}
 use native.Mathlib.Omega.{arith}
 use borrow.Author.Tests.{not-true, not-false, leb-true, leb-false}
 use lib.ListN.{length, set, length-set}
@@ -9,7 +8,7 @@ use Rattle.octets.specs.Splice.{splice}
 use Rattle.octets.specs.Count.{count}
 use Rattle.octets.proofs.Splice.{splice-none, splice-length}
 use Rattle.escapes.specs.Escape.{fend, escaped, special}
-use Rattle.kiss.specs.Packet.{typeOf, packet}
+use Rattle.kiss.specs.Packet.{typeOf}
 use Rattle.kiss.specs.declared.KissWriteAnswer.the-variants.{Written, PortTooHigh, NoRoom}
 use Rattle.kiss.proofs.Laws.{escaped-length, packet-length, packet-parts, write-port, write-short, write-fits, written-by}
 use borrow.Author.Needs.{needs}

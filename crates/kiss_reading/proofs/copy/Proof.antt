@@ -1,6 +1,6 @@
 -- What is still to be written, put where the writing has come to, is the whole.
 use Prim.Native.Nat.{_+_, _-_, _≤_, _<_}
-use mathlib.Core.Path.{_≡_, refl, ap, sym, _∙_}
+use mathlib.Core.Path.{_≡_, refl, ap, _∙_}
 use mathlib.Core.Bool.{false}
 use native.Mathlib.Omega.{arith}
 use lib.ListN.{drop, length-drop}
@@ -11,7 +11,6 @@ use Rattle.kiss_reading.specs.Read.{heard}
 use Rattle.kiss_reading.specs.Steps.{dataOf, Goes}
 use Rattle.kiss_reading.specs.declared.Step.{Step}
 use Rattle.kiss_reading.proofs.Turns.{Left, left-goes, left-turn, left-none}
-use borrow.Author.Needs.{needs}
 use Rattle.kiss_reading.proofs.copy.Statement.{statement}
 use Rattle.kiss_reading.proofs.copy.Tie as tie
 

@@ -1,5 +1,5 @@
 -- By what follows the DB, if anything does.
-use mathlib.Core.Path.{_≡_, sym, _∙_}
+use mathlib.Core.Path.{sym, _∙_}
 use native.Mathlib.Omega.{arith}
 use borrow.Author.Tests.{eq-eqb, ne-eqb}
 use Rattle.kiss_reading.proofs.Judged.{escaped-none, escaped-at}

@@ -4,12 +4,11 @@ use mathlib.Core.Path.{_≡_, ap, sym, _∙_}
 use mathlib.Core.Bool.{true, false}
 use native.Mathlib.Omega.{arith}
 use borrow.Author.Tests.{eq-eqb, ne-eqb, lt-ltb, le-ltb}
-use lib.Dec.{eqb, ltb}
+use lib.Dec.{eqb}
 use lib.ListN.{drop}
 use Rattle.octets.specs.Octet.{field}
 use Rattle.octets.proofs.Bits.{low-mask}
-use Rattle.kiss.specs.Packet.{lastPort}
-use Rattle.kiss_reading.specs.Answer.{Given, refused, accepted, readOf, isAccepted}
+use Rattle.kiss_reading.specs.Answer.{refused, readOf, isAccepted}
 use Rattle.kiss_reading.specs.Read.{heard, typed, onPort}
 use Rattle.kiss_reading.specs.declared.KissAnswer.{KissAnswer}
 use Rattle.kiss_reading.specs.declared.KissAnswer.the-variants.{Accepted}

@@ -1,14 +1,14 @@
 -- A refusal leaves all as it was; what is accepted is copied where it has room.
 use Prim.Native.Nat.{ℕ}
-use mathlib.Core.Path.{_≡_, refl, ap, sym, _∙_}
+use mathlib.Core.Path.{_≡_, ap, sym, _∙_}
 use mathlib.Core.Bool.{true, false}
 use mathlib.Core.List.{List}
 use native.Mathlib.Omega.{arith}
-use lib.ListN.{length, drop}
+use lib.ListN.{length}
 use Rattle.octets.specs.Splice.{splice}
 use Rattle.octets.proofs.Splice.{splice-none}
 use Rattle.kiss_reading.specs.Answer.{Given, isAccepted, refused, readOf}
-use Rattle.kiss_reading.specs.Read.{heard, readPacket, readInto}
+use Rattle.kiss_reading.specs.Read.{readPacket, readInto}
 use Rattle.kiss_reading.specs.declared.KissAnswer.the-variants.{NoRoom}
 use Rattle.kiss_reading.specs.declared.KissRead.{KissRead}
 use Rattle.kiss_reading.proofs.Judged.{told-refused, fair-read, into-refused, into-short, into-fits, data-heard}

@@ -1,6 +1,5 @@
 -- One octet or the other.
 use borrow.Author.Tests.{eq-eqb, ne-eqb}
-use borrow.Author.Needs.{needs}
 use Rattle.kiss_reading.proofs.restored.Statement.{statement}
 use Rattle.kiss_reading.proofs.restored.Tie as tie
 
