@@ -480,6 +480,27 @@ static void run_long(size_t longest) {
     say_met(later_numbers, COUNT(later_numbers), 1);
 }
 
+/* Octets that stand for themselves are taken many at a time: a C0 or a DB, and a DB that is no escape, at each place among them. */
+static void run_places(size_t longest) {
+    uint8_t data[256];
+    char name[80];
+    snprintf(name, sizeof name, "a C0 or a DB at each place of up to %zu octets", longest);
+    set_begin(name);
+    for (size_t len = 1; len <= longest; len++)
+        for (size_t at = 0; at < 2 * len; at++) {
+            memset(data, 0x41, len);
+            data[at / 2] = at % 2 ? 0xDB : 0xC0;
+            write_by_model(3, data, len);
+            struct kiss_answer packet = model_kiss_write(3, data, len);
+            uint8_t damaged[2 * sizeof data];
+            memcpy(damaged, packet.octets, packet.length);
+            damaged[at / 2 + 3] = 0x41;
+            read_by_model(damaged, packet.length);
+        }
+    set_end();
+    say_met(later_numbers, 3, 1);
+}
+
 void run_kiss(unsigned long thousands, uint64_t seed) {
     int brief = thousands < 100; /* as a memory checker is asked, which takes long for each octet */
     in_arena = arena_new(LONGEST_PACKET + 65536);
@@ -491,6 +512,7 @@ void run_kiss(unsigned long thousands, uint64_t seed) {
     run_every(brief ? 4 : 5);
     run_octets();
     run_ports();
+    run_places(brief ? 40 : 150);
     run_random(thousands, seed);
     run_long(brief ? 65537 : 1000003);
 }
