@@ -1,5 +1,3 @@
-pub mod Table
-pub mod Lent
 pub mod Numbers
 pub mod OneSpelling
 pub mod Shape
@@ -7,4 +5,3 @@ pub mod Examples
 pub mod OneResult
 pub mod Relay
 pub mod Due
-pub mod Kiss

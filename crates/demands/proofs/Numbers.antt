@@ -22,11 +22,11 @@ use Rattle.frame.specs.declared.Ax25Frame.{Ax25Frame}
 use Rattle.grammar.proofs.Numbers.{decode-rows, write-rows}
 use Rattle.grammar.proofs.Refused.{refused-octets, accepted-octets}
 use Rattle.grammar.proofs.Respell.{written-is}
-use Rattle.demands.specs.Table.{Table, given, FirstRow}
+use Rattle.octets.specs.Table.{Table, given, FirstRow}
 use Rattle.demands.specs.Numbers.{decodeTable, writeTable, printTable, partsTable, textTable}
-use Rattle.demands.specs.Lent.{starting}
-use Rattle.demands.proofs.Table.{exactly}
-use Rattle.demands.proofs.Lent.{splice-start}
+use Rattle.octets.specs.Lent.{starting}
+use Rattle.octets.proofs.Table.{exactly}
+use Rattle.octets.proofs.Lent.{splice-start}
 
 -- a number that a table gives is given exactly when its row is the first that holds
 by-table : (x : ℕ) (rows : Table) → x ≡ given rows → (n : ℕ) → (x ≡ n) ↔ FirstRow rows n

@@ -14,8 +14,8 @@ use Rattle.frame.specs.declared.WriteAnswer.the-variants as write
 use Rattle.printing.specs.Print.{printNumberOf}
 use Rattle.printing.specs.declared.PrintAnswer.{PrintAnswer}
 use Rattle.printing.specs.declared.PrintAnswer.the-variants as print
-use Rattle.demands.specs.Table.{Table, FirstRow}
-use Rattle.demands.proofs.Table.{exactly}
+use Rattle.octets.specs.Table.{Table, FirstRow}
+use Rattle.octets.proofs.Table.{exactly}
 
 -- by an equation: `due` is the right side of the contract
 pub one-result : {A : Type 0} (due a b : A) → a ≡ due → b ≡ due → a ≡ b

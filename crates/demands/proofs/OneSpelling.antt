@@ -16,9 +16,9 @@ use Rattle.respelling.specs.Reencode.{reencode, reencoded}
 use Rattle.respelling.specs.declared.ReencodeAnswer.the-variants.{Written, Refused, NoRoom}
 use Rattle.spelling.proofs.Laws.{spell-canonical, canonical-plain, again-facts}
 use Rattle.respelling.proofs.Laws.{again-room, refused-answer, again-short, again-fits}
-use Rattle.demands.specs.Lent.{starting}
+use Rattle.octets.specs.Lent.{starting}
 use Rattle.demands.specs.OneSpelling.{OneSpelling}
-use Rattle.demands.proofs.Lent.{splice-start}
+use Rattle.octets.proofs.Lent.{splice-start}
 
 pub one-spelling : (s : List ℕ) → Octets s → OneSpelling s
 one-spelling s o = record {

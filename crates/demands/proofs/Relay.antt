@@ -35,10 +35,10 @@ use Rattle.relay.specs.declared.RelayAnswer.the-variants as relay
 use Rattle.relay.proofs.Laws.{groups-inside, due-none, due-broken, due-other, due-ours, relay-stranger, relay-refused, relay-accepted, relayed-by, station-encodable, as-station, as-refused, left-as}
 use Rattle.spelling.specs.Canonical.{canonical}
 use Rattle.spelling.proofs.Laws.{canonical-direct}
-use Rattle.demands.specs.Table.{Table, given, FirstRow}
+use Rattle.octets.specs.Table.{Table, given, FirstRow}
 use Rattle.demands.specs.Numbers.{decodeTable}
 use Rattle.demands.specs.Relay.{dueRows, relayRows, relayTable, badStation, placeMarked, frameMarked, Relayed, Again}
-use Rattle.demands.proofs.Table.{exactly}
+use Rattle.octets.proofs.Table.{exactly}
 
 -- the number of an answer
 abbrev numbered : RelayAnswer → ℕ

@@ -1,9 +1,6 @@
-pub mod Table
-pub mod Lent
 pub mod Numbers
 pub mod OneSpelling
 pub mod Shape
 pub mod Examples
 pub mod Relay
 pub mod Due
-pub mod Kiss

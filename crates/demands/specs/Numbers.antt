@@ -15,7 +15,7 @@ use Rattle.decode.specs.Numbers.{noStart, noEnd, shortField, noContent, manyRep
 use Rattle.frame.specs.Spell.{spell}
 use Rattle.frame.specs.Write.{frameEncodable}
 use Rattle.frame.specs.declared.Ax25Frame.{Ax25Frame}
-use Rattle.demands.specs.Table.{Table}
+use Rattle.octets.specs.Table.{Table}
 
 -- the content: what stands after the end
 abbrev content : List ℕ → List ℕ

@@ -17,7 +17,7 @@ use Rattle.hops.specs.Hops.{duePlace, broken}
 use Rattle.hops.specs.Station.{sameStation}
 use Rattle.relay.specs.Relay.{usedUp, ours, dueMark}
 use Rattle.spelling.specs.Canonical.{canonical}
-use Rattle.demands.specs.Table.{Table}
+use Rattle.octets.specs.Table.{Table}
 use Rattle.demands.specs.Numbers.{decodeTable}
 
 -- the rows of a frame that decodes: 41, 43, 42

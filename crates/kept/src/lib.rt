@@ -17,9 +17,9 @@ ghost use Rattle.frame.specs.Frame.{writeNumber, defaultFrame};
 ghost use Rattle.frame.specs.Spell.{spell};
 ghost use Rattle.spelling.specs.Canonical.{again};
 ghost use Rattle.respelling.specs.declared.ReencodeAnswer.the-variants.{Written as Done, Refused, NoRoom};
-ghost use Rattle.demands.specs.Table.{FirstRow};
+ghost use Rattle.octets.specs.Table.{FirstRow};
 ghost use Rattle.demands.specs.Numbers.{decodeTable, writeTable};
-ghost use Rattle.demands.specs.Lent.{starting};
+ghost use Rattle.octets.specs.Lent.{starting};
 ghost use Rattle.demands.specs.OneSpelling.{Spelled, Respelled};
 
 // Demand 3: yes exactly when some plain frame spells the input.

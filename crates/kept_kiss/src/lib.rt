@@ -8,9 +8,9 @@ ghost use Rattle.kiss.specs.Packet.{packet};
 ghost use Rattle.kiss.specs.Write.{numberOf as writeNumber, writeAnswer, octetsWritten, written};
 ghost use Rattle.kiss_reading.specs.Answer.{numberOf};
 ghost use Rattle.kiss_reading.specs.Read.{readInto};
-ghost use Rattle.demands.specs.Table.{FirstRow};
-ghost use Rattle.demands.specs.Lent.{starting};
-ghost use Rattle.demands.specs.Kiss.{kissReadTable, kissLength, kissWriteTable};
+ghost use Rattle.octets.specs.Table.{FirstRow};
+ghost use Rattle.octets.specs.Lent.{starting};
+ghost use Rattle.demands_kiss.specs.Kiss.{kissReadTable, kissLength, kissWriteTable};
 
 // The number is that of the first row of the table that holds; a refusal gives port 0 and length 0 and leaves the output as it was;
 // of an accepted packet the data stands at the start of the output, the rest stays, and port and data spell the packet.

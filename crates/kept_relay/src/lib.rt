@@ -10,7 +10,7 @@ ghost use Rattle.decode.specs.Read.{decode, infoIn};
 ghost use Rattle.hops.specs.Hops.{duePlace};
 ghost use Rattle.relay.specs.Relay.{reportOf, relayAnswer, relayed};
 ghost use Rattle.spelling.specs.Canonical.{canonical};
-ghost use Rattle.demands.specs.Table.{FirstRow};
+ghost use Rattle.octets.specs.Table.{FirstRow};
 ghost use Rattle.demands.specs.Due.{FirstUnmarked, InOrder};
 ghost use Rattle.demands.specs.Relay.{relayTable, frameMarked, Relayed, Again};
 

@@ -9,9 +9,9 @@ ghost use Rattle.address.specs.Address.{noCall};
 ghost use Rattle.printing.specs.Print.{textOf, printNumberOf, printed, printedInto};
 ghost use Rattle.text.specs.Text.{addressNumberOf, readParts, readText, TextAddress};
 ghost use Rattle.text.specs.declared.AddressAnswer.the-variants.{Accepted};
-ghost use Rattle.demands.specs.Table.{FirstRow};
+ghost use Rattle.octets.specs.Table.{FirstRow};
 ghost use Rattle.demands.specs.Numbers.{printTable, partsTable, textTable};
-ghost use Rattle.demands.specs.Lent.{starting};
+ghost use Rattle.octets.specs.Lent.{starting};
 
 // Demand 1: the number is that of the first row of the table that holds; a refusal is NOCALL, SSID 0. An accepted text's address
 // prints as a text that reads as the same. Demand 2: all else is as the rules read it.

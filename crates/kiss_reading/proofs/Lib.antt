@@ -1,4 +1,2 @@
 pub mod Turns
 pub mod Judged
-pub mod Spelling
-pub mod Numbers

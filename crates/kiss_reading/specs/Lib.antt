@@ -1,4 +1,3 @@
 pub mod Answer
 pub mod Read
 pub mod Steps
-pub mod Numbers

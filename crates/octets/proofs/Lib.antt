@@ -7,3 +7,5 @@ pub mod All
 pub mod Same
 pub mod Place
 pub mod Count
+pub mod Table
+pub mod Lent

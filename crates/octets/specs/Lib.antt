@@ -4,3 +4,5 @@ pub mod Splice
 pub mod All
 pub mod Same
 pub mod Count
+pub mod Table
+pub mod Lent

@@ -1,7 +1,7 @@
 -- What the call gives is the definition's, of which the request is proved.
 use mathlib.Core.Path.{refl}
 use lib.ListN.{length}
-use Rattle.demands.proofs.Kiss.{kiss-reading, refused-kiss-read, accepted-kiss-read, data-left}
+use Rattle.demands_kiss.proofs.Kiss.{kiss-reading, refused-kiss-read, accepted-kiss-read, data-left}
 use borrow.Author.Needs.{needs}
 use Rattle.kept_kiss.proofs.read.Statement.{statement}
 use Rattle.kept_kiss.proofs.read.Tie as tie

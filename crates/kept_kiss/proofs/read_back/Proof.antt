@@ -6,8 +6,8 @@ use lib.Seq.{length-take-le}
 use Rattle.octets.proofs.Splice.{splice-length}
 use Rattle.kiss.specs.Write.{octetsWritten}
 use Rattle.kiss.proofs.Laws.{written-room}
-use Rattle.demands.proofs.Kiss.{kiss-round}
-use Rattle.demands.proofs.Lent.{splice-start}
+use Rattle.demands_kiss.proofs.Kiss.{kiss-round}
+use Rattle.octets.proofs.Lent.{splice-start}
 use borrow.Author.Needs.{needs}
 use Rattle.kept_kiss.proofs.read_back.Statement.{statement}
 use Rattle.kept_kiss.proofs.read_back.Tie as tie

@@ -2,7 +2,7 @@
 use mathlib.Core.Path.{refl}
 use lib.ListN.{length}
 use Rattle.kiss.proofs.Laws.{written-answer}
-use Rattle.demands.proofs.Kiss.{kiss-writing, refused-kiss-write, accepted-kiss-write}
+use Rattle.demands_kiss.proofs.Kiss.{kiss-writing, refused-kiss-write, accepted-kiss-write}
 use borrow.Author.Needs.{needs}
 use Rattle.kept_kiss.proofs.wrote.Statement.{statement}
 use Rattle.kept_kiss.proofs.wrote.Tie as tie

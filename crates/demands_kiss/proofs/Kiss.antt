@@ -27,13 +27,13 @@ use Rattle.kiss_reading.specs.Read.{heard, onPort, typed, typeEscaped, opened, 
 use Rattle.kiss_reading.specs.declared.KissAnswer.{KissAnswer}
 use Rattle.kiss_reading.specs.declared.KissAnswer.the-variants as read
 use Rattle.kiss_reading.proofs.Judged.{fair-read, into-short, into-fits}
-use Rattle.kiss_reading.proofs.Spelling.{read-written, only, data-octets, one-packet, packet-most}
-use Rattle.kiss_reading.proofs.Numbers.{read-rows}
-use Rattle.demands.specs.Table.{given, FirstRow}
-use Rattle.demands.specs.Lent.{starting}
-use Rattle.demands.specs.Kiss.{kissReadTable, kissLength, kissWriteTable, SpelledPacket, kissCases}
-use Rattle.demands.proofs.Table.{exactly}
-use Rattle.demands.proofs.Lent.{splice-start}
+use Rattle.demands_kiss.proofs.Spelling.{read-written, only, data-octets, one-packet, packet-most}
+use Rattle.demands_kiss.proofs.Numbers.{read-rows}
+use Rattle.octets.specs.Table.{given, FirstRow}
+use Rattle.octets.specs.Lent.{starting}
+use Rattle.demands_kiss.specs.Kiss.{kissReadTable, kissLength, kissWriteTable, SpelledPacket, kissCases}
+use Rattle.octets.proofs.Table.{exactly}
+use Rattle.octets.proofs.Lent.{splice-start}
 
 -- ---- the numbers
 reading-rows : (s : List ℕ) (room : ℕ) → numberOf (readInto s room .answer) ≡ given (kissReadTable s room)

@@ -4,7 +4,7 @@ use mathlib.Core.Path.{_≡_, refl, subst}
 use mathlib.Core.Bool.{Bool, true, false, cond}
 use mathlib.Core.List.{[], _∷_}
 use mathlib.Core.Logic.{_↔_}
-use Rattle.demands.specs.Table.{Table, given, FirstRow, none, here, later}
+use Rattle.octets.specs.Table.{Table, given, FirstRow, none, here, later}
 
 choose : (n : ℕ) (b : Bool) (rows : Table) (m : ℕ) → FirstRow rows m → FirstRow ((n, b) ∷ rows) (cond b n m)
 choose n true rows m r = here refl

@@ -13,13 +13,13 @@ use Rattle.octets.specs.Count.{count}
 use Rattle.octets.proofs.Choice.{by}
 use Rattle.escapes.specs.Escape.{fend, fesc, tfend, tfesc}
 use Rattle.kiss.specs.Packet.{lastPort}
 use Rattle.kiss_reading.specs.Answer.{numberOf, isAccepted, refused}
 use Rattle.kiss_reading.specs.Read.{more, heard, onPort, typed, typeEscaped, opened, readPacket, readInto}
-use Rattle.kiss_reading.specs.Numbers.{isFend, isFesc, upTo, between, follows, stray, typeOctet, noOpening, nothing, strayType, notData, portOver, strayData, notClosed, short}
+use Rattle.demands_kiss.specs.Numbers.{isFend, isFesc, upTo, between, follows, stray, typeOctet, noOpening, nothing, strayType, notData, portOver, strayData, notClosed, short}
 use Rattle.kiss_reading.specs.declared.KissAnswer.{KissAnswer}
 use Rattle.kiss_reading.specs.declared.KissAnswer.the-variants.{Accepted, NoOpening, Empty, BadEscape, NotData, PortTooHigh, NoClosing}
 use Rattle.kiss_reading.proofs.Judged.{typed-command, typed-port, typed-data, on-refused, on-accepted, into-refused, into-short, into-fits}
-use Rattle.kiss_reading.proofs.Spelling.{heard-close, heard-plain, heard-last, heard-tfend, heard-tfesc, heard-stray}
+use Rattle.demands_kiss.proofs.Spelling.{heard-close, heard-plain, heard-last, heard-tfend, heard-tfesc, heard-stray}
 
 -- ---- up to the next C0
 up-close : (x : ℕ) (l : List ℕ) → isFend x ≡ true → upTo (x ∷ l) ≡ []

@@ -4,9 +4,9 @@ use mathlib.Core.Path.{_≡_, refl, _∙_}
 use mathlib.Core.List.{List}
 use native.Mathlib.Omega.{arith}
 use lib.ListN.{length}
 use Rattle.octets.specs.Splice.{splice}
 use Rattle.octets.proofs.Splice.{splice-in}
-use Rattle.demands.specs.Lent.{starting}
+use Rattle.octets.specs.Lent.{starting}
 
 pub splice-start : (out t : List ℕ) → length t ≤ length out → splice out 0 t ≡ starting t out
 splice-start out t h =

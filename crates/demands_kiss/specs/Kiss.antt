@@ -8,8 +8,8 @@ use Rattle.octets.specs.Octet.{Octets}
 use Rattle.octets.specs.Count.{count}
 use Rattle.escapes.specs.Escape.{special}
 use Rattle.kiss.specs.Packet.{packet}
-use Rattle.kiss_reading.specs.Numbers.{noOpening, nothing, strayType, notData, portOver, strayData, notClosed, short}
-use Rattle.demands.specs.Table.{Table}
+use Rattle.demands_kiss.specs.Numbers.{noOpening, nothing, strayType, notData, portOver, strayData, notClosed, short}
+use Rattle.octets.specs.Table.{Table}
 
 -- reading: the first met from left to right, 54 before 56 on one octet, then 24. A DB in the type octet's place is met before what that
 -- octet says, and one in the data after it, so 52 has two rows
