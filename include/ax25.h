@@ -1,24 +1,25 @@
 /* AX.25 frames for the relay box: the calls of libax25frame.a, for x86-64.
 
-   Seven calls on octets that the caller lends: five on frames, and two on the KISS packets that carry frames to a modem and
-   back. Each is proved to give exactly the answer that its contract states, for every input, to read and write nothing but
-   what is lent to it, and to return.
+   Eight calls on octets that the caller lends: five on frames, two on the KISS packets that carry frames to a modem and back, and
+   one on a serial line, which gives such packets in pieces. Each is proved to give exactly the answer that its contract states,
+   for every input, to read and write nothing but what is lent to it, and to return.
 
    What every call asks of its caller:
-   - `in` and `callsign` point to `in_len` and `callsign_len` octets that may be read, `out` to `out_len` octets that may be
-     written, `frame` to `frame_len` octets that may be read and written. `port`, where it is a pointer, points to one uint8_t and
-     `length` to one size_t that may be written; what they held does not matter. No octet is kept or looked at after the return,
-     and `in` and `callsign` are never written.
+   - `in`, `callsign` and `piece` point to `in_len`, `callsign_len` and `piece_len` octets that may be read, `out` to `out_len`
+     octets that may be written, `frame` to `frame_len` octets that may be read and written. `port`, where it is a pointer, points to
+     one uint8_t and `length` to one size_t that may be written, `packet` to one struct; what they held does not matter. `stream`
+     points to one struct that may be read and written. No octet is kept or looked at after the return, and `in`, `callsign` and
+     `piece` are never written.
    - No pointer is null. Where a length is 0, any pointer that is not null will do.
-   - What is lent to one call does not overlap, not even in part: `in` and `out`, `callsign` and `frame`, and with `in` and `out`
-     also `port` and `length`.
-   - `length` is aligned as C aligns a size_t. No other alignment is asked, and no length is too long or too short: whatever
-     can't be read as a frame or as a packet gets a number.
+   - What is lent to one call does not overlap, not even in part: `in` and `out`, `callsign` and `frame`, with `in` and `out`
+     also `port` and `length`, and `stream`, `piece` and `packet`.
+   - `length`, `stream` and `packet` are aligned as C aligns a size_t and the structs. No other alignment is asked, and no length is
+     too long or too short: whatever can't be read as a frame or as a packet gets a number, or is passed over.
    - The calling convention is that of System V for x86-64: a stack aligned to 16 octets, and SSE2 usable.
 
-   What every call leaves alone: there is no heap, no state, no input or output and no lock. So any call may run at the same time
-   as any other, in another thread or in an interrupt, as long as nobody writes what is lent meanwhile. The archive asks
-   whoever links it for memcpy and memset, and for nothing else. */
+   What every call leaves alone: there is no heap, no state but what is lent, no input or output and no lock. So any call may run at
+   the same time as any other, in another thread or in an interrupt, as long as nobody writes what is lent meanwhile, or reads
+   what that call may write. The archive asks whoever links it for memcpy and memset, and for nothing else. */
 #ifndef AX25_H
 #define AX25_H
 
@@ -32,7 +33,7 @@ extern "C" {
 /* No call uses more stack than this, in octets, its return address included. What memcpy and memset use comes on top. */
 #define AX25_STACK 1024
 
-/* Every number that the component gives. The seven calls give 0 to 9, 22, 24, 41 to 43 and 51 to 56; the others belong to parts
+/* Every number that the component gives. The calls give 0 to 9, 22, 24, 41 to 43 and 51 to 56; the others belong to parts
    that C does not reach: writing records, text and the dumper. */
 enum ax25_number {
     AX25_ACCEPTED = 0,
@@ -128,9 +129,9 @@ uint32_t ax25_reencode(const uint8_t *in, size_t in_len, uint8_t *out, size_t ou
    C0. So no C0 stands inside, and each packet has one spelling. The data is a frame, or any other octets, or none: the calls do not
    look what it is.
 
-   Both calls are on one packet, whole. A serial line, which gives pieces and several packets in a row, is not yet handled: its
-   octets have to be cut into packets first, each from its opening C0 to its closing one. A C0 that closes one packet and opens the
-   next is not accepted here: each packet has its own two. */
+   The next two calls are on one packet, whole, from its opening C0 to its closing one. A C0 that closes one packet and opens the
+   next is not accepted there: each packet has its own two. A serial line, which gives pieces and several packets in a row, is read
+   by ax25_kiss_feed, below them. */
 
 /* Reads one packet. Where it is accepted, the answer is AX25_ACCEPTED, *port is its port, *length is how many octets of data it
    has, and those stand at the start of `out`; the octets of `out` beyond them stay as they were.
@@ -158,6 +159,52 @@ uint32_t ax25_kiss_read(const uint8_t *in, size_t in_len, uint8_t *out, size_t o
    - AX25_NO_ROOM: out_len is below the packet's length.
    Room of 2 * in_len + 3 octets is always enough. */
 uint32_t ax25_kiss_write(uint8_t port, const uint8_t *in, size_t in_len, uint8_t *out, size_t out_len, size_t *length);
+
+/* How far a serial line has been read. Its owner keeps one for each line, sets it to zeros before the first octet, and lends it to
+   each call; only calls change it. It may be copied and compared octet by octet: it has no padding and points nowhere, and it is a
+   function of the zeros and of the octets taken since, however they were cut. */
+struct ax25_kiss_stream {
+    uint8_t data[1024]; /* the packet's data, escapes removed: its first `length` octets; the others mean nothing */
+    uint16_t length;    /* how many octets of data there are */
+    uint8_t port;       /* the packet's port, 0 to 11 */
+    uint8_t phase;      /* what was read last: 0 no C0 yet, 1 a C0, 2 the type octet or data, 3 a DB in the data, 4 something that makes
+                           the packet one to drop, 5 a DB in the type octet's place */
+    uint16_t dropped;   /* how many packets were dropped; it stops at 65,535 */
+};
+
+/* What a call gives out: a packet, or none. */
+struct ax25_kiss_packet {
+    uint32_t ready;  /* 1 where a packet is given out, else 0 */
+    uint32_t port;   /* its port, 0 to 11; 0 where there is none */
+    size_t length;   /* how many octets of data it has, 0 to 1,024; 0 where there is none */
+};
+
+/* Reads a piece of what a line gave, of any length. It takes the piece through the first octet that completes a packet, else the
+   whole, and gives the number of octets taken: call again with the rest, until all are taken. Where a packet is complete,
+   packet->ready is 1 and its data is the first packet->length octets of stream->data, until the next call with that stream.
+
+       struct ax25_kiss_stream line = {0};              once, before the first octet
+       struct ax25_kiss_packet packet;
+       for (size_t at = 0; at < piece_len;) {           for each piece that the line gives
+           at += ax25_kiss_feed(&line, piece + at, piece_len - at, &packet);
+           if (packet.ready)
+               use(packet.port, line.data, packet.length);
+       }
+
+   What is given out, the count of what was dropped and the state do not depend on how the line was cut into pieces. An empty piece
+   takes 0, gives out nothing and changes nothing, the data of a packet just given out included.
+
+   - A packet is given out exactly where ax25_kiss_read accepts it, from its opening C0 to its closing one, and it has at most
+     1,024 octets of data. A packet with none is given out too.
+   - One C0 may close a packet and open the next. Octets before the first C0, and nothing between two C0, are passed over and not
+     counted.
+   - A packet with a DB that is not followed by DC or DD, a type octet that ax25_kiss_read refuses, or more than 1,024 octets of data
+     is dropped up to the next C0 and counted once in stream->dropped, at the octet that shows it. That is the octet behind
+     the DB, the type octet, or the octet that completes the 1,025th of the data. Where a C0 stands behind the DB, the next packet
+     starts there. While a packet is dropped, DB means nothing.
+   - There are no refusals. A state that no call can have made, with a length over 1,024, a port over 11 or a phase over 5, is read
+     as a fresh one with its count kept. */
+size_t ax25_kiss_feed(struct ax25_kiss_stream *stream, const uint8_t *piece, size_t piece_len, struct ax25_kiss_packet *packet);
 
 #ifdef __cplusplus
 }

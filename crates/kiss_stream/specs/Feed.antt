@@ -1,0 +1,52 @@
+-- A call: it takes its piece through the first octet that gives out a packet, else the whole (document 02, M-104).
+use Prim.Native.Nat.{ℕ, _+_}
+use mathlib.Core.Bool.{cond}
+use mathlib.Core.List.{List, [], _∷_}
+use lib.Dec.{ltb}
+use Rattle.kiss.specs.Packet.{lastPort}
+use Rattle.kiss_stream.specs.declared.Head.{Head}
+use Rattle.kiss_stream.specs.declared.Stream.{Stream}
+use Rattle.kiss_stream.specs.declared.Packet.{Packet}
+use Rattle.kiss_stream.specs.declared.Fed.{Fed}
+use Rattle.kiss_stream.specs.Step.{room, outside, inType, noneIn, stepOf, gives}
+
+-- what a call leaves: the state, the packet given out or none, and how many octets it took
+pub record Called : Type 0 where
+  pub stream : Stream
+  pub packet : Packet
+  pub taken : ℕ
+
+abbrev pub noPacket : Packet
+noPacket = record { ready = 0; port = 0; length = 0 }
+
+-- the packet that is complete: its data is the first octets of the array
+abbrev pub packetOf : Head → Packet
+packetOf h = record { ready = 1; port = h .port; length = h .length }
+
+-- the same with so many octets more taken before
+abbrev pub later : ℕ → Called → Called
+later n c = record { stream = c .stream; packet = c .packet; taken = n + c .taken }
+
+unfoldable pub takenFrom : Stream → List ℕ → Called
+takenFrom s [] = record { stream = s; packet = noPacket; taken = 0 }
+takenFrom s (b ∷ l) =
+    cond (gives s b) (record { stream = stepOf s b; packet = packetOf (stepOf s b .head); taken = 1 }) (later 1 (takenFrom (stepOf s b) l))
+
+-- a state that no call made is read as a fresh one, its count kept
+unfoldable pub settledHead : Head → Head
+settledHead h =
+    cond (ltb room (h .length)) (noneIn h outside)
+    (cond (ltb lastPort (h .port)) (noneIn h outside) (cond (ltb inType (h .phase)) (noneIn h outside) h))
+
+abbrev pub settled : Stream → Stream
+settled s = record { octets = s .octets; head = settledHead (s .head) }
+
+unfoldable pub feedOf : Stream → List ℕ → Called
+feedOf s piece = takenFrom (settled s) piece
+
+-- the parts as the functions take and give them, the array being lent by itself
+abbrev pub streamOf : List ℕ → Head → Stream
+streamOf octets h = record { octets = octets; head = h }
+
+abbrev pub fedOf : Called → Fed
+fedOf c = record { head = c .stream .head; packet = c .packet; taken = c .taken }
