@@ -1,4 +1,6 @@
 // The calls that C links. A slice is a pointer and a length there; include/ax25.h says what the caller owes.
+use kiss_stream::Packet;
+use kiss_stream::Stream;
 ghost use mathlib.Core.Path.{_≡_};
 ghost use mathlib.Core.Bool.{cond};
 ghost use lib.ListN.{length};
@@ -12,6 +14,7 @@ ghost use Rattle.relay.specs.Relay.{relayAnswerAs, relayedAs, reportOf as relay
 ghost use Rattle.kiss.specs.Write.{numberOf as writeNumber, written, octetsWritten};
 ghost use Rattle.kiss_reading.specs.Answer.{numberOf as readNumber};
 ghost use Rattle.kiss_reading.specs.Read.{readInto};
+ghost use Rattle.kiss_stream.specs.Feed.{feedOf};
 
 // The decode number.
 #[no_mangle]
@@ -98,4 +101,18 @@ pub extern "C" fn ax25_kiss_write(
     *length = done.length;
     let answer = done.answer;
     answer.number()
+}
+
+// A piece of a serial line taken through the first octet that completes a packet, else the whole: how many octets were taken, and the
+// packet or zeros to where it is lent. The data stays in the state, and nothing is copied.
+#[no_mangle]
+pub extern "C" fn ax25_kiss_feed(stream: &mut Stream, piece: &[u8], packet: &mut Packet) -> usize
+    ensures { λ r. ⌜ (now (stream .exit) ≡ feedOf (now (stream .entry)) (now (piece .entry)) .stream)
+        × (now (packet .exit) ≡ feedOf (now (stream .entry)) (now (piece .entry)) .packet)
+        × (r ≡ feedOf (now (stream .entry)) (now (piece .entry)) .taken) ⌝ }
+{
+    let fed = kiss_stream::feed(&mut stream.octets, stream.head, piece);
+    stream.head = fed.head;
+    *packet = fed.packet;
+    fed.taken
 }
