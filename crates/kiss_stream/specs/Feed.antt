@@ -4,11 +4,11 @@ use mathlib.Core.Bool.{cond}
 use mathlib.Core.List.{List, [], _∷_}
 use lib.Dec.{ltb}
 use Rattle.kiss.specs.Packet.{lastPort}
-use Rattle.kiss_stream.specs.declared.Head.{Head}
-use Rattle.kiss_stream.specs.declared.Stream.{Stream}
+use Rattle.kiss_octet.specs.declared.Head.{Head}
+use Rattle.kiss_octet.specs.declared.Stream.{Stream}
 use Rattle.kiss_stream.specs.declared.Packet.{Packet}
 use Rattle.kiss_stream.specs.declared.Fed.{Fed}
-use Rattle.kiss_stream.specs.Step.{room, outside, inType, noneIn, stepOf, gives}
+use Rattle.kiss_octet.specs.Step.{room, outside, inType, noneIn, stepOf, gives}
 
 -- what a call leaves: the state, the packet given out or none, and how many octets it took
 pub record Called : Type 0 where

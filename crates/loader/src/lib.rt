@@ -1,6 +1,6 @@
 // The calls that C links. A slice is a pointer and a length there; include/ax25.h says what the caller owes.
+use kiss_octet::Stream;
 use kiss_stream::Packet;
-use kiss_stream::Stream;
 ghost use mathlib.Core.Path.{_≡_};
 ghost use mathlib.Core.Bool.{cond};
 ghost use lib.ListN.{length};

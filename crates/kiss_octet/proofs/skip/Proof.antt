@@ -1,9 +1,9 @@
 -- By the octet.
 use borrow.Author.Tests.{eq-eqb, ne-eqb}
-use Rattle.kiss_stream.specs.Step.{outsideOf}
+use Rattle.kiss_octet.specs.Step.{outsideOf}
 use borrow.Author.Needs.{needs}
-use Rattle.kiss_stream.proofs.skip.Statement.{statement}
-use Rattle.kiss_stream.proofs.skip.Tie as tie
+use Rattle.kiss_octet.proofs.skip.Statement.{statement}
+use Rattle.kiss_octet.proofs.skip.Tie as tie
 
 none-in-requires : tie.Need-none-in-requires
 none-in-requires c κs = search needs

@@ -8,10 +8,10 @@ use lib.Dec.{eqb}
 use Rattle.octets.specs.Octet.{field}
 use Rattle.octets.proofs.Bits.{low-mask}
 use Rattle.kiss.specs.Packet.{lastPort}
-use Rattle.kiss_stream.specs.Step.{typedOf}
+use Rattle.kiss_octet.specs.Step.{typedOf}
 use borrow.Author.Needs.{needs}
-use Rattle.kiss_stream.proofs.typed.Statement.{statement}
-use Rattle.kiss_stream.proofs.typed.Tie as tie
+use Rattle.kiss_octet.proofs.typed.Statement.{statement}
+use Rattle.kiss_octet.proofs.typed.Tie as tie
 
 high : (t : ℕ) → t < 256 → field 4 4 t ≡ t / 16
 high t h = omega arith

@@ -1,8 +1,8 @@
 -- Nothing is kept but the count.
-use Rattle.kiss_stream.specs.Step.{dropOf}
+use Rattle.kiss_octet.specs.Step.{dropOf}
 use borrow.Author.Needs.{needs}
-use Rattle.kiss_stream.proofs.drop.Statement.{statement}
-use Rattle.kiss_stream.proofs.drop.Tie as tie
+use Rattle.kiss_octet.proofs.drop.Statement.{statement}
+use Rattle.kiss_octet.proofs.drop.Tie as tie
 
 counted-requires : tie.Need-counted-requires
 counted-requires c κs = search needs

@@ -1,9 +1,9 @@
 -- By the octet.
 use borrow.Author.Tests.{eq-eqb, ne-eqb}
-use Rattle.kiss_stream.specs.Step.{strayOf}
+use Rattle.kiss_octet.specs.Step.{strayOf}
 use borrow.Author.Needs.{needs}
-use Rattle.kiss_stream.proofs.stray.Statement.{statement}
-use Rattle.kiss_stream.proofs.stray.Tie as tie
+use Rattle.kiss_octet.proofs.stray.Statement.{statement}
+use Rattle.kiss_octet.proofs.stray.Tie as tie
 
 drop-requires : tie.Need-drop-requires
 drop-requires c κs = search needs

@@ -1,9 +1,9 @@
 -- By the room.
 use borrow.Author.Tests.{lt-ltb, le-ltb}
-use Rattle.kiss_stream.specs.Step.{putOf}
+use Rattle.kiss_octet.specs.Step.{putOf}
 use borrow.Author.Needs.{needs}
-use Rattle.kiss_stream.proofs.put.Statement.{statement}
-use Rattle.kiss_stream.proofs.put.Tie as tie
+use Rattle.kiss_octet.proofs.put.Statement.{statement}
+use Rattle.kiss_octet.proofs.put.Tie as tie
 
 add-t5 : tie.Need-add-t5
 add-t5 c = search needs

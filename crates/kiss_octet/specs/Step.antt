@@ -7,9 +7,9 @@ use lib.ListN.{set}
 use Rattle.octets.specs.Octet.{field}
 use Rattle.escapes.specs.Escape.{fend, fesc, tfend, tfesc}
 use Rattle.kiss.specs.Packet.{lastPort}
-use Rattle.kiss_stream.specs.declared.Head.{Head}
-use Rattle.kiss_stream.specs.declared.Stream.{Stream}
-use Rattle.kiss_stream.specs.declared.Move.{Move}
+use Rattle.kiss_octet.specs.declared.Head.{Head}
+use Rattle.kiss_octet.specs.declared.Stream.{Stream}
+use Rattle.kiss_octet.specs.declared.Move.{Move}
 
 -- room for so many octets of data
 abbrev pub room : ℕ

@@ -1,9 +1,9 @@
 -- The count stops.
 use borrow.Author.Tests.{lt-ltb, le-ltb}
-use Rattle.kiss_stream.specs.Step.{countedOf}
+use Rattle.kiss_octet.specs.Step.{countedOf}
 use borrow.Author.Needs.{needs}
-use Rattle.kiss_stream.proofs.counted.Statement.{statement}
-use Rattle.kiss_stream.proofs.counted.Tie as tie
+use Rattle.kiss_octet.proofs.counted.Statement.{statement}
+use Rattle.kiss_octet.proofs.counted.Tie as tie
 
 add-result : tie.Need-add-result
 add-result c = search needs

@@ -1,10 +1,10 @@
 use mathlib.Core.Path.{sym}
 use native.Mathlib.Omega.{arith}
-use Rattle.kiss_stream.specs.Step.{moveOf, storedBy}
-use Rattle.kiss_stream.proofs.Laws.{store-room}
+use Rattle.kiss_octet.specs.Step.{moveOf, storedBy}
+use Rattle.kiss_octet.proofs.Laws.{store-room}
 use borrow.Author.Needs.{needs}
-use Rattle.kiss_stream.proofs.step.Statement.{statement}
-use Rattle.kiss_stream.proofs.step.Tie as tie
+use Rattle.kiss_octet.proofs.step.Statement.{statement}
+use Rattle.kiss_octet.proofs.step.Tie as tie
 
 move-of-requires : tie.Need-move-of-requires
 move-of-requires c κs = search needs

@@ -1,9 +1,9 @@
 -- By the octet.
 use borrow.Author.Tests.{eq-eqb, ne-eqb}
-use Rattle.kiss_stream.specs.Step.{unescaped}
+use Rattle.kiss_octet.specs.Step.{unescaped}
 use borrow.Author.Needs.{needs}
-use Rattle.kiss_stream.proofs.escaped.Statement.{statement}
-use Rattle.kiss_stream.proofs.escaped.Tie as tie
+use Rattle.kiss_octet.proofs.escaped.Statement.{statement}
+use Rattle.kiss_octet.proofs.escaped.Tie as tie
 
 put-requires : tie.Need-put-requires
 put-requires c κs = search needs

@@ -1,9 +1,9 @@
 -- By the octet.
 use borrow.Author.Tests.{eq-eqb, ne-eqb}
-use Rattle.kiss_stream.specs.Step.{openedOf}
+use Rattle.kiss_octet.specs.Step.{openedOf}
 use borrow.Author.Needs.{needs}
-use Rattle.kiss_stream.proofs.start.Statement.{statement}
-use Rattle.kiss_stream.proofs.start.Tie as tie
+use Rattle.kiss_octet.proofs.start.Statement.{statement}
+use Rattle.kiss_octet.proofs.start.Tie as tie
 
 quiet-requires : tie.Need-quiet-requires
 quiet-requires c κs = search needs

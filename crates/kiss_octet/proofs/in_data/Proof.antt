@@ -1,9 +1,9 @@
 -- By the octet.
 use borrow.Author.Tests.{eq-eqb, ne-eqb}
-use Rattle.kiss_stream.specs.Step.{dataOf}
+use Rattle.kiss_octet.specs.Step.{dataOf}
 use borrow.Author.Needs.{needs}
-use Rattle.kiss_stream.proofs.in_data.Statement.{statement}
-use Rattle.kiss_stream.proofs.in_data.Tie as tie
+use Rattle.kiss_octet.proofs.in_data.Statement.{statement}
+use Rattle.kiss_octet.proofs.in_data.Tie as tie
 
 in-phase-requires : tie.Need-in-phase-requires
 in-phase-requires c κs = search needs

@@ -1,10 +1,10 @@
 -- By the phase.
 use borrow.Author.Tests.{eq-eqb, ne-eqb}
-use Rattle.kiss_stream.specs.Step.{moveOf}
-use Rattle.kiss_stream.proofs.Laws.{type-stray}
+use Rattle.kiss_octet.specs.Step.{moveOf}
+use Rattle.kiss_octet.proofs.Laws.{type-stray}
 use borrow.Author.Needs.{needs}
-use Rattle.kiss_stream.proofs.move_of.Statement.{statement}
-use Rattle.kiss_stream.proofs.move_of.Tie as tie
+use Rattle.kiss_octet.proofs.move_of.Statement.{statement}
+use Rattle.kiss_octet.proofs.move_of.Tie as tie
 
 in-data-requires : tie.Need-in-data-requires
 in-data-requires c κs = search needs
