@@ -1,0 +1,191 @@
+-- However a line is cut into pieces, and each piece used up by however many calls: packets and state are those of its octets in a row.
+use Prim.Native.Nat.{ℕ, suc, _+_, _≤_}
+use mathlib.Core.Path.{_≡_, refl, sym, ap, _∙_}
+use mathlib.Core.Bool.{Bool, true, false, cond}
+use mathlib.Core.List.{List, [], _∷_, _++_}
+use native.Mathlib.Omega.{arith}
+use borrow.Author.Tests.{ltb-true, ltb-false, le-ltb}
+use lib.Dec.{ltb, eqb}
+use lib.ListN.{length, drop}
+use Rattle.octets.specs.Octet.{field}
+use Rattle.octets.proofs.Choice.{either}
+use Rattle.escapes.specs.Escape.{fend, fesc, tfend, tfesc}
+use Rattle.kiss.specs.Packet.{lastPort}
+use Rattle.kiss_octet.specs.declared.Head.{Head}
+use Rattle.kiss_octet.specs.declared.Stream.{Stream}
+use Rattle.kiss_octet.specs.declared.Move.{Move}
+use Rattle.kiss_octet.specs.Step.{room, opened, inData, inEscape, dropping, inType, headOf, noneIn, phased, dropOf, quietOf, putOf, typedOf, strayOf, unescaped, outsideOf, openedOf, dataOf, moveOf, stepOf, gives}
+use Rattle.kiss_stream.specs.Feed.{Called, noPacket, packetOf, later, takenFrom, settledHead, settled, feedOf}
+use Rattle.demands_stream.specs.Run.{Run, packetIn, giving, runOf, lineOf, then, inPieces, joined}
+
+-- ---- states that calls make
+pub record Sound (h : Head) : Type 0 where
+  pub length-in : h .length ≤ room
+  pub port-in : h .port ≤ lastPort
+  pub phase-in : h .phase ≤ inType
+
+-- an octet keeps them so
+module _ (h : Head) (k : Sound h) where
+  abbrev Keeps : Move → Type 0
+  Keeps m = Sound (m .head)
+
+  none-keeps : (f d : ℕ) → f ≤ inType → Sound (headOf 0 0 f d)
+  none-keeps f d l = record { length-in = omega arith; port-in = omega arith; phase-in = l }
+
+  in-keeps : (f : ℕ) → f ≤ inType → Sound (phased h f)
+  in-keeps f l = record { length-in = k .length-in; port-in = k .port-in; phase-in = l }
+
+  drop-keeps : (f : ℕ) → f ≤ inType → Keeps (quietOf (dropOf h f))
+  unfolding dropOf
+  drop-keeps f l = none-keeps f _ l
+
+  put-keeps : (b : ℕ) → Keeps (putOf h b)
+  unfolding putOf
+  put-keeps b =
+      either Keeps (ltb (h .length) room)
+      (λ e. record { length-in = omega (arith, ltb-true (h .length) room e); port-in = k .port-in; phase-in = omega arith })
+      (λ _. drop-keeps dropping (omega arith))
+
+  typed-keeps : (t : ℕ) → Keeps (typedOf h t)
+  unfolding typedOf
+  typed-keeps t =
+      let dropped = drop-keeps dropping (omega arith) in
+      either Keeps (eqb (field 0 4 t) 0)
+      (λ _. either Keeps (ltb lastPort (field 4 4 t)) (λ _. dropped)
+      (λ e. record { length-in = omega arith; port-in = ltb-false lastPort (field 4 4 t) e; phase-in = omega arith }))
+      (λ _. dropped)
+
+  stray-phase : (b : ℕ) → cond (eqb b fend) opened dropping ≤ inType
+  stray-phase b = either (λ (f : ℕ). f ≤ inType) (eqb b fend) (λ _. omega arith) (λ _. omega arith)
+
+  behind-keeps : (does : ℕ → Move) → ((b : ℕ) → Keeps (does b)) → (b : ℕ) → Keeps (unescaped does h b)
+  unfolding unescaped strayOf
+  behind-keeps does w b =
+      either Keeps (eqb b tfend) (λ _. w fend) (λ _. either Keeps (eqb b tfesc) (λ _. w fesc) (λ _. drop-keeps _ (stray-phase b)))
+
+  move-keeps : (b : ℕ) → Keeps (moveOf h b)
+  unfolding moveOf dataOf openedOf outsideOf
+  move-keeps b =
+      either Keeps (eqb (h .phase) inData)
+      (λ _. either Keeps (eqb b fend) (λ _. in-keeps opened (omega arith)) (λ _. either Keeps (eqb b fesc) (λ _. in-keeps inEscape (omega arith)) (λ _. put-keeps b)))
+      (λ _. either Keeps (eqb (h .phase) opened)
+      (λ _. either Keeps (eqb b fend) (λ _. k) (λ _. either Keeps (eqb b fesc) (λ _. in-keeps inType (omega arith)) (λ _. typed-keeps b)))
+      (λ _. either Keeps (eqb (h .phase) inEscape) (λ _. behind-keeps (putOf h) put-keeps b)
+      (λ _. either Keeps (eqb (h .phase) inType) (λ _. behind-keeps (typedOf h) typed-keeps b)
+      (λ _. either Keeps (eqb b fend) (λ _. none-keeps opened (h .dropped) (omega arith)) (λ _. k)))))
+
+step-keeps : (s : Stream) (b : ℕ) → Sound (s .head) → Sound (stepOf s b .head)
+unfolding stepOf
+step-keeps s b k = move-keeps (s .head) k b
+
+-- any state is read as one of them, and each of them as it is
+pub settled-sound : (h : Head) → Sound (settledHead h)
+unfolding settledHead
+settled-sound h =
+    let fresh : Sound (noneIn h 0) = record { length-in = omega arith; port-in = omega arith; phase-in = omega arith } in
+    either Sound (ltb room (h .length)) (λ _. fresh) (λ e. either Sound (ltb lastPort (h .port)) (λ _. fresh) (λ f.
+    either Sound (ltb inType (h .phase)) (λ _. fresh) (λ g.
+    record { length-in = ltb-false _ _ e; port-in = ltb-false _ _ f; phase-in = ltb-false _ _ g })))
+
+pub sound-settled : (h : Head) → Sound h → settledHead h ≡ h
+unfolding settledHead
+sound-settled h k = simp (le-ltb room (h .length) (k .length-in), le-ltb lastPort (h .port) (k .port-in), le-ltb inType (h .phase) (k .phase-in))
+
+settled-is : (s : Stream) → Sound (s .head) → settled s ≡ s
+settled-is s k = ap (λ (h : Head). record { octets = s .octets; head = h }) (sound-settled (s .head) k)
+
+-- ---- two parts of a line
+run-sound : (l : List ℕ) (s : Stream) → Sound (s .head) → Sound (runOf s l .stream .head)
+unfolding runOf
+run-sound [] s k = k
+run-sound (b ∷ l) s k = given (gives s b) (run-sound l (stepOf s b) (step-keeps s b k))
+  where
+    given : (t : Bool) → Sound (runOf (stepOf s b) l .stream .head) → Sound (giving t (stepOf s b) (runOf (stepOf s b) l) .stream .head)
+    given true h = h
+    given false h = h
+
+pub run-cut : (p : List ℕ) (s : Stream) (q : List ℕ) → runOf s (p ++ q) ≡ then (runOf s p) (runOf (runOf s p .stream) q)
+unfolding runOf
+run-cut [] s q = refl
+run-cut (b ∷ p) s q = ap (giving (gives s b) (stepOf s b)) (run-cut p (stepOf s b) q) ∙ cut (gives s b)
+  where
+    r : Run
+    r = runOf (stepOf s b) p
+
+    cut : (t : Bool) → giving t (stepOf s b) (then r (runOf (r .stream) q)) ≡ then (giving t (stepOf s b) r) (runOf (giving t (stepOf s b) r .stream) q)
+    cut true = refl
+    cut false = refl
+
+pub line-cut : (s : Stream) (p q : List ℕ) → lineOf s (p ++ q) ≡ then (lineOf s p) (lineOf (lineOf s p .stream) q)
+unfolding lineOf
+line-cut s p q =
+    rw (settled-is (runOf (settled s) p .stream) (run-sound p (settled s) (settled-sound (s .head)))) (run-cut p (settled s) q)
+
+-- THE LINE IN ANY PIECES
+pub any-cut : (ps : List (List ℕ)) (s : Stream) → inPieces s ps ≡ lineOf s (joined ps)
+unfolding inPieces joined
+any-cut [] s = refl
+any-cut (p ∷ ps) s = rw (any-cut ps (lineOf s p .stream)) (sym (line-cut s p (joined ps)))
+
+-- ---- calls
+-- a call, and the line that is left behind it
+abbrev pub goesOn : Called → List ℕ → Run
+goesOn c l = giving (eqb (c .packet .ready) 1) (c .stream) (lineOf (c .stream) (drop (c .taken) l))
+
+taken-sound : (l : List ℕ) (s : Stream) → Sound (s .head) → Sound (takenFrom s l .stream .head)
+unfolding takenFrom
+taken-sound [] s k = k
+taken-sound (b ∷ l) s k =
+    let n = step-keeps s b k in
+    either (λ (c : Called). Sound (c .stream .head)) (gives s b) (λ _. n) (λ _. taken-sound l (stepOf s b) n)
+
+abbrev onward : Called → List ℕ → Run
+onward c l = giving (eqb (c .packet .ready) 1) (c .stream) (runOf (c .stream) (drop (c .taken) l))
+
+run-call : (l : List ℕ) (s : Stream) → runOf s l ≡ onward (takenFrom s l) l
+unfolding runOf takenFrom
+run-call [] s = refl
+run-call (b ∷ l) s = turn (gives s b) (run-call l (stepOf s b))
+  where
+    c : Called
+    c = takenFrom (stepOf s b) l
+
+    one-more : (n : ℕ) → suc n ≡ 1 + n
+    one-more n = omega arith
+
+    turn : (t : Bool) → runOf (stepOf s b) l ≡ onward c l → giving t (stepOf s b) (runOf (stepOf s b) l)
+        ≡ onward (cond t (record { stream = stepOf s b; packet = packetOf (stepOf s b .head); taken = 1 }) (later 1 c)) (b ∷ l)
+    turn true e = refl
+    turn false e =
+        e ∙ ap (λ (n : ℕ). giving (eqb (c .packet .ready) 1) (c .stream) (runOf (c .stream) (drop n (b ∷ l)))) (one-more (c .taken))
+
+-- A LINE BY CALLS: the packet of the first, if it gives one out, and then the line from what it left on
+pub line-call : (s : Stream) (l : List ℕ) → lineOf s l ≡ goesOn (feedOf s l) l
+unfolding lineOf feedOf
+line-call s l =
+    rw (settled-is (takenFrom (settled s) l .stream) (taken-sound l (settled s) (settled-sound (s .head)))) (run-call l (settled s))
+
+-- a call takes no more than there is, and of something at least one octet: so calls use a piece up
+taken-some : (s : Stream) (b : ℕ) (l : List ℕ) → 1 ≤ takenFrom s (b ∷ l) .taken
+unfolding takenFrom
+taken-some s b l = either (λ (c : Called). 1 ≤ c .taken) (gives s b) (λ _. omega arith) (λ _. omega arith)
+
+taken-most : (l : List ℕ) (s : Stream) → takenFrom s l .taken ≤ length l
+unfolding takenFrom
+taken-most [] s = omega arith
+taken-most (b ∷ l) s =
+    either (λ (c : Called). c .taken ≤ suc (length l)) (gives s b) (λ _. omega arith) (λ _. omega (arith, taken-most l (stepOf s b)))
+
+pub call-takes : (s : Stream) (b : ℕ) (l : List ℕ) → (1 ≤ feedOf s (b ∷ l) .taken) × (feedOf s (b ∷ l) .taken ≤ length (b ∷ l))
+unfolding feedOf
+call-takes s b l = (taken-some (settled s) b l, taken-most (b ∷ l) (settled s))
+
+-- an empty piece takes nothing, gives out nothing and changes nothing of a state that calls made
+pub call-none : (s : Stream) → Sound (s .head) → feedOf s [] ≡ record { stream = s; packet = noPacket; taken = 0 }
+unfolding feedOf takenFrom
+call-none s k = rw (settled-is s k) refl
+
+-- all calls make such states
+pub call-sound : (s : Stream) (l : List ℕ) → Sound (feedOf s l .stream .head)
+unfolding feedOf
+call-sound s l = taken-sound l (settled s) (settled-sound (s .head))

@@ -1,0 +1,3 @@
+pub mod Cut
+pub mod Between
+pub mod Line
