@@ -15,7 +15,8 @@ use Rattle.kiss_octet.specs.declared.Head.{Head}
 use Rattle.kiss_octet.specs.declared.Stream.{Stream}
 use Rattle.kiss_octet.specs.declared.Move.{Move}
 use Rattle.kiss_octet.specs.Step.{room, opened, inData, inEscape, dropping, inType, headOf, noneIn, phased, dropOf, quietOf, putOf, typedOf, strayOf, unescaped, outsideOf, openedOf, dataOf, moveOf, stepOf, gives}
-use Rattle.kiss_stream.specs.Feed.{Called, noPacket, packetOf, later, takenFrom, settledHead, settled, feedOf}
+use Rattle.kiss_stream.specs.declared.Fed.{Fed}
+use Rattle.kiss_stream.specs.Feed.{Called, noPacket, packetOf, later, takenFrom, settledHead, settled, feedOf, streamOf, fedOf}
 use Rattle.demands_stream.specs.Run.{Run, packetIn, giving, runOf, lineOf, then, inPieces, joined}
 
 -- ---- states that calls make
@@ -189,3 +190,74 @@ call-none s k = rw (settled-is s k) refl
 pub call-sound : (s : Stream) (l : List ℕ) → Sound (feedOf s l .stream .head)
 unfolding feedOf
 call-sound s l = taken-sound l (settled s) (settled-sound (s .head))
+
+-- ---- a call, as its function gives it: the packet or none, and the line from there on
+pub record Turns (octets : List ℕ) (h : Head) (l : List ℕ) (f : Fed) (u : List ℕ) : Type 0 where
+  pub packets : length (lineOf (streamOf octets h) l .packets) ≡ f .packet .ready + length (lineOf (streamOf u (f .head)) (drop (f .taken) l) .packets)
+  pub stream : lineOf (streamOf octets h) l .stream ≡ lineOf (streamOf u (f .head)) (drop (f .taken) l) .stream
+  pub one : f .packet .ready ≤ f .taken
+  pub some : 1 ≤ length l → 1 ≤ f .taken
+  pub most : f .taken ≤ length l
+  pub sound : Sound (f .head)
+
+-- a packet is given out or not, and it takes an octet
+ready-one : (l : List ℕ) (s : Stream)
+    → let c = takenFrom s l in (c .packet .ready ≤ c .taken) × ((r : Run) → length (giving (eqb (c .packet .ready) 1) (c .stream) r .packets) ≡ c .packet .ready + length (r .packets))
+unfolding takenFrom
+ready-one [] s = (omega arith, λ r. omega arith)
+ready-one (b ∷ l) s =
+    let Good : Called → Type 0 =
+    λ c. (c .packet .ready ≤ c .taken) × ((r : Run) → length (giving (eqb (c .packet .ready) 1) (c .stream) r .packets) ≡ c .packet .ready + length (r .packets)) in
+    let w = ready-one l (stepOf s b) in
+    either Good (gives s b) (λ _. (omega arith, λ r. omega arith)) (λ _. (omega (arith, w .0), w .1))
+
+pub given-stream : (t : Bool) (s : Stream) (r : Run) → giving t s r .stream ≡ r .stream
+given-stream true s r = refl
+given-stream false s r = refl
+
+-- what a call takes and gives out
+call-ready : (s : Stream) (l : List ℕ)
+    → let c = feedOf s l in (c .packet .ready ≤ c .taken) × ((r : Run) → length (giving (eqb (c .packet .ready) 1) (c .stream) r .packets) ≡ c .packet .ready + length (r .packets))
+unfolding feedOf
+call-ready s l = ready-one l (settled s)
+
+call-some : (s : Stream) (l : List ℕ) → 1 ≤ length l → 1 ≤ feedOf s l .taken
+call-some s [] n = absurd (omega arith)
+call-some s (b ∷ l) n = call-takes s b l .0
+
+call-most : (s : Stream) (l : List ℕ) → feedOf s l .taken ≤ length l
+unfolding feedOf
+call-most s l = taken-most l (settled s)
+
+pub turns : (octets : List ℕ) (h : Head) (l : List ℕ) (f : Fed) (u : List ℕ) → f ≡ fedOf (feedOf (streamOf octets h) l)
+    → u ≡ feedOf (streamOf octets h) l .stream .octets → Turns octets h l f u
+turns octets h l f u e o =
+    let s : Stream = streamOf octets h in
+    let c = line-call s l in
+    rw (e, o) (record {
+      packets = ap (λ (r : Run). length (r .packets)) c ∙ call-ready s l .1 _;
+      stream = ap (λ (r : Run). r .stream) c ∙ given-stream (eqb (feedOf s l .packet .ready) 1) (feedOf s l .stream) _;
+      one = call-ready s l .0;
+      some = call-some s l;
+      most = call-most s l;
+      sound = call-sound s l;
+    })
+
+-- nothing is left of a line that is used up
+pub line-none : (octets : List ℕ) (h : Head) → Sound h → lineOf (streamOf octets h) [] ≡ record { packets = []; stream = streamOf octets h }
+unfolding lineOf runOf
+line-none octets h k = rw (sound-settled h k) refl
+
+-- no more packets than octets
+run-few : (l : List ℕ) (s : Stream) → length (runOf s l .packets) ≤ length l
+unfolding runOf
+run-few [] s = omega arith
+run-few (b ∷ l) s = few (gives s b) (run-few l (stepOf s b))
+  where
+    few : (t : Bool) → length (runOf (stepOf s b) l .packets) ≤ length l → length (giving t (stepOf s b) (runOf (stepOf s b) l) .packets) ≤ suc (length l)
+    few true h = omega (arith, h)
+    few false h = omega (arith, h)
+
+pub line-few : (s : Stream) (l : List ℕ) → length (lineOf s l .packets) ≤ length l
+unfolding lineOf
+line-few s l = run-few l (settled s)

@@ -1,3 +1,4 @@
 pub mod Cut
 pub mod Between
 pub mod Line
+pub mod Cases

@@ -25,7 +25,7 @@ use Rattle.kiss_octet.specs.declared.Stream.{Stream}
 use Rattle.kiss_octet.specs.Step.{room, lastCount, outside, opened, inData, inEscape, dropping, inType, headOf, noneIn, phased, countedOf, dropOf, quietOf, putOf, typedOf, strayOf, unescaped, outsideOf, openedOf, dataOf, moveOf, storedBy, stepOf, gives}
 use Rattle.demands_stream.specs.Run.{Run, packetIn, giving, runOf, then}
 use Rattle.demands_stream.specs.Line.{own, whole, spoilt, between, cutAtFend, givenOut, atMost}
-use Rattle.demands_stream.proofs.Cut.{run-cut}
+use Rattle.demands_stream.proofs.Cut.{run-cut, given-stream}
 use Rattle.demands_stream.proofs.Between.{NoFend, Opened, Closed, closed}
 
 -- ---- the array, C0, and all other octets
@@ -36,10 +36,6 @@ stored-length m at o = either (λ (l : List ℕ). length l ≡ length o) (m .sto
 step-array : (s : Stream) (b : ℕ) → length (stepOf s b .octets) ≡ length (s .octets)
 unfolding stepOf
 step-array s b = stored-length (moveOf (s .head) b) (s .head .length) (s .octets)
-
-given-stream : (t : Bool) (s : Stream) (r : Run) → giving t s r .stream ≡ r .stream
-given-stream true s r = refl
-given-stream false s r = refl
 
 pub run-array : (l : List ℕ) (s : Stream) → length (runOf s l .stream .octets) ≡ length (s .octets)
 unfolding runOf

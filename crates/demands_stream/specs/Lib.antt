@@ -1,2 +1,3 @@
 pub mod Run
 pub mod Line
+pub mod Cases
