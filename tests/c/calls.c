@@ -1,5 +1,5 @@
-/* The seven calls: those on frames on document 01's examples, on every octet string of length 0 to 2, and on random, damaged and
-   long frames; the relay and KISS by relays.c and kiss.c.
+/* The eight calls: those on frames on document 01's examples, on every octet string of length 0 to 2, and on random, damaged and
+   long frames; the relay, KISS packets and a serial line by relays.c, kiss.c and stream.c.
    usage: calls [THOUSANDS [SEED]]: that many thousand random inputs */
 #include <stdio.h>
 #include <stdlib.h>
@@ -12,6 +12,7 @@
 #include "relays.h"
 #include "say.h"
 #include "sets.h"
+#include "stream.h"
 
 /* Document 01's example frame, and its 14 address octets. */
 #define ADDRESS "8E 82 AA 8E 8A 40 E0 84 9E B0 62 64 40 67 "
@@ -297,6 +298,7 @@ int main(int argc, char **argv) {
     run_long();
     run_relays();
     run_kiss(thousands, seed);
+    run_streams(thousands, seed);
     run_random(thousands, seed);
     return failures() != 0;
 }

@@ -39,6 +39,40 @@ size_t damage(uint8_t *in, size_t len) {
     }
 }
 
+static const uint8_t special[] = {0xC0, 0xDB, 0xDC, 0xDD};
+
+static size_t put_in(uint8_t *in, size_t len, size_t at, uint8_t octet) {
+    memmove(in + at + 1, in + at, len - at);
+    in[at] = octet;
+    return len + 1;
+}
+
+size_t damage_packet(uint8_t *in, size_t len) {
+    unsigned end = (unsigned)len;
+    if (len < 3) return put_in(in, len, below(end + 1), special[below(4)]);
+    switch (below(9)) {
+    case 0: in[0] = (uint8_t)below(256); return len;
+    case 1: return put_in(in, len, 1, 0xC0);
+    case 2: return len - 1;
+    case 3: return put_in(in, len, end, one_in(2) ? special[below(4)] : (uint8_t)below(256));
+    case 4: return put_in(in, len, 1 + below(end), 0xDB);
+    case 5: in[1 + below(end - 1)] = special[below(4)]; return len;
+    case 6: return put_in(in, len, 1 + below(end), special[below(4)]);
+    case 7: in[1] = (uint8_t)((10 + below(6)) << 4); return len;
+    default: return damage(in, len);
+    }
+}
+
+uint8_t draw_type(void) {
+    unsigned port = one_in(8) ? below(16) : below(12);
+    return (uint8_t)(port << 4 | (one_in(8) ? below(16) : 0));
+}
+
+void fill_special(uint8_t *out, size_t len) {
+    unsigned n = 1 + below(one_in(2) ? 4 : 60);
+    for (size_t i = 0; i < len; i++) out[i] = one_in(n) ? special[below(4)] : (uint8_t)below(256);
+}
+
 static uint8_t filler(enum filling filling, size_t i) {
     switch (filling) {
     case TEXT: return (uint8_t)(' ' + i % 95);

@@ -13,6 +13,15 @@ int one_in(unsigned n);
    there is room for one more. */
 size_t damage(uint8_t *in, size_t len);
 
+/* One damage to a KISS packet that its rules have a number for, or any other; room for one more here too. */
+size_t damage_packet(uint8_t *in, size_t len);
+
+/* The type octet of a KISS packet, mostly a good one. */
+uint8_t draw_type(void);
+
+/* Octets of which one in few or one in many, as it is drawn, is one of the four that escapes are made of. */
+void fill_special(uint8_t *out, size_t len);
+
 /* Data that is easy or hard on KISS: text, in which no octet is escaped; random octets; all C0; all DB. */
 enum filling { TEXT, ANY_OCTETS, ALL_C0, ALL_DB, FILLINGS };
 void fill(uint8_t *out, size_t len, enum filling filling);

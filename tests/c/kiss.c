@@ -245,18 +245,6 @@ static void write_by_model(unsigned port, const uint8_t *data, size_t len) {
     examine_write(port, data, len, &want, next_place());
 }
 
-/* Whether calls of this set were owed each of the numbers. */
-static void say_met(const unsigned *numbers, size_t count, unsigned long least) {
-    char line[200];
-    int all = 1;
-    int at = snprintf(line, sizeof line, "each number is met in these calls, %lu or more of each:", least);
-    for (size_t i = 0; i < count; i++) {
-        all = all && owed(numbers[i]) >= least;
-        at += snprintf(line + at, sizeof line - (size_t)at, " %u: %lu%s", numbers[i], owed(numbers[i]), i + 1 < count ? "," : "");
-    }
-    say(all, line);
-}
-
 static int same_answer(const struct kiss_answer *a, const struct kiss_answer *b) {
     return a->number == b->number && a->port == b->port && a->length == b->length && same(a->octets, b->octets, a->length);
 }
@@ -304,18 +292,6 @@ static void run_empty(void) {
 /* The octets that the rules name; as types ports 0, 1 and 11, a command, and a command at port 12; and a letter. */
 static const uint8_t alphabet[] = {0xC0, 0xDB, 0xDC, 0xDD, 0x00, 0x01, 0x10, 0xB0, 0xC1, 0x41};
 
-/* Every string of up to `longest` octets of the alphabet. */
-static void for_every(size_t longest, void (*each)(const uint8_t *octets, size_t len)) {
-    uint8_t octets[8];
-    size_t strings = 1;
-    for (size_t len = 0; len <= longest; len++, strings *= sizeof alphabet)
-        for (size_t n = 0; n < strings; n++) {
-            size_t rest = n;
-            for (size_t i = 0; i < len; i++, rest /= sizeof alphabet) octets[i] = alphabet[rest % sizeof alphabet];
-            each(octets, len);
-        }
-}
-
 /* What begins as a good packet, so that the octets are its data and its end. */
 static void read_begun(const uint8_t *octets, size_t len) {
     uint8_t packet[16] = {0xC0, 0x50};
@@ -332,19 +308,19 @@ static void run_every(size_t longest) {
     char name[100];
     snprintf(name, sizeof name, "every KISS packet of up to %zu octets of ten", longest);
     set_begin(name);
-    for_every(longest, read_by_model);
+    for_every(alphabet, sizeof alphabet, longest, read_by_model);
     set_end();
     say_met(reading_numbers, COUNT(reading_numbers), 1);
 
     snprintf(name, sizeof name, "every KISS packet that begins well, with up to %zu octets of ten after that", longest - 1);
     set_begin(name);
-    for_every(longest - 1, read_begun);
+    for_every(alphabet, sizeof alphabet, longest - 1, read_begun);
     set_end();
     say_met(later_numbers, COUNT(later_numbers), 1);
 
     snprintf(name, sizeof name, "data of up to %zu octets of ten, written", longest - 1);
     set_begin(name);
-    for_every(longest - 1, write_by_turns);
+    for_every(alphabet, sizeof alphabet, longest - 1, write_by_turns);
     set_end();
     say_met(writing_numbers, COUNT(writing_numbers), 1);
 }
@@ -385,13 +361,11 @@ static void run_ports(void) {
 }
 
 enum { SCRATCH = 12288 };
-static const uint8_t special[] = {0xC0, 0xDB, 0xDC, 0xDD};
 
-/* Data of up to some thousand octets, in which one octet of `n` is one of the four that escapes are made of. */
+/* Data of up to some thousand octets. */
 static size_t random_data(uint8_t *out) {
     size_t len = below(one_in(20) ? 4000 : one_in(4) ? 300 : 24);
-    unsigned n = 1 + below(one_in(2) ? 4 : 60);
-    for (size_t i = 0; i < len; i++) out[i] = one_in(n) ? special[below(4)] : (uint8_t)below(256);
+    fill_special(out, len);
     return len;
 }
 
@@ -400,31 +374,8 @@ static size_t random_packet(uint8_t *out) {
     uint8_t data[4096];
     struct kiss_answer good = model_kiss_write(0, data, random_data(data));
     memcpy(out, good.octets, good.length);
-    out[1] = (uint8_t)((one_in(8) ? below(16) : below(12)) << 4 | (one_in(8) ? below(16) : 0));
+    out[1] = draw_type();
     return good.length;
-}
-
-static size_t put_in(uint8_t *in, size_t len, size_t at, uint8_t octet) {
-    memmove(in + at + 1, in + at, len - at);
-    in[at] = octet;
-    return len + 1;
-}
-
-/* One damage that the rules of packets have a number for, or any. */
-static size_t damage_packet(uint8_t *in, size_t len) {
-    unsigned end = (unsigned)len;
-    if (len < 3) return put_in(in, len, below(end + 1), special[below(4)]);
-    switch (below(9)) {
-    case 0: in[0] = (uint8_t)below(256); return len;
-    case 1: return put_in(in, len, 1, 0xC0);
-    case 2: return len - 1;
-    case 3: return put_in(in, len, end, one_in(2) ? special[below(4)] : (uint8_t)below(256));
-    case 4: return put_in(in, len, 1 + below(end), 0xDB);
-    case 5: in[1 + below(end - 1)] = special[below(4)]; return len;
-    case 6: return put_in(in, len, 1 + below(end), special[below(4)]);
-    case 7: in[1] = (uint8_t)((10 + below(6)) << 4); return len;
-    default: return damage(in, len);
-    }
 }
 
 static void run_random(unsigned long thousands, uint64_t seed) {

@@ -1,7 +1,8 @@
-// The header in C++: the calls have C's names, so that this links.
+// The header in C++: the calls have C's names, so that this links, and the structs are laid out as in C.
 #include <stdio.h>
 
 #include "ax25.h"
+#include "layout.h"
 
 int main() {
     const uint8_t frame[] = {0x8E, 0x82, 0xAA, 0x8E, 0x8A, 0x40, 0xE0, 0x84, 0x9E, 0xB0, 0x62, 0x64, 0x40, 0x67, 0x01, 0xAA};
@@ -20,6 +21,12 @@ int main() {
     held = held && ax25_kiss_write(11, data, sizeof data, packet, sizeof packet, &length) == AX25_ACCEPTED && length == 7 && packet[3] == 0xDB &&
            ax25_kiss_read(packet, length, out, 3, &port, &length) == AX25_ACCEPTED && port == 11 && length == 3 && out[1] == 0xC0 &&
            ax25_kiss_read(packet, 6, out, 3, &port, &length) == AX25_KISS_NO_CLOSING && port == 0 && length == 0;
+    const uint8_t piece[] = {0x41, 0xC0, 0x01, 0xC0, 0x30, 'O', 0xDB, 0xDC, 0xC0, 0xB0};
+    ax25_kiss_stream line = ax25_kiss_stream();
+    ax25_kiss_packet given;
+    held = held && ax25_kiss_feed(&line, piece, sizeof piece, &given) == 9 && given.ready == 1 && given.port == 3 && given.length == 2 &&
+           line.data[0] == 'O' && line.data[1] == 0xC0 && line.dropped == 1 && ax25_kiss_feed(&line, piece + 9, 1, &given) == 1 && given.ready == 0 &&
+           line.length == 0 && line.port == 11 && line.phase == 2;
     printf("%s: a C++ program links the archive\n", held ? "ok" : "FAILED");
     return held ? 0 : 1;
 }

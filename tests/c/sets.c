@@ -20,10 +20,16 @@ static const char *const names[CHECKS] = {
     "a refusal leaves the output alone, and the frame to be relayed",
     "a refusal gives port 0 and length 0",
     "guard octets stay",
-    "the input and the callsign stay",
+    "the input, the callsign and the piece stay",
     "the five calls on frames agree",
     "reading and writing undo each other",
     "the plain C gives the same",
+    "ax25_kiss_feed takes the piece through a packet's end, else the whole",
+    "ax25_kiss_feed gives out the packet, its data included, or none",
+    "ax25_kiss_read reads the same of that packet's own octets",
+    "dropped packets are counted where that is owed",
+    "an empty piece changes nothing",
+    "the state is the same however the octets are cut, each octet of it",
 };
 
 static const char *set = "start";
@@ -106,3 +112,25 @@ int look(enum check c, int holds, unsigned long want, unsigned long got) {
 
 void owe(unsigned number) { owed_by_number[number]++; }
 unsigned long owed(unsigned number) { return owed_by_number[number]; }
+
+void say_met(const unsigned *numbers, size_t count, unsigned long least) {
+    char line[200];
+    int all = 1;
+    int at = snprintf(line, sizeof line, "each number is met in these calls, %lu or more of each:", least);
+    for (size_t i = 0; i < count; i++) {
+        all = all && owed(numbers[i]) >= least;
+        at += snprintf(line + at, sizeof line - (size_t)at, " %u: %lu%s", numbers[i], owed(numbers[i]), i + 1 < count ? "," : "");
+    }
+    say(all, line);
+}
+
+void for_every(const uint8_t *letters, size_t count, size_t longest, void (*each)(const uint8_t *octets, size_t len)) {
+    uint8_t octets[8];
+    size_t strings = 1;
+    for (size_t len = 0; len <= longest; len++, strings *= count)
+        for (size_t n = 0; n < strings; n++) {
+            size_t rest = n;
+            for (size_t i = 0; i < len; i++, rest /= count) octets[i] = letters[rest % count];
+            each(octets, len);
+        }
+}

@@ -5,7 +5,10 @@
 #include <stddef.h>
 #include <stdint.h>
 
-enum check { NUMBER, CANONICAL, LENGTH, REENCODED, RELAYED, READ, WRITTEN, BEYOND, REFUSED, CLEARED, GUARDS, INPUT, AGREE, UNDONE, PLAIN, CHECKS };
+enum check {
+    NUMBER, CANONICAL, LENGTH, REENCODED, RELAYED, READ, WRITTEN, BEYOND, REFUSED, CLEARED, GUARDS, INPUT, AGREE, UNDONE, PLAIN,
+    TAKEN, FED, OWN, DROPPED, IDLE, STATE, CHECKS
+};
 
 /* Has a stray access reported as a failure, with the set and the input. */
 void sets_begin(void);
@@ -27,5 +30,11 @@ int look(enum check c, int holds, unsigned long want, unsigned long got);
 /* Counts a call of this set that is owed a number, which is below 64; how many were. */
 void owe(unsigned number);
 unsigned long owed(unsigned number);
+
+/* Says whether so many calls of this set or more were owed each of these numbers. */
+void say_met(const unsigned *numbers, size_t count, unsigned long least);
+
+/* Every string of up to `longest` of these octets, 8 at most. */
+void for_every(const uint8_t *letters, size_t count, size_t longest, void (*each)(const uint8_t *octets, size_t len));
 
 #endif

@@ -38,13 +38,15 @@ __asm__(".text\n"
         "    retq\n"
         ".size on_stack, . - on_stack\n");
 
-enum call { DECODE, CANONICAL, LENGTH, REENCODE, RELAY, KISS_READ, KISS_WRITE, CALLS };
+enum call { DECODE, CANONICAL, LENGTH, REENCODE, RELAY, KISS_READ, KISS_WRITE, KISS_FEED, CALLS };
 static const char *const names[CALLS] = {"ax25_decode", "ax25_canonical", "ax25_reencoded_length", "ax25_reencode", "ax25_relay",
-                                          "ax25_kiss_read", "ax25_kiss_write"};
+                                          "ax25_kiss_read", "ax25_kiss_write", "ax25_kiss_feed"};
 static size_t deepest[CALLS];
 
-static uint8_t in[1024], out[1024], port;
+static uint8_t in[2064], out[sizeof in], port; /* room for a packet of 1,025 octets, each escaped */
 static size_t in_len, length;
+static struct ax25_kiss_stream stream;
+static struct ax25_kiss_packet packet;
 
 static uint64_t address_of(enum call call) {
     switch (call) {
@@ -54,20 +56,39 @@ static uint64_t address_of(enum call call) {
     case REENCODE: return (uint64_t)(uintptr_t)ax25_reencode;
     case RELAY: return (uint64_t)(uintptr_t)ax25_relay;
     case KISS_READ: return (uint64_t)(uintptr_t)ax25_kiss_read;
-    default: return (uint64_t)(uintptr_t)ax25_kiss_write;
+    case KISS_WRITE: return (uint64_t)(uintptr_t)ax25_kiss_write;
+    default: return (uint64_t)(uintptr_t)ax25_kiss_feed;
     }
 }
 
 static uint64_t pointer(const void *at) { return (uint64_t)(uintptr_t)at; }
 
+/* The relay by the station that is due, by another, and by one that is none; a packet for two ports and for none. */
+static const uint8_t ssids[] = {0, 1, 16};
+
+/* A line in each phase, with the room for data used up, and in a state that no call made. */
+static const struct {
+    uint16_t length;
+    uint8_t phase;
+} states[] = {{0, 0}, {3, 1}, {3, 2}, {3, 3}, {0, 4}, {3, 5}, {1024, 2}, {1024, 3}, {1025, 2}};
+
+static int turns_of(enum call call) {
+    if (call == KISS_FEED) return sizeof states / sizeof *states;
+    return call == RELAY || call == KISS_WRITE ? sizeof ssids : 1;
+}
+
 /* The relay is by AAAAAA, the callsign of every repeater of `make`, whose SSID is 0; a packet is written for that number as its port. */
-static size_t used_by(enum call call, size_t room, uint8_t ssid, uint8_t paint) {
+static size_t used_by(enum call call, size_t room, int turn, uint8_t paint) {
     memset(stack + SIZE - PAINTED, paint, PAINTED);
     if (call == RELAY) {
         memcpy(out, in, in_len);
-        on_stack(stack + SIZE, address_of(call), pointer("AAAAAA"), 6, ssid, pointer(out), in_len, 0);
+        on_stack(stack + SIZE, address_of(call), pointer("AAAAAA"), 6, ssids[turn], pointer(out), in_len, 0);
     } else if (call == KISS_WRITE) {
-        on_stack(stack + SIZE, address_of(call), ssid, pointer(in), in_len, pointer(out), room, pointer(&length));
+        on_stack(stack + SIZE, address_of(call), ssids[turn], pointer(in), in_len, pointer(out), room, pointer(&length));
+    } else if (call == KISS_FEED) {
+        stream.length = states[turn].length;
+        stream.phase = states[turn].phase;
+        on_stack(stack + SIZE, address_of(call), pointer(&stream), pointer(in), in_len, pointer(&packet), 0, 0);
     } else {
         on_stack(stack + SIZE, address_of(call), pointer(in), in_len, pointer(out), room, pointer(&port), pointer(&length));
     }
@@ -76,12 +97,10 @@ static size_t used_by(enum call call, size_t room, uint8_t ssid, uint8_t paint) 
     return SIZE - low;
 }
 
-/* The relay by the station that is due, by another, and by one that is none; a packet for two ports and for none. */
 static void measure(size_t room) {
-    static const uint8_t ssids[] = {0, 1, 16};
     for (int call = 0; call < CALLS; call++) {
-        for (int turn = 0; turn < (call == RELAY || call == KISS_WRITE ? 6 : 2); turn++) {
-            size_t used = used_by((enum call)call, room, ssids[turn / 2], turn % 2 ? 0x5A : 0xA5);
+        for (int turn = 0; turn < 2 * turns_of((enum call)call); turn++) {
+            size_t used = used_by((enum call)call, room, turn / 2, turn % 2 ? 0x5A : 0xA5);
             if (used > deepest[call]) deepest[call] = used;
         }
     }
@@ -109,11 +128,12 @@ static void make_packet(unsigned type, unsigned octet, size_t count, unsigned la
     in[in_len - 1] = (uint8_t)last;
 }
 
-/* Packets that are accepted or refused by each number, with room and without. As data they are written. */
+/* Packets that are accepted or refused by each number, with room and without; the last have 1,024 octets of data and more, plain and
+   escaped. As data they are written, and as a piece of a line they are fed to each state. */
 static void measure_packets(void) {
     static const unsigned types[] = {0x00, 0xB0, 0xC0, 0xD0, 0x01}, octets[] = {0x41, 0xC0, 0xDB}, lasts[] = {0xC0, 0xDB, 0x41};
-    static const size_t counts[] = {0, 1, 2, 3, 8, 9, 40, 300};
-    for (size_t i = 0; i < 5 * 3 * 3 * 8; i++) {
+    static const size_t counts[] = {0, 1, 2, 3, 8, 9, 40, 300, 1024, 1025, 2048, 2050};
+    for (size_t i = 0; i < 5 * 3 * 3 * 12; i++) {
         make_packet(types[i % 5], octets[i / 5 % 3], counts[i / 45], lasts[i / 15 % 3]);
         measure(sizeof out);
         measure(i % 3);
