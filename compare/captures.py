@@ -12,11 +12,11 @@ alone and at most 4,096 of them, is asked for by --raw, or its octets say nothin
 
 What is printed has lines of fields between tabs: 'capture', its file, its format; then of that capture 'frame', the frame's place, its
 octets in hex; 'packet', a KISS packet's place, its octets in hex as they stood, with the C0 before and after them (the last of a log may
-lack that), the number that it is read by, the port, the data in hex; 'passed over', what and why; and 'refused', a file, why. Every
-packet of a KISS log is printed, those that are passed over too; two C0 with nothing between them are no packet there. A pcap of link
-type 202 holds packets without C0 and escapes: each is printed as it would be sent. The numbers are those of include/ax25.h: a packet
-that is no frame has the first of 54, 56, 52, 53 that is met from its start on (55 for one of link type 202 without a type), port 0 and
-no data. Exit status 2 where a capture is refused."""
+lack that), the number that it is read by, the port, the data in hex; 'log', all octets of a KISS log in hex; 'passed over', what and
+why; and 'refused', a file, why. Every packet of a KISS log is printed, those that are passed over too; two C0 with nothing between them
+are no packet there. A pcap of link type 202 holds packets without C0 and escapes: each is printed as it would be sent. The numbers are
+those of include/ax25.h: a packet that is no frame has the first of 54, 56, 52, 53 that is met from its start on (55 for one of link type
+202 without a type), port 0 and no data. Exit status 2 where a capture is refused."""
 import os
 import re
 import struct
@@ -90,10 +90,11 @@ def kiss_frame(inside, closed):
 
 
 class Capture:
-    """The frames of a capture, each with its place, its KISS packets with what they are read as, and what was passed over."""
+    """The frames of a capture, each with its place, its KISS packets with what they are read as, all octets of a KISS log, and what was
+    passed over."""
 
-    def __init__(self, form):
-        self.form, self.frames, self.packets, self.passed_over = form, [], [], []
+    def __init__(self, form, log=None):
+        self.form, self.frames, self.packets, self.log, self.passed_over = form, [], [], log, []
 
     def kiss_packet(self, place, inside, closed=True):
         packet = FEND + inside + FEND * closed
@@ -158,7 +159,7 @@ def hex_lines(text):
 
 def kiss(octets):
     """Everything between two C0 octets, and what follows the last. Two packets share a C0, or have one each, or more."""
-    capture = Capture('KISS log')
+    capture = Capture('KISS log', octets)
     at = 0
     for piece in octets.split(FEND):
         if piece:
@@ -281,6 +282,7 @@ def lines_of(path, raw):
     lines = [f'capture\t{name}\t{capture.form}']
     lines += [f'frame\t{place}\t{octets.hex()}' for place, octets in capture.frames]
     lines += [f'packet\t{place}\t{octets.hex()}\t{number}\t{port}\t{data.hex()}' for place, octets, number, port, data in capture.packets]
+    lines += [f'log\t{capture.log.hex()}'] if capture.log else []
     return lines + [f'passed over\t{what}' for what in capture.passed_over], None
 
 

@@ -113,6 +113,11 @@ def packets(part):
     return f"{sum(numbers.values())} KISS packets were read: {numbers['0']} accepted" + "".join(refused) + "."
 
 
+def streams(part):
+    counts = part["kiss_streams"]
+    return f"{counts['streams']} KISS streams of {counts['octets']} octets were read in pieces: {counts['packets']} packets given out, {counts['dropped']} dropped."
+
+
 def rooms(part):
     return "Room lent to writers: " + ", ".join(f"{name} {count} times" for name, count in part["rooms"].items()) + "."
 
@@ -139,14 +144,14 @@ def markdown(report):
         part = report["captures"]
         rows = [(c["file"], c["format"], c["frames"], c["packets"], len(c["passed_over"])) for c in part["captures"]]
         out += table(["file", "format", "frames", "KISS packets", "passed over"], rows)
-        out += ["", f"{part['decodes']} decodes and {part['writes']} writes compared; {part['accepted']} accepted, {part['canonical']} of them canonical. " + relays(part) + " " + packets(part) + " " + listed(part), ""]
+        out += ["", f"{part['decodes']} decodes and {part['writes']} writes compared; {part['accepted']} accepted, {part['canonical']} of them canonical. " + relays(part) + " " + packets(part) + " " + streams(part) + " " + listed(part), ""]
     else:
         out += ["Not compared.", ""]
     out += ["## The Rust beside the port", ""]
     if report["compared"]:
         out += classes(report["compared"])
         part = report["compared"]
-        out += ["", f"{part['decodes']} decodes, {part['writes']} writes and {part['relays']} relays compared, {part['relayed']} of the relays passed on. " + packets(part) + " " + rooms(part) + " " + listed(part), ""]
+        out += ["", f"{part['decodes']} decodes, {part['writes']} writes and {part['relays']} relays compared, {part['relayed']} of the relays passed on. " + packets(part) + " " + streams(part) + " " + rooms(part) + " " + listed(part), ""]
     else:
         out += ["Not compared.", ""]
     if report["ratios"]:

@@ -4,15 +4,18 @@ use crate::check::Checker;
 use crate::classes::class;
 use crate::kiss;
 use crate::report::{self, Report};
+use crate::rng::Rng;
 use crate::show;
+use crate::streams;
 
 /// The frames of a capture, each with where it stands; the KISS packets, each with where it stands, its octets and how captures.py
-/// read it; and what was passed over.
+/// read it; all octets, where it is a KISS log; and what was passed over.
 struct Capture {
     file: String,
     format: String,
     frames: Vec<(String, Vec<u8>)>,
     packets: Vec<(String, Vec<u8>, kiss::Read)>,
+    log: Option<Vec<u8>>,
     passed_over: Vec<String>,
 }
 
@@ -22,7 +25,8 @@ struct Read {
     refused: Vec<(String, String)>,
 }
 
-/// Compares every frame and every KISS packet of every capture. Also how many captures could not be read; why is printed.
+/// Compares every frame and every KISS packet of every capture, and every KISS log as a stream. Also how many captures could not be read;
+/// why is printed.
 pub fn compare(list: &str) -> Result<(Report, usize), String> {
     let read = read(list)?;
     let mut checker = Checker::new();
@@ -51,6 +55,7 @@ fn read(list: &str) -> Result<Read, String> {
                 format: format.to_string(),
                 frames: Vec::new(),
                 packets: Vec::new(),
+                log: None,
                 passed_over: Vec::new(),
             }),
             (["refused", file, problem], _) => read.refused.push((file.to_string(), problem.to_string())),
@@ -58,6 +63,7 @@ fn read(list: &str) -> Result<Read, String> {
             (["packet", place, octets, number, port, data], Some(capture)) => {
                 capture.packets.push((place.to_string(), show::unhex(octets)?, packet_read(number, port, data)?))
             }
+            (["log", octets], Some(capture)) => capture.log = Some(show::unhex(octets)?),
             (["passed over", what], Some(capture)) => capture.passed_over.push(what.to_string()),
             _ => return Err(format!("line {} is none that captures.py prints", i + 1)),
         }
@@ -103,6 +109,13 @@ fn compare_one(checker: &mut Checker, report: &mut Report, capture: &Capture) {
             for (place, octets, said) in &capture.packets {
                 class.packet_at(place, octets, said);
             }
+        });
+    }
+    if let Some(log) = &capture.log {
+        class(checker, report, &format!("KISS stream of {} ({})", capture.file, capture.format), |class| {
+            let mut draw = Rng::new(log.len() as u64);
+            let cuts = [vec![1], streams::cut_to(10, &mut draw), streams::cut_to(400, &mut draw)];
+            class.stream_of(&capture.file, log, &cuts, &capture.packets);
         });
     }
 }

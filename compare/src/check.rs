@@ -4,15 +4,16 @@
 use crate::domain::{self, Listed};
 use crate::flat::{self, Flat, FlatAddress, ADDRESS, FLAT, KIND};
 use crate::inputs::{self, FIELD};
-use crate::kiss;
+use crate::kiss::{self, FEND, LONGEST};
 use crate::lent::{rooms, Room, Tried, LONGER};
 use crate::oracle::{self, Refusal};
-use crate::port::{Beside, Port, HOPS, PLACES};
+use crate::port::{Beside, Fed, Packet, Port, State, FRESH, HOPS, PLACES};
 use crate::records;
 use crate::relays::{self, Own};
 use crate::rng::Rng;
 use crate::seen::{Seen, Writer};
 use crate::show;
+use crate::streams;
 use ax25::frame::Ax25Frame;
 
 /// One thing that differs, with both answers in full.
@@ -34,6 +35,9 @@ pub struct Checker {
     /// Draws the rooms.
     draw: Rng,
 }
+
+/// The state is looked at after each piece of a stream of so many octets, and after the last piece of a longer one.
+const LOOKED: usize = 4096;
 
 /// The octets of a flat record's content.
 const CONTENT: usize = FLAT - KIND;
@@ -693,6 +697,91 @@ impl Checker {
             }
         }
         self.finish()
+    }
+
+    /// A KISS log and what captures.py read of its packets: those that are closed are given out or dropped, and one that is not may be
+    /// dropped.
+    pub fn captured_stream(&mut self, log: &[u8], cuts: &[Vec<usize>], said: &[(String, Vec<u8>, kiss::Read)]) -> Vec<Difference> {
+        let owed = kiss::stream(log);
+        let closed = said.iter().filter(|(_, packet, _)| packet.len() > 1 && packet.ends_with(&[FEND]));
+        let closed: Vec<&kiss::Read> = closed.map(|(_, _, read)| read).collect();
+        let read: Vec<_> = closed.iter().filter_map(|read| read.as_ref().ok()).filter(|(_, data)| data.len() <= LONGEST).collect();
+        let given: Vec<_> = owed.packets.iter().map(|(_, packet)| packet).collect();
+        let dropped = closed.len() - read.len() + usize::from(owed.phase == 4);
+        if read != given || dropped != owed.dropped.len() {
+            let other = read.iter().zip(&given).take_while(|(one, other)| one == other).count();
+            let says = |packets: &[&(u8, Vec<u8>)], dropped: usize| {
+                let packet = packets.get(other).map_or("none".to_string(), |&packet| show::packet(&Ok(packet.clone())));
+                format!("{} packets given out, {} dropped; packet {}: {}", packets.len(), dropped, other + 1, packet)
+            };
+            let owes = || says(&given, owed.dropped.len());
+            self.differ("the packets of captures.py, in the port's place", owes, |_| says(&read, dropped));
+        }
+        self.stream(&FRESH, log, cuts)
+    }
+
+    /// A stream, read from this state on in one piece, and in pieces of these lengths in turn: each call, the states between, and at the end
+    /// the same state, octet by octet.
+    pub fn stream(&mut self, start: &State, octets: &[u8], cuts: &[Vec<usize>]) -> Vec<Difference> {
+        let owed = kiss::stream(octets);
+        self.seen.stream(start, octets, &owed);
+        let whole = self.fed(start, octets, &[octets.len()], &owed);
+        for cut in cuts {
+            let left = self.fed(start, octets, cut, &owed);
+            if let (Some(whole), Some(left)) = (&whole, &left) {
+                if whole != left {
+                    let says = |state: &State| format!("{} and in all {}", show::state(state), show::hex(&state.data));
+                    self.differ(&format!("the state, in pieces of {:?} beside in one", cut), || says(whole), |_| says(left));
+                }
+            }
+        }
+        self.finish()
+    }
+
+    /// The state that is left; none where something differs, since nothing is owed from there on.
+    fn fed(&mut self, start: &State, octets: &[u8], cut: &[usize], owed: &kiss::Stream) -> Option<State> {
+        let (mut state, mut given) = (*start, owed.packets.iter().peekable());
+        for piece in streams::pieces(octets.len(), cut) {
+            let (before, mut calls, mut at) = (state, Vec::new(), piece.start);
+            while let Some((end, (port, data))) = given.next_if(|(end, _)| *end <= piece.end) {
+                calls.push(Fed { taken: end - at, packet: Packet { ready: 1, port: (*port).into(), length: data.len() }, data: data.clone() });
+                at = *end;
+            }
+            if at < piece.end || piece.is_empty() {
+                calls.push(Fed { taken: piece.end - at, packet: Packet { ready: 0, port: 0, length: 0 }, data: Vec::new() });
+            }
+            let fed = self.port.kiss_feed(&mut state, &octets[piece.clone()]);
+            let place = || format!("octets {} to {} of a KISS stream in pieces of {:?}", piece.start, piece.end, cut);
+            if fed != calls {
+                let other = fed.iter().zip(&calls).take_while(|(fed, call)| fed == call).count();
+                self.differ(&format!("call {} for {}", other + 1, place()), || show::call(calls.get(other)), |_| show::call(fed.get(other)));
+                return None;
+            }
+            if piece.is_empty() && state != before {
+                self.differ(&format!("the state before and after {}", place()), || show::state(&before), |_| show::state(&state));
+                return None;
+            }
+            self.seen.piece(&state, piece.end < octets.len());
+            let looked = octets.len() <= LOOKED || piece.end == octets.len();
+            if looked && !self.left_by(&octets[..piece.end], start, &state, place) {
+                return None;
+            }
+        }
+        Some(state)
+    }
+
+    /// Whether this is the state that these octets leave. The octets behind the data are not said.
+    fn left_by(&mut self, octets: &[u8], start: &State, state: &State, place: impl Fn() -> String) -> bool {
+        let owed = kiss::stream(octets);
+        let count = owed.count(start.dropped);
+        let same = (state.phase, state.port, state.dropped) == (owed.phase, owed.port, count)
+            && usize::from(state.length) == owed.data.len()
+            && state.held() == owed.data;
+        if !same {
+            let owes = || show::state_of(owed.phase, owed.port, &owed.data, count);
+            self.differ(&format!("the state after {}", place()), owes, |_| show::state(state));
+        }
+        same
     }
 
     /// The refusals that are `probe`'s own: a lent buffer shorter than what is to be left there.

@@ -2,12 +2,12 @@
 
 use crate::check::{self, padded, Checker, Difference};
 use crate::flat::FlatAddress;
-use crate::port::Beside;
+use crate::port::{Beside, State, FRESH};
 use crate::relays::{self, Own};
 use crate::report::{self, Line, Report};
 use crate::rng::Rng;
 use crate::show;
-use crate::{inputs, kiss, packets, records, texts};
+use crate::{inputs, kiss, packets, records, streams, texts};
 use ax25::frame::Ax25Frame;
 
 /// A class under way.
@@ -174,6 +174,31 @@ impl Class<'_> {
         self.done_beside(found, beside, || format!("KISS packet {}", show::hex(packet)));
     }
 
+    fn stream(&mut self, octets: &[u8], cut: Vec<usize>) {
+        let cuts = [cut];
+        let found = self.checker.stream(&FRESH, octets, &cuts);
+        self.done(found, || {
+            let lengths = cuts[0].iter().map(usize::to_string).collect::<Vec<_>>().join(",");
+            let input = format!("KISS stream in pieces of {}: {}", lengths, show::hex(octets));
+            (input, report::again(&format!("compare kiss-stream {}", lengths), octets))
+        });
+    }
+
+    /// A KISS log, which may be long, and how captures.py read its packets.
+    pub fn stream_of(&mut self, file: &str, log: &[u8], cuts: &[Vec<usize>], said: &[(String, Vec<u8>, kiss::Read)]) {
+        let found = self.checker.captured_stream(log, cuts, said);
+        self.done(found, || (format!("all its {} octets", log.len()), format!("compare captures '{}'", file)));
+    }
+
+    fn stream_from(&mut self, start: &State, octets: &[u8], cut: Vec<usize>) {
+        let cuts = [cut];
+        let found = self.checker.stream(start, octets, &cuts);
+        self.done(found, || {
+            let input = format!("{} and then {} in pieces of {:?}", show::state(start), show::hex(octets), cuts[0]);
+            (input, "compare test --only 'states that no call made'".to_string())
+        });
+    }
+
     fn other(&mut self, name: &str, found: Vec<Difference>) {
         self.done(found, || (name.to_string(), "compare test".to_string()));
     }
@@ -204,8 +229,9 @@ pub fn test(scale: usize, seed: u64, only: Option<String>) -> Report {
     address_texts(&mut checker, &mut report, scale, &mut seeds);
     frames_passed_on(&mut checker, &mut report, scale, &mut seeds);
     kiss_packets(&mut checker, &mut report, scale, &mut seeds);
+    kiss_streams(&mut checker, &mut report, scale, &mut seeds);
     let missing = checker.seen.missing();
-    class(&mut checker, &mut report, "met: every number, kind, mark, PID, route length, room, search, due place, KISS port and listed difference", |c| c.missing(missing));
+    class(&mut checker, &mut report, "met: every number, kind, mark, PID, route length, room, search, due place, KISS port, cut and listed difference", |c| c.missing(missing));
     report::totals(&mut report, &checker.seen);
     report.extra("seed", seed.to_string());
     report.extra("scale", scale.to_string());
@@ -412,5 +438,29 @@ fn kiss_packets(checker: &mut Checker, report: &mut Report, scale: usize, seeds:
         let mut each = |packet: &[u8]| class.packet_beside(packet, &Beside { gap: gaps.within(0, 40), output_first: gaps.chance(2) });
         packets::seeded(e, 10_000 * scale, &mut each);
         packets::damaged(e, 10_000 * scale, &mut each);
+    });
+}
+
+fn kiss_streams(checker: &mut Checker, report: &mut Report, scale: usize, seeds: &mut Rng) {
+    let [a, b, c, d, cuts] = [0; 5].map(|_: u64| seeds.next());
+    let mut draw = Rng::new(cuts);
+    class(checker, report, "KISS streams: every string of ten octets to length 3, and to 6 behind C0, in pieces", |class| {
+        packets::short(&mut |octets| class.stream(octets, streams::cut(&mut draw)));
+    });
+    class(checker, report, "KISS streams: packets of every sort, noise and damage, in pieces", |class| {
+        streams::seeded(a, 4_000 * scale, &mut |octets| class.stream(octets, streams::cut(&mut draw)));
+        streams::seeded(b, 200 * scale, &mut |octets| class.stream(octets, vec![1]));
+    });
+    class(checker, report, "KISS streams: data around 1,024 octets, and more to drop than is counted", |class| {
+        streams::long(c, |octets, cut| class.stream(octets, cut));
+        class.stream(&streams::many_dropped(), vec![1000, 1, 30]);
+    });
+    class(checker, report, "KISS streams: from states that no call made", |class| {
+        let mut starts = Rng::new(d);
+        streams::seeded(d, 1_000 * scale, &mut |octets| {
+            // What an empty piece does to such a state is not said.
+            let cut = streams::cut(&mut draw).into_iter().map(|length| length.max(1)).collect();
+            class.stream_from(&streams::unmade(&mut starts), octets, cut);
+        });
     });
 }

@@ -2,12 +2,13 @@
 //! fault that COMPARE_FAULT names. The linker puts these in the calls' places (`--wrap`) and leaves the port's own under `__real_`.
 
 use crate::flat::{ABSENT, COUNT, KIND, MARK, RECEIVE, RNR, RR, UNKNOWN_CONTENT};
-use crate::kiss::{FEND, FESC, TFEND, TFESC};
+use crate::kiss::{FEND, FESC, LONGEST, PORTS, TFEND, TFESC};
+use crate::port::{Packet, State};
 use std::slice::{from_raw_parts, from_raw_parts_mut};
 use std::sync::atomic::{AtomicUsize, Ordering};
 
 /// What each fault does, from 1 on, and words in the name of a class that has to find it.
-const FAULTS: [(&str, &str); 61] = [
+const FAULTS: [(&str, &str); 84] = [
     ("re-encoding writes the address field, then answers 24", "every prefix"),
     ("re-encoding writes the address field, then refuses the content", "every prefix"),
     ("re-encoding into no room at all answers 0", "every prefix"),
@@ -69,6 +70,29 @@ const FAULTS: [(&str, &str); 61] = [
     ("a refused KISS packet is written with a length", "KISS: written"),
     ("the KISS writer touches room that is short", "KISS: written"),
     ("the KISS writer goes on after its end", "KISS: written"),
+    ("the state of a KISS stream is reset at a piece's end", "KISS streams: packets of every sort"),
+    ("a KISS stream forgets an escape across two pieces", "KISS streams: packets of every sort"),
+    ("a KISS stream counts every octet while it drops", "KISS streams: packets of every sort"),
+    ("a KISS stream takes a shared C0 for the closing one alone", "KISS streams: packets of every sort"),
+    ("a KISS stream has room for 1,023 octets", "KISS streams: data around 1,024"),
+    ("a KISS stream counts an escaped 1,025th octet at its DB", "KISS streams: data around 1,024"),
+    ("the count of a KISS stream goes on at 0", "KISS streams: data around 1,024"),
+    ("a KISS stream gives out nothing between two C0", "KISS streams: every string"),
+    ("a KISS stream drops a packet without data", "KISS streams: every string"),
+    ("a KISS stream counts octets before the first C0", "KISS streams: every string"),
+    ("a KISS stream counts DB before C0 while it drops", "KISS streams: every string"),
+    ("a KISS stream starts no packet at a C0 that shows a bad escape", "KISS streams: every string"),
+    ("a KISS stream that drops keeps the port", "KISS streams: packets of every sort"),
+    ("a KISS stream takes the octet after the closing C0", "KISS streams: packets of every sort"),
+    ("a KISS stream takes the whole piece", "KISS streams: packets of every sort"),
+    ("an empty piece ends the packet that a KISS stream gave out", "KISS streams: packets of every sort"),
+    ("a KISS stream without a packet leaves its port as it was", "KISS streams: every string"),
+    ("a KISS stream without a packet leaves its length as it was", "KISS streams: every string"),
+    ("the room of a KISS stream shows how it was cut", "KISS streams: packets of every sort"),
+    ("a KISS stream writes behind its state", "KISS streams: every string"),
+    ("a KISS stream writes into the piece", "KISS streams: every string"),
+    ("a KISS state that no call made is read as it is", "KISS streams: from states"),
+    ("a KISS state that no call made loses its count", "KISS streams: from states"),
 ];
 
 /// A line for each fault: its number, the words, and what it does.
@@ -95,6 +119,7 @@ extern "C" {
     fn __real_ax25_relay(callsign: *const u8, callsign_len: usize, ssid: u8, frame: *mut u8, frame_len: usize) -> u32;
     fn __real_ax25_kiss_read(input: *const u8, input_len: usize, out: *mut u8, out_len: usize, port: *mut u8, length: *mut usize) -> u32;
     fn __real_ax25_kiss_write(port: u8, input: *const u8, input_len: usize, out: *mut u8, out_len: usize, length: *mut usize) -> u32;
+    fn __real_ax25_kiss_feed(stream: *mut State, piece: *const u8, piece_len: usize, packet: *mut Packet) -> usize;
     fn __real_probe_decode(input: *const u8, input_len: usize, record: *mut u8, record_len: usize, places: *mut usize, places_len: usize) -> u32;
     fn __real_probe_encode(record: *const u8, record_len: usize, info: *const u8, info_len: usize, out: *mut u8, out_len: usize, length: *mut usize, length_len: usize) -> u32;
     fn __real_probe_from_parts(callsign: *const u8, callsign_len: usize, ssid: u8, address: *mut u8, address_len: usize) -> u32;
@@ -302,6 +327,106 @@ unsafe extern "C" fn __wrap_ax25_kiss_write(port: u8, input: *const u8, input_le
         return 24;
     }
     number
+}
+
+/// A state as a faulty reader might take it.
+fn misremembered(state: &mut State, piece: &[u8]) {
+    let unmade = usize::from(state.length) > LONGEST || state.port >= PORTS || state.phase > 5;
+    if is("a KISS stream forgets an escape across two pieces") {
+        state.phase = [0, 1, 2, 2, 4, 1].get(usize::from(state.phase)).copied().unwrap_or(state.phase);
+    }
+    if is("an empty piece ends the packet that a KISS stream gave out") && piece.is_empty() {
+        state.length = 0;
+    }
+    if is("a KISS state that no call made is read as it is") && unmade {
+        state.length = state.length.min(LONGEST as u16);
+        state.port = state.port.min(PORTS - 1);
+        state.phase = state.phase.min(4);
+    }
+    if is("a KISS state that no call made loses its count") && unmade {
+        state.dropped = 0;
+    }
+}
+
+fn drop_packet(state: &mut State) {
+    *state = State { length: 0, port: 0, phase: 4, dropped: state.dropped.saturating_add(1), ..*state };
+}
+
+/// What a faulty reader might leave in the state, where a packet is not complete.
+fn misfed(state: &mut State, before: &State, piece: &[u8]) {
+    if is("the state of a KISS stream is reset at a piece's end") && !piece.is_empty() {
+        *state = State { length: 0, port: 0, phase: 0, ..*state };
+    }
+    if is("a KISS stream counts every octet while it drops") && before.phase == 4 {
+        let dropped = piece.iter().take_while(|&&octet| octet != FEND).count();
+        state.dropped = state.dropped.saturating_add(dropped as u16);
+    }
+    let full = usize::from(state.length) == LONGEST;
+    if is("a KISS stream has room for 1,023 octets") && full || is("a KISS stream counts an escaped 1,025th octet at its DB") && full && state.phase == 3 {
+        drop_packet(state);
+    }
+    if is("a KISS stream counts octets before the first C0") && before.phase == 0 && piece.first().map_or(false, |&octet| octet != FEND) {
+        state.dropped = state.dropped.saturating_add(1);
+    }
+    let first = piece.iter().position(|&octet| octet == FEND).unwrap_or(0);
+    if is("a KISS stream counts DB before C0 while it drops") && before.phase == 4 && first > 0 && piece[first - 1] == FESC {
+        state.dropped = state.dropped.saturating_add(1);
+    }
+    if is("a KISS stream starts no packet at a C0 that shows a bad escape") && state.dropped > before.dropped && piece.ends_with(&[FESC, FEND]) {
+        state.phase = 4;
+    }
+    if is("a KISS stream that drops keeps the port") && state.phase == 4 {
+        state.port = before.port;
+    }
+    if is("the count of a KISS stream goes on at 0") && state.dropped == u16::MAX {
+        state.dropped = 0;
+    }
+}
+
+#[no_mangle]
+unsafe extern "C" fn __wrap_ax25_kiss_feed(stream: *mut State, piece: *const u8, piece_len: usize, packet: *mut Packet) -> usize {
+    let (octets, state, given, unwritten) = (from_raw_parts(piece, piece_len), &mut *stream, &mut *packet, *packet);
+    misremembered(state, octets);
+    let before = *state;
+    let taken = __real_ax25_kiss_feed(state, piece, piece_len, given);
+    let none = Packet { ready: 0, port: 0, length: 0 };
+    if is("the room of a KISS stream shows how it was cut") && usize::from(state.length) < LONGEST {
+        state.data[LONGEST - 1] = piece_len as u8;
+    }
+    if is("a KISS stream writes behind its state") {
+        *(stream as *mut u8).add(std::mem::size_of::<State>()) ^= 0x55;
+    }
+    if is("a KISS stream writes into the piece") && piece_len > 0 {
+        *(piece as *mut u8) ^= 0x55;
+    }
+    if given.ready == 0 {
+        misfed(state, &before, octets);
+        if is("a KISS stream gives out nothing between two C0") && before.phase == 1 && octets == [FEND] {
+            given.ready = 1;
+        }
+        if is("a KISS stream without a packet leaves its port as it was") {
+            given.port = unwritten.port;
+        }
+        if is("a KISS stream without a packet leaves its length as it was") {
+            given.length = unwritten.length;
+        }
+        return taken;
+    }
+    if is("a KISS stream takes a shared C0 for the closing one alone") {
+        state.phase = 0;
+    }
+    if is("a KISS stream has room for 1,023 octets") && given.length == LONGEST || is("a KISS stream drops a packet without data") && given.length == 0 {
+        *given = none;
+        drop_packet(state);
+        state.phase = 1;
+    }
+    if is("a KISS stream takes the octet after the closing C0") && taken < piece_len {
+        return taken + 1;
+    }
+    if is("a KISS stream takes the whole piece") {
+        return piece_len;
+    }
+    taken
 }
 
 #[no_mangle]

@@ -1,4 +1,5 @@
-//! One KISS packet, read and written: the laboratory's own reader and writer, from document 02's words (M-103). The Rust has none.
+//! One KISS packet, read and written, and a stream of them: the laboratory's own readers and writer, from document 02's words (M-103,
+//! M-104). The Rust has none.
 
 pub const FEND: u8 = 0xC0;
 pub const FESC: u8 = 0xDB;
@@ -50,6 +51,83 @@ fn port_of(kind: u8) -> Result<u8, u32> {
         (_, 1..) => Err(54),
         (PORTS.., _) => Err(56),
         (port, _) => Ok(port),
+    }
+}
+
+/// How many octets of data a packet of a stream may have.
+pub const LONGEST: usize = 1024;
+
+/// What has come of a stream.
+#[derive(Default)]
+pub struct Stream {
+    /// The packets that were given out, each with how many octets of the stream there were when it was complete.
+    pub packets: Vec<(usize, (u8, Vec<u8>))>,
+    /// Those that were dropped, each by the number that `read` refuses it by, and 24 where it is too long.
+    pub dropped: Vec<u32>,
+    /// The state that is left: what was read last, the port and the data.
+    pub phase: u8,
+    pub port: u8,
+    pub data: Vec<u8>,
+}
+
+/// Reads a stream. A packet stands between a C0 and the next one, whatever came before it, and is given out where `read` accepts it and
+/// it is not too long; nothing between two C0 is no packet, and every other one is dropped.
+pub fn stream(octets: &[u8]) -> Stream {
+    let mut stream = Stream::default();
+    let delimiters: Vec<usize> = (0..octets.len()).filter(|&at| octets[at] == FEND).collect();
+    for pair in delimiters.windows(2) {
+        if stream.took(read_fitting(&octets[pair[0]..=pair[1]])) {
+            stream.packets.push((pair[1] + 1, (stream.port, stream.data.clone())));
+        }
+    }
+    if let Some(&last) = delimiters.last() {
+        stream.open(&octets[last..]);
+    }
+    stream
+}
+
+/// `read`, and 24 for a packet that is too long.
+fn read_fitting(packet: &[u8]) -> Read {
+    read(packet).and_then(|(port, data)| if data.len() > LONGEST { Err(24) } else { Ok((port, data)) })
+}
+
+impl Stream {
+    /// Whether a packet was read. One that is dropped leaves no port and no data; where there was none, those of the one before it stay.
+    fn took(&mut self, read: Read) -> bool {
+        match read {
+            Ok((port, data)) => {
+                self.port = port;
+                self.data = data;
+                return true;
+            }
+            Err(55) => {}
+            Err(number) => {
+                self.dropped.push(number);
+                self.port = 0;
+                self.data.clear();
+            }
+        }
+        false
+    }
+
+    /// The count that is owed where it was `before`.
+    pub fn count(&self, before: u16) -> u16 {
+        (self.dropped.len() + usize::from(before)).min(u16::MAX.into()) as u16
+    }
+
+    /// The packet that no C0 has closed. A DB at its end waits for its second octet; what stands before that, closed here, is read, or
+    /// is nothing as yet, or has shown by now that the packet is to be dropped.
+    fn open(&mut self, packet: &[u8]) {
+        let (shown, waits) = packet.strip_suffix(&[FESC]).map_or((packet, false), |shown| (shown, true));
+        let read = read_fitting(&[shown, &[FEND]].concat());
+        self.phase = match (&read, waits) {
+            (Ok(_), false) => 2,
+            (Ok(_), true) => 3,
+            (Err(55), false) => 1,
+            (Err(55), true) => 5,
+            (Err(_), _) => 4,
+        };
+        self.took(read);
     }
 }
 

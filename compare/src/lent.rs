@@ -140,3 +140,31 @@ impl<T: Copy + PartialEq> Lent<T> {
         items.len() <= self.len && self.items()[..items.len()] == *items && self.written_only(items.len())
     }
 }
+
+/// The octets on each side of a struct that is lent.
+const SIDE: [u8; 16] = *b"these stay as is";
+
+/// One struct to lend, between guards.
+#[repr(C)]
+pub struct Between<T> {
+    before: [u8; 16],
+    pub item: T,
+    after: [u8; 16],
+}
+
+impl<T> Between<T> {
+    pub fn new(item: T) -> Between<T> {
+        Between { before: SIDE, item, after: SIDE }
+    }
+
+    /// The item's place, by way of the whole, so that a compiler may not take the guards for untouched.
+    pub fn mut_ptr(&mut self) -> *mut T {
+        let whole: *mut Between<T> = self;
+        unsafe { std::ptr::addr_of_mut!((*whole).item) }
+    }
+
+    /// Whether the item alone may have been written.
+    pub fn holds(&self) -> bool {
+        self.before == SIDE && self.after == SIDE
+    }
+}

@@ -24,6 +24,7 @@ mod rng;
 mod seen;
 mod show;
 mod single;
+mod streams;
 mod texts;
 
 use relays::Own;
@@ -41,8 +42,9 @@ extern "C" fn pthread_getattr_np(_thread: usize, _attributes: *mut u8) -> i32 {
 const USAGE: &str = "\
 compare test [SCALE]               every class of inputs; the seeded ones SCALE times as large (1)
 compare captures [--raw FILE | FILE]..
-                                   every frame and every KISS packet of captures: pcap and pcapng (link types 3
-                                   and 202), KISS logs, hex lines; --raw, or a file named .raw, .bin or .ax25: one raw frame
+                                   every frame and every KISS packet of captures, and every KISS log as a stream:
+                                   pcap and pcapng (link types 3 and 202), KISS logs, hex lines; --raw, or a file named
+                                   .raw, .bin or .ax25: one raw frame
 compare frames                     what captures.py, which reads the captures, prints, on standard input
 compare one HEX                    one input: both answers in full ('-': hex on standard input)
 compare text TEXT..                texts to addresses (text-hex HEX..: the text's octets)
@@ -57,6 +59,7 @@ compare same-station HEX HEX       two addresses of seven flat octets
 compare relay HEX SSID HEX         our own callsign and SSID, and a frame to pass on ('-': hex on standard input)
 compare kiss HEX                   a KISS packet, read ('-': hex on standard input)
 compare kiss-write PORT HEX        a port and data, written as a KISS packet ('-': hex on standard input)
+compare kiss-stream LENGTHS HEX    a stream of KISS packets, cut by these lengths, as 3,1,5, in turn ('-': hex on standard input)
 compare bench                      times of both, and their ratios
 compare replay-list [N]            about N (5000) lines of the Rust's answers, for the program replay
   --json FILE    leave counts, mismatches and ratios there (test, captures, frames, bench)
@@ -105,6 +108,14 @@ fn octet(what: &str, text: &str) -> u8 {
 
 fn ssid_of(text: &str) -> u8 {
     octet("an SSID", text)
+}
+
+fn lengths_of(text: &str) -> Vec<usize> {
+    let lengths: Vec<usize> = text.split(',').map(|length| number(length) as usize).collect();
+    if lengths.iter().all(|&length| length == 0) {
+        refuse("at least one of the lengths is over 0");
+    }
+    lengths
 }
 
 fn octets(hex: &str) -> Vec<u8> {
@@ -163,6 +174,7 @@ fn main() {
         }
         ["kiss", packet] => status(single::packet(&hex_argument(packet))),
         ["kiss-write", port, data] => status(single::written_packet(octet("a port", port), &hex_argument(data))),
+        ["kiss-stream", lengths, octets] => status(single::stream(&hex_argument(octets), &lengths_of(lengths))),
         #[cfg(feature = "faults")]
         ["faults"] => faults::list(),
         ["bench"] => leave(&bench::run(), &options.json),

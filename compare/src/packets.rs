@@ -5,7 +5,7 @@ use crate::kiss::{self, FEND, FESC, PORTS, TFEND, TFESC};
 use crate::rng::Rng;
 
 /// The octets that mean something to a reader, and types: ports 0, 1, 11 and 12, a command that is none; and data.
-const OCTETS: [u8; 10] = [FEND, FESC, TFEND, TFESC, 0x00, 0x01, 0x10, 0xB0, 0xC1, 0x41];
+pub const OCTETS: [u8; 10] = [FEND, FESC, TFEND, TFESC, 0x00, 0x01, 0x10, 0xB0, 0xC1, 0x41];
 
 /// Every string of these octets to length 3, and to length 6 those that start with C0.
 pub fn short(each: Each) {
@@ -50,7 +50,7 @@ pub fn data(draw: &mut Rng) -> Vec<u8> {
 }
 
 /// Any port, over 11 too; one packet of four has another command than data.
-fn kind(draw: &mut Rng) -> u8 {
+pub fn kind(draw: &mut Rng) -> u8 {
     (draw.below(16) << 4) as u8 | if draw.chance(4) { draw.below(16) as u8 } else { 0 }
 }
 
@@ -65,12 +65,16 @@ pub fn seeded(seed: u64, count: usize, each: Each) {
 pub fn damaged(seed: u64, count: usize, each: Each) {
     let mut draw = Rng::new(seed);
     for _ in 0..count {
-        let mut packet = kiss::packet((draw.below(PORTS.into()) << 4) as u8, &data(&mut draw));
-        for _ in 0..draw.within(1, 3) {
-            damage(&mut packet, &mut draw);
-        }
-        each(&packet);
+        each(&damaged_one(&mut draw));
     }
+}
+
+pub fn damaged_one(draw: &mut Rng) -> Vec<u8> {
+    let mut packet = kiss::packet((draw.below(PORTS.into()) << 4) as u8, &data(draw));
+    for _ in 0..draw.within(1, 3) {
+        damage(&mut packet, draw);
+    }
+    packet
 }
 
 fn damage(packet: &mut Vec<u8>, draw: &mut Rng) {

@@ -1,6 +1,7 @@
 //! The port's calls, by the two archives: `loader` is the product, `probe` shows what the product's calls leave inside.
 
-use crate::lent::{self, Lent};
+use crate::kiss;
+use crate::lent::{self, Between, Lent};
 
 #[link(name = "loader", kind = "static")]
 extern "C" {
@@ -25,6 +26,7 @@ extern "C" {
         output_len: usize,
         length: *mut usize,
     ) -> u32;
+    fn ax25_kiss_feed(stream: *mut State, piece: *const u8, piece_len: usize, packet: *mut Packet) -> usize;
 }
 
 #[link(name = "probe", kind = "static")]
@@ -82,10 +84,51 @@ extern "C" {
     ) -> u32;
 }
 
+/// C's `struct ax25_kiss_stream`.
+#[repr(C)]
+#[derive(Clone, Copy, PartialEq)]
+pub struct State {
+    pub data: [u8; kiss::LONGEST],
+    pub length: u16,
+    pub port: u8,
+    pub phase: u8,
+    pub dropped: u16,
+}
+
+/// Zeros.
+pub const FRESH: State = State { data: [0; kiss::LONGEST], length: 0, port: 0, phase: 0, dropped: 0 };
+
+impl State {
+    /// The data that there is, or all octets where the length is beyond them.
+    pub fn held(&self) -> &[u8] {
+        self.data.get(..self.length.into()).unwrap_or(&self.data)
+    }
+}
+
+/// C's `struct ax25_kiss_packet`.
+#[repr(C)]
+#[derive(Clone, Copy, PartialEq, Debug)]
+pub struct Packet {
+    pub ready: u32,
+    pub port: u32,
+    pub length: usize,
+}
+
+/// What one call of `ax25_kiss_feed` gave: how many octets it took, the packet, and its data where it is ready.
+#[derive(PartialEq)]
+pub struct Fed {
+    pub taken: usize,
+    pub packet: Packet,
+    pub data: Vec<u8>,
+}
+
 /// The number of places that `probe_decode` gives: start, end, length, and info's start and length.
 pub const PLACES: usize = 5;
 /// The number of numbers that `probe_hops` gives: hop set, hops used, due place.
 pub const HOPS: usize = 3;
+
+/// What a packet holds before a call: nothing that a call may give.
+const UNWRITTEN: Packet = Packet { ready: 0xA5A5_A5A5, port: 0x5A5A_5A5A, length: 0xC3C3_C3C3_C3C3_C3C3 };
 
 pub struct Port {
     input: Lent<u8>,
@@ -220,6 +263,28 @@ impl Port {
         };
         self.see_input(data);
         (number, self.one_size())
+    }
+
+    /// Feeds a piece until all of it is taken; a call that takes nothing of it, or more than there is, is the last one.
+    pub fn kiss_feed(&mut self, state: &mut State, piece: &[u8]) -> Vec<Fed> {
+        self.input.hold(piece);
+        let (mut calls, mut at) = (Vec::new(), 0);
+        loop {
+            let (mut lent, mut packet) = (Between::new(*state), Between::new(UNWRITTEN));
+            let from = self.input.ptr().wrapping_add(at);
+            let taken = unsafe { ax25_kiss_feed(lent.mut_ptr(), from, piece.len() - at, packet.mut_ptr()) };
+            self.see(lent.holds() && packet.holds(), "something beside the state or the packet was written");
+            *state = lent.item;
+            let packet = packet.item;
+            let data = if packet.ready == 0 { &[] } else { state.data.get(..packet.length).unwrap_or(&state.data) };
+            calls.push(Fed { taken, packet, data: data.to_vec() });
+            at = at.saturating_add(taken);
+            if taken == 0 || at >= piece.len() {
+                break;
+            }
+        }
+        self.see_input(piece);
+        calls
     }
 
     /// Leaves the record in the output and the places in the sizes.

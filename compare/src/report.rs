@@ -115,6 +115,8 @@ pub fn totals(report: &mut Report, seen: &Seen) {
     let packets = seen.packet_counts();
     let said: Vec<String> = packets.iter().map(|(number, count)| format!("{}: {}", number, count)).collect();
     println!("KISS packets compared: {}; by number: {}", packets.iter().map(|(_, count)| count).sum::<u64>(), said.join(", "));
+    let streams = &seen.streams;
+    println!("KISS streams compared: {}, of {} octets: {} packets given out, {} dropped", streams.streams, streams.octets, streams.given, streams.dropped);
     let numbers = seen.number_counts();
     let said: Vec<String> = numbers.iter().map(|(number, count)| format!("{}: {}", number, count)).collect();
     println!("decode numbers: {}", said.join(", "));
@@ -135,6 +137,8 @@ pub fn totals(report: &mut Report, seen: &Seen) {
     report.extra("accepted", (seen.canonical[0] + seen.canonical[1]).to_string());
     report.extra("decode_numbers", counts(numbers.iter().map(|(number, count)| (number.to_string(), *count))));
     report.extra("packet_numbers", counts(packets.iter().map(|(number, count)| (number.to_string(), *count))));
+    let of_streams = [("streams", streams.streams), ("octets", streams.octets), ("packets", streams.given), ("dropped", streams.dropped)];
+    report.extra("kiss_streams", counts(of_streams.into_iter().map(|(name, count)| (name.to_string(), count))));
     report.extra("kinds", counts(kinds.iter().map(|(kind, count)| (kind.to_string(), *count))));
     report.extra("rooms", counts(rooms.iter().map(|(room, count)| (room.to_string(), *count))));
     report.extra("listed", counts(seen.listed_counts().into_iter().map(|(number, _, count)| (number, count))));

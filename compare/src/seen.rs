@@ -2,8 +2,9 @@
 
 use crate::domain::{self, Listed, LISTED};
 use crate::flat::*;
-use crate::kiss::{self, FEND, FESC, PORTS, TFEND, TFESC};
+use crate::kiss::{self, FEND, FESC, LONGEST, PORTS, TFEND, TFESC};
 use crate::lent::{Room, ROOMS};
+use crate::port::State;
 use crate::relays::Own;
 use ax25::frame::Ax25Frame;
 
@@ -160,6 +161,67 @@ fn bad_escape(packet: &[u8]) -> usize {
     bad.map_or(2, |pair| usize::from(pair[1] != FEND))
 }
 
+/// What of KISS streams was met.
+#[derive(Default)]
+pub struct Streams {
+    pub streams: u64,
+    pub octets: u64,
+    pub given: u64,
+    pub dropped: u64,
+    /// Dropped by 52, 54, 56, and as too long.
+    causes: [u64; 4],
+    /// By port, and without data, with some, with as much as there is room for.
+    ports: [u64; PORTS as usize],
+    lengths: [u64; 3],
+    /// By phase, states at a piece's end with more to come.
+    phases: [u64; 6],
+    /// No octet before the first C0, some, and a DB among them.
+    before: [u64; 3],
+    /// A C0 that two packets share, two C0 in a row, and a C0 behind a DB.
+    delimiters: [u64; 3],
+    /// A count that stops at 65,535, reached.
+    stopped: [u64; 1],
+    /// Started from a fresh state, a length over 1,024, a port over 11, an unknown phase.
+    starts: [u64; 4],
+}
+
+impl Streams {
+    fn stream(&mut self, start: &State, octets: &[u8], owed: &kiss::Stream) {
+        self.streams += 1;
+        self.octets += octets.len() as u64;
+        self.given += owed.packets.len() as u64;
+        self.dropped += owed.dropped.len() as u64;
+        for (cell, number) in self.causes.iter_mut().zip([52, 54, 56, 24]) {
+            *cell += owed.dropped.iter().filter(|&&dropped| dropped == number).count() as u64;
+        }
+        for (_, (port, data)) in &owed.packets {
+            count(&mut self.ports, (*port).into());
+            self.lengths[if data.is_empty() { 0 } else { 1 + usize::from(data.len() == LONGEST) }] += 1;
+        }
+        let before = octets.split(|&octet| octet == FEND).next().unwrap_or(&[]);
+        self.before[if before.is_empty() { 0 } else { 1 + usize::from(before.contains(&FESC)) }] += 1;
+        let shared = octets.windows(3).any(|three| three[0] != FEND && three[1] == FEND && three[2] != FEND);
+        let two = |pair: [u8; 2]| octets.windows(2).any(|two| two == pair);
+        let cells = [shared, two([FEND, FEND]), two([FESC, FEND])];
+        self.delimiters.iter_mut().zip(cells).for_each(|(cell, met)| *cell += u64::from(met));
+        self.stopped[0] += u64::from(owed.dropped.len() + usize::from(start.dropped) > u16::MAX.into());
+        let wrong = [usize::from(start.length) > LONGEST, start.port >= PORTS, start.phase > 5];
+        let cells = [!wrong.contains(&true), wrong[0], wrong[1], wrong[2]];
+        self.starts.iter_mut().zip(cells).for_each(|(cell, met)| *cell += u64::from(met));
+    }
+
+    fn missing(&self, missing: &mut Missing) {
+        missing.cases("KISS stream drops by 52, 54, 56 and a packet that is too long: case", &self.causes);
+        missing.cases("KISS stream gives out on port", &self.ports);
+        missing.cases("KISS stream gives out no data, some, as much as there is room for: case", &self.lengths);
+        missing.cases("KISS stream cut in phase", &self.phases);
+        missing.cases("KISS stream with nothing before the first C0, octets, a DB among them: case", &self.before);
+        missing.cases("KISS stream with a shared C0, two in a row, one behind a DB: case", &self.delimiters);
+        missing.cases("KISS stream whose count stops: case", &self.stopped);
+        missing.cases("KISS stream from a fresh state, a length over 1,024, a port over 11, an unknown phase: case", &self.starts);
+    }
+}
+
 pub struct Seen {
     pub decodes: u64,
     pub writes: u64,
@@ -210,6 +272,7 @@ pub struct Seen {
     packet_numbers: [u64; TABLE],
     packet_write_numbers: [u64; TABLE],
     packets: Packets,
+    pub streams: Streams,
 }
 
 fn count(table: &mut [u64], at: usize) {
@@ -290,6 +353,7 @@ impl Seen {
             packet_numbers: [0; TABLE],
             packet_write_numbers: [0; TABLE],
             packets: Packets::default(),
+            streams: Streams::default(),
         }
     }
 
@@ -438,6 +502,18 @@ impl Seen {
         count(&mut self.packet_write_numbers, owed.as_ref().err().copied().unwrap_or(0) as usize);
     }
 
+    /// A KISS stream, from this state on, and what is to come of it.
+    pub fn stream(&mut self, start: &State, octets: &[u8], owed: &kiss::Stream) {
+        self.streams.stream(start, octets, owed);
+    }
+
+    /// A piece of a stream is used up, and there is more or not.
+    pub fn piece(&mut self, state: &State, more: bool) {
+        if more {
+            count(&mut self.streams.phases, state.phase.into());
+        }
+    }
+
     /// How often each number of reading KISS packets was met.
     pub fn packet_counts(&self) -> Vec<(u32, u64)> {
         PACKET_NUMBERS.iter().map(|&number| (number, self.packet_numbers[number as usize])).collect()
@@ -497,6 +573,7 @@ impl Seen {
         missing.numbers("KISS packet read, number", &PACKET_NUMBERS, &self.packet_numbers);
         missing.numbers("KISS packet written, number", &PACKET_WRITE_NUMBERS, &self.packet_write_numbers);
         self.packets.missing(&mut missing);
+        self.streams.missing(&mut missing);
         for number in 1..self.refused_rooms.len() {
             missing.cases(&format!("re-encoding refused by {} with no room, less than the input, more: case", number), &self.refused_rooms[number]);
         }

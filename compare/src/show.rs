@@ -3,6 +3,7 @@
 use crate::flat::*;
 use crate::kiss;
 use crate::oracle;
+use crate::port::{Fed, State};
 
 pub fn hex(octets: &[u8]) -> String {
     octets.iter().map(|octet| format!("{:02X}", octet)).collect()
@@ -98,4 +99,23 @@ pub fn packet(read: &kiss::Read) -> String {
         Ok((port, data)) => format!("number 0 port {} length {} data {}", port, data.len(), hex(data)),
         Err(number) => format!("number {}", number),
     }
+}
+
+/// How far a KISS stream has been read.
+pub fn state(state: &State) -> String {
+    let length = if usize::from(state.length) > state.data.len() { format!(" (length {})", state.length) } else { String::new() };
+    state_of(state.phase, state.port, state.held(), state.dropped) + &length
+}
+
+pub fn state_of(phase: u8, port: u8, data: &[u8], dropped: u16) -> String {
+    format!("phase {} port {} length {} dropped {} data {}", phase, port, data.len(), dropped, hex(data))
+}
+
+/// A call on what is left of a piece of a KISS stream, if there is one.
+pub fn call(fed: Option<&Fed>) -> String {
+    let call = |fed: &Fed| {
+        let packet = &fed.packet;
+        format!("taken {} ready {} port {} length {} data {}", fed.taken, packet.ready, packet.port, packet.length, hex(&fed.data))
+    };
+    fed.map_or("no call".to_string(), call)
 }

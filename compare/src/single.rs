@@ -6,9 +6,10 @@ use crate::flat::{self, ADDRESS, FLAT};
 use crate::inputs;
 use crate::kiss;
 use crate::oracle;
-use crate::port::{Port, HOPS, PLACES};
+use crate::port::{Port, FRESH, HOPS, PLACES};
 use crate::relays::Own;
 use crate::show;
+use crate::streams;
 use ax25::frame::{Address, Ax25Frame};
 
 /// Prints what differs; whether nothing does.
@@ -228,4 +229,21 @@ pub fn written_packet(port: u8, data: &[u8]) -> bool {
     let (number, length) = checker.port.kiss_write(port, data, room);
     println!("port: {}", show::written(number, length, &checker.port.output()[..length.min(room)]));
     verdict(checker.written_packet(port, data))
+}
+
+pub fn stream(octets: &[u8], cut: &[usize]) -> bool {
+    println!("KISS stream: {} octets: {}", octets.len(), show::hex(octets));
+    let owed = kiss::stream(octets);
+    for (end, (port, data)) in &owed.packets {
+        println!("the laboratory's reader: after {} octets port {} length {} data {}", end, port, data.len(), show::hex(data));
+    }
+    println!("the laboratory's reader: dropped by {:?}; {}", owed.dropped, show::state_of(owed.phase, owed.port, &owed.data, owed.count(0)));
+    let (mut checker, mut state) = (Checker::thorough(), FRESH);
+    for piece in streams::pieces(octets.len(), cut) {
+        for fed in checker.port.kiss_feed(&mut state, &octets[piece.clone()]) {
+            println!("port: octets {} to {}: {}", piece.start, piece.end, show::call(Some(&fed)));
+        }
+    }
+    println!("port: {}", show::state(&state));
+    verdict(checker.stream(&FRESH, octets, &[cut.to_vec()]))
 }
