@@ -192,7 +192,7 @@ struct ax25_kiss_packet {
        }
 
    What is given out, the count of what was dropped and the state do not depend on how the line was cut into pieces. An empty piece
-   takes 0, gives out nothing and changes nothing, the data of a packet just given out included.
+   takes 0, gives out nothing and changes nothing of a state that calls made, the data of a packet just given out included.
 
    - A packet is given out exactly where ax25_kiss_read accepts it, from its opening C0 to its closing one, and it has at most
      1,024 octets of data. A packet with none is given out too.
@@ -200,10 +200,10 @@ struct ax25_kiss_packet {
      counted.
    - A packet with a DB that is not followed by DC or DD, a type octet that ax25_kiss_read refuses, or more than 1,024 octets of data
      is dropped up to the next C0 and counted once in stream->dropped, at the octet that shows it. That is the octet behind
-     the DB, the type octet, or the octet that completes the 1,025th of the data. Where a C0 stands behind the DB, the next packet
-     starts there. While a packet is dropped, DB means nothing.
+     the DB, the octet that completes the type octet, or the one that completes the 1,025th of the data: an escape is complete with
+     its second octet. Where a C0 stands behind the DB, the next packet starts there. While a packet is dropped, DB means nothing.
    - There are no refusals. A state that no call can have made, with a length over 1,024, a port over 11 or a phase over 5, is read
-     as a fresh one with its count kept. */
+     as a fresh one with its count kept, and is one after the call. */
 size_t ax25_kiss_feed(struct ax25_kiss_stream *stream, const uint8_t *piece, size_t piece_len, struct ax25_kiss_packet *packet);
 
 #ifdef __cplusplus

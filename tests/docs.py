@@ -117,6 +117,7 @@ def statements():
         'Demand 1: every input gets an answer, bad input a number',
         'Relaying (document 02, M-100 and M-102)',
         'KISS packets (document 02, M-103)',
+        'A serial line (document 02, M-104)',
         'Smaller statements that stand for themselves',
     )
     for title in titles:
