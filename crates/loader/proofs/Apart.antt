@@ -1,4 +1,4 @@
--- A `Stream` in memory is its octets and its head, side by side, and back at any others.
+-- The state of a line in memory is its data and, behind it, its numbers; and any others put there make a state again.
 use mathlib.Core.Path.{_≡_, refl, sym, ap, subst}
 use Prim.Native.Nat.{ℕ, _+_}
 use mathlib.Core.List.{List, [], _∷_, map}
@@ -35,7 +35,7 @@ members = record { row = Octets; ty = tyArray (tyInt w8) 1024 } ∷ record { row
 rows-are : rowsOf members ≡ fields T.the-type
 rows-are = refl
 
--- a field that is an array of numbers has its list under a `map` of nothing
+-- an array in a struct has its elements under a `map` that changes none
 as-is : (l : List ℕ) → map (λ (v : ℕ). v) l ≡ l
 as-is [] = refl
 as-is (x ∷ l) = ap {B = List ℕ} (λ r. x ∷ r) (as-is l)

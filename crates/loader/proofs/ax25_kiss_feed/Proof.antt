@@ -1,6 +1,7 @@
--- `stream::ax25_kiss_feed` meets its contract: a walk of its MIR, by hand. The borrow of the state is opened and taken apart into the octets and the head (`Apart.antt`); the octets are lent to `feed` where they lie,
--- for a lifetime that is made for the call, and come back; the new head is stored; the two are put together and the borrow closed. Then the packet's borrow is opened, stored to and closed.
--- All that the proof knows of `feed` is that it meets its contract. Assumes nothing.
+-- The one function over lent structs, and so the one that is walked by hand, statement by statement of what it compiles to. The state
+-- that is lent is opened and taken apart into its data and its numbers (`Apart`). The data is lent on to `kiss_stream::feed` where it
+-- lies, for a lifetime of that call, and comes back; the numbers that it gave are stored, and the state is put together and closed. Then
+-- the packet is opened, stored to and closed. Of `feed` nothing is known but its contract.
 use mathlib.Core.Path.{_≡_, refl, ap, subst}
 use Prim.Native.Nat.{ℕ, _+_, _<_, _^_}
 use mathlib.Core.List.{[], _∷_, List}
@@ -45,16 +46,16 @@ use denote.Triple.Clauses.{ensured, lasts}
 use denote.Triple.Walked.{says, Stays, stay-ref, stay-none-slice, walkOf, AllGo, goes-ref, goes-none-slice, Walks, ends-at, walked, walk-meets}
 use denote.Exit.{yes}
 use Rattle.kiss_octet.specs.declared.Head.{Head}
+use Rattle.kiss_octet.specs.declared.Stream.{Stream}
 use Rattle.kiss_stream.specs.declared.Packet.{Packet}
 use Rattle.kiss_stream.specs.declared.Fed.{Fed}
-use Rattle.kiss_octet.specs.declared.Stream.{Stream}
 use Rattle.kiss_stream.specs.Feed.{Called, feedOf, fedOf}
 use Rattle.kiss_octet.proofs.Head as Hd
 use Rattle.kiss_octet.proofs.Head.Laws as Hd′
 use Rattle.kiss_stream.proofs.Packet as Pk
 use Rattle.kiss_stream.proofs.Packet.Laws as Pk′
-use Rattle.kiss_stream.proofs.Fed as An
-use Rattle.kiss_stream.proofs.Fed.Laws as An′
+use Rattle.kiss_stream.proofs.Fed as Fd
+use Rattle.kiss_stream.proofs.Fed.Laws as Fd′
 use Rattle.kiss_octet.proofs.Stream as T
 use Rattle.loader.proofs.Apart.{Octets, Back, apart, together}
 use Rattle.kiss_stream.proofs.feed as feed
@@ -69,7 +70,7 @@ use Rattle.loader.proofs.ax25_kiss_feed.Code as code
 abbrev stayed : Stays (ax25-kiss-feed.ended .signature .params) (ax25-kiss-feed.ended .kept)
 stayed = (stay-ref (0 ∷ []) tt (plain (λ _. T.the-row)), (stay-none-slice (1 ∷ []) tt (plain (λ _. u8)) yes, (stay-ref (2 ∷ []) tt (plain (λ _. Pk.the-row)), tt)))
 
--- the machine value of a head, and of a packet, as a list
+-- numbers and packets as values of the machine
 abbrev hvals : Head → List Val
 hvals k = Hd′.lowered k ∷ []
 
@@ -77,7 +78,7 @@ abbrev pvals : Packet → List Val
 pvals k = Pk′.lowered k ∷ []
 
 module _ {M : Type 1} (𝓤 : URA M) (H : Heap 𝓤) (A : Atoms 𝓤) (mem : Memory → SProp 𝓤) (run : Routine → Fun 𝓤) where
-  -- the contract that the proof cites
+  -- what is known of the callee
   abbrev FeedC : Contract 𝓤
   FeedC = tripleOf 𝓤 H A feed.signature (feed.spec 𝓤 H A mem run)
 
@@ -88,7 +89,7 @@ module _ {M : Type 1} (𝓤 : URA M) (H : Heap 𝓤) (A : Atoms 𝓤) (W : Given
   abbrev x : RefT Stream × (RefT (List ℕ) × (RefT Packet × Unit {0}))
   x = (record { ptr = (b, o); name = γ; now = h }, (s, (record { ptr = (b″, o″); name = γ″; now = p }, tt)))
 
-  -- the machine value of the slice
+  -- the piece as a value of the machine
   abbrev v : Val
   v = sliceVal (s .ptr) (length (s .now))
 
@@ -101,7 +102,7 @@ module _ {M : Type 1} (𝓤 : URA M) (H : Heap 𝓤) (A : Atoms 𝓤) (W : Given
   abbrev Own : Fml
   Own = ShrSlice (named 1) κ′ u8 .own s (v ∷ [])
 
-  -- the octets, lent under the name δ
+  -- the data, lent on under a name of its own
   abbrev y : GName → RefT (List ℕ)
   y δ = record { ptr = (b, o + 0); name = δ; now = h .octets }
 
@@ -114,24 +115,24 @@ module _ {M : Type 1} (𝓤 : URA M) (H : Heap 𝓤) (A : Atoms 𝓤) (W : Given
   abbrev to : ℕ → GName → FeedC 𝓤 H A at-mem run .Ghost
   to ν δ = (((ν ∷ [], (κ′, tt)), (fullShare, (q′, tt)), tt, (y δ, (h .head, (s, tt))), passed ν), tt)
 
-  -- what the callee asks: the lifetimes' tokens, the octets lent, a head, and the slice
+  -- what the callee asks: tokens of both lifetimes, the data, the numbers and the piece
   asked : Is Hd.the-row (h .head) (hvals (h .head)) → (ν : ℕ) (δ : GName)
       → ent 𝓤 (⋆ 𝓤 H A ((‵ (flft (ν ∷ []) fullShare) ⊛ ‵ (flft κ′ q′) ⊛ ‵ ftrue) ∷ ‵ (Lent ν δ) ∷ ‵ Own ∷ [])) (FeedC 𝓤 H A at-mem run .pre (to ν δ))
   asked was ν δ =
       qed W ((‵ (flft (ν ∷ []) fullShare) ⊛ ‵ (flft κ′ q′) ⊛ ‵ ftrue) ∷ ‵ (Lent ν δ) ∷ ‵ Own ∷ []) ∵
       nothing ! $ move ! (3 ∷ 0 ∷ []) $ fjoin ! $ owned ! Hd.the-row (Is Hd.the-row) (LL.makes Hd.the-type Hd′.the-plain 𝓤 H A) (h .head) _ was $ fjoin ! $ move ! (2 ∷ 0 ∷ []) $ fjoin ! $ move ! (1 ∷ 0 ∷ []) $ join ! $ frame ! $ done !
 
-  -- what an `Fed` knows of its fields
-  head-is : (r : Fed) (us : List Val) → Is An.the-row r us → Is Hd.the-row (r .head) (hvals (r .head))
-  head-is r us is = subst (Is Hd.the-row (r .head)) (Hd′.lowers .val-is (r .head) _ (LL.owed An.the-type An′.the-laws r us is .0)) (LL.owed An.the-type An′.the-laws r us is .0)
+  -- what it gives is well formed, field by field
+  head-is : (r : Fed) (us : List Val) → Is Fd.the-row r us → Is Hd.the-row (r .head) (hvals (r .head))
+  head-is r us is = subst (Is Hd.the-row (r .head)) (Hd′.lowers .val-is (r .head) _ (LL.owed Fd.the-type Fd′.the-laws r us is .0)) (LL.owed Fd.the-type Fd′.the-laws r us is .0)
 
-  packet-is : (r : Fed) (us : List Val) → Is An.the-row r us → Is Pk.the-row (r .packet) (pvals (r .packet))
-  packet-is r us is = subst (Is Pk.the-row (r .packet)) (Pk′.lowers .val-is (r .packet) _ (LL.owed An.the-type An′.the-laws r us is .1 .0)) (LL.owed An.the-type An′.the-laws r us is .1 .0)
+  packet-is : (r : Fed) (us : List Val) → Is Fd.the-row r us → Is Pk.the-row (r .packet) (pvals (r .packet))
+  packet-is r us is = subst (Is Pk.the-row (r .packet)) (Pk′.lowers .val-is (r .packet) _ (LL.owed Fd.the-type Fd′.the-laws r us is .1 .0)) (LL.owed Fd.the-type Fd′.the-laws r us is .1 .0)
 
-  taken-fits : (r : Fed) (us : List Val) → Is An.the-row r us → r .taken < 2 ^ 64
-  taken-fits r us is = LL.owed An.the-type An′.the-laws r us is .1 .1 .0 .1
+  taken-fits : (r : Fed) (us : List Val) → Is Fd.the-row r us → r .taken < 2 ^ 64
+  taken-fits r us is = LL.owed Fd.the-type Fd′.the-laws r us is .1 .1 .0 .1
 
-  -- the state at exit
+  -- the state that is left
   abbrev h′ : List ℕ → Fed → Stream
   h′ zs r = record { octets = zs; head = r .head }
 
@@ -171,13 +172,13 @@ module _ {M : Type 1} (𝓤 : URA M) (H : Heap 𝓤) (A : Atoms 𝓤) (W : Given
         move ! (5 ∷ 4 ∷ []) $ join ! $ move ! (7 ∷ 0 ∷ []) $ join ! $ move ! (0 ∷ 5 ∷ 1 ∷ []) $ use3 W (raw (FeedC 𝓤 H A at-mem run .pre (to ν δ))) (asked was ν δ) $
         -- [what the callee asks; the slice's; the packet's; κ″'s; the lender's part; the head's cell; true; the way back; the open borrow; obs; auth; _6 at 11; _5 at 13; _4 at 15; _3 at 17; _2 at 19; _1 at 21; _0 at 23]
         calls-at ! fm (FeedC 𝓤 H A at-mem run) known (to ν δ) (and-then ! (load ! (from ! (stop !)) (look ! 13 refl)) (and-then ! (load ! (from ! (stop !)) (look ! 11 refl)) (and-then ! (load ! (from ! (stop !)) (look ! 19 refl)) (no-more !)))) (λ u.
-        use1 W (later (some (λ (r : Fed). ((‵ (flft (ν ∷ []) fullShare) ⊛ ‵ (flft κ′ q′) ⊛ ‵ ftrue) ⊛ ‵ (An.the-row .own r (u ∷ []))) ⊛ raw (ensured 𝓤 H A feed.ended (feed.clauses 𝓤 H A at-mem run) (ν ∷ [], (κ′, tt)) (y δ, (h .head, (s, tt))) tt r)))) (id⊢ 𝓤 _) $ await ! tt $ pick ! (λ r.
+        use1 W (later (some (λ (r : Fed). ((‵ (flft (ν ∷ []) fullShare) ⊛ ‵ (flft κ′ q′) ⊛ ‵ ftrue) ⊛ ‵ (Fd.the-row .own r (u ∷ []))) ⊛ raw (ensured 𝓤 H A feed.ended (feed.clauses 𝓤 H A at-mem run) (ν ∷ [], (κ′, tt)) (y δ, (h .head, (s, tt))) tt r)))) (id⊢ 𝓤 _) $ await ! tt $ pick ! (λ r.
         split ! $ move ! (1 ∷ []) $ use1 W (some (λ (zs : List ℕ × (Unit {0} × (Unit {0} × Unit {0}))). ‵ (lasts feed.ended (ν ∷ [], (κ′, tt)) (y δ, (h .head, (s, tt))) zs) ⊛ raw (fact 𝓤 ((r ≡ fedOf found) × (zs .0 ≡ found .stream .octets))))) (id⊢ 𝓤 _) $ pick ! (λ zs.
         split ! $ move ! (1 ∷ []) $ heard ! ((r ≡ fedOf found) × (zs .0 ≡ found .stream .octets)) (λ e. fsplit ! $ move ! (2 ∷ []) $ split ! $ move ! (1 ∷ []) $
-        peeks ! An.the-row (Is An.the-row) (shows 𝓤 H A An.the-row) r (u ∷ []) (λ is. drop ! $
+        peeks ! Fd.the-row (Is Fd.the-row) (shows 𝓤 H A Fd.the-row) r (u ∷ []) (λ is. drop ! $
         -- [the tokens; the octets' last value; ..; the slice's at 3; the packet's; κ″'s; the lender's part at 6; the head's cell; true; the way back; the open borrow; obs; auth; _6 at 13; _5 at 15; _4 at 17; _3 at 19; _2 at 21; _1 at 23; _0 at 25]
-        land ! (from ! (stop !)) (init ! 17 refl (LL.lawful An.the-type An′.the-laws 𝓤 H A W .typed r _ is .0)) $
-        rewrite ! 17 (λ (w : Val). ‵ (fat fullShare An′.mir l₄ 0 w)) (ap only (An′.lowers .val-is r (u ∷ []) is)) refl $
+        land ! (from ! (stop !)) (init ! 17 refl (LL.lawful Fd.the-type Fd′.the-laws 𝓤 H A W .typed r _ is .0)) $
+        rewrite ! 17 (λ (w : Val). ‵ (fat fullShare Fd′.mir l₄ 0 w)) (ap only (Fd′.lowers .val-is r (u ∷ []) is)) refl $
         -- the lifetime is ended, and the octets are taken back
         split ! $ lft-end ! tt $ move ! (0 ∷ 7 ∷ 2 ∷ []) $
         use3 W (later (‵ (mem Octets .lies (zs .0) b (o + 0)))) (ref-back 𝓤 H A W Octets (ν ∷ []) δ (zs .0) b (o + 0)) $ await ! tt $
