@@ -4,20 +4,18 @@ use mathlib.Core.Path.{_≡_, refl, sym, ap, _∙_}
 use mathlib.Core.Bool.{Bool, true, false, cond}
 use mathlib.Core.List.{List, [], _∷_, _++_}
 use native.Mathlib.Omega.{arith}
-use borrow.Author.Tests.{ltb-true, ltb-false, le-ltb}
+use borrow.Author.Tests.{ltb-false, le-ltb}
 use lib.Dec.{ltb, eqb}
 use lib.ListN.{length, drop}
-use Rattle.octets.specs.Octet.{field}
 use Rattle.octets.proofs.Choice.{either}
-use Rattle.escapes.specs.Escape.{fend, fesc, tfend, tfesc}
 use Rattle.kiss.specs.Packet.{lastPort}
 use Rattle.kiss_octet.specs.declared.Head.{Head}
 use Rattle.kiss_octet.specs.declared.Stream.{Stream}
-use Rattle.kiss_octet.specs.declared.Move.{Move}
-use Rattle.kiss_octet.specs.Step.{room, opened, inData, inEscape, dropping, inType, headOf, noneIn, phased, dropOf, quietOf, putOf, typedOf, strayOf, unescaped, outsideOf, openedOf, dataOf, moveOf, stepOf, gives}
+use Rattle.kiss_octet.specs.Step.{room, opened, inType, headOf, noneIn, dropOf, moveOf, stepOf, gives}
+use Rattle.kiss_octet.proofs.Laws.{move-by}
 use Rattle.kiss_stream.specs.declared.Fed.{Fed}
 use Rattle.kiss_stream.specs.Feed.{Called, noPacket, packetOf, later, takenFrom, settledHead, settled, feedOf, streamOf, fedOf}
-use Rattle.demands_stream.specs.Run.{Run, packetIn, giving, runOf, lineOf, then, inPieces, joined}
+use Rattle.demands_stream.specs.Run.{Run, giving, runOf, lineOf, then, inPieces, joined}
 
 -- ---- states that calls make
 pub record Sound (h : Head) : Type 0 where
@@ -26,58 +24,25 @@ pub record Sound (h : Head) : Type 0 where
   pub phase-in : h .phase ≤ inType
 
 -- an octet keeps them so
-module _ (h : Head) (k : Sound h) where
-  abbrev Keeps : Move → Type 0
-  Keeps m = Sound (m .head)
+none-sound : (f d : ℕ) → f ≤ inType → Sound (headOf 0 0 f d)
+none-sound f d l = record { length-in = omega arith; port-in = omega arith; phase-in = l }
 
-  none-keeps : (f d : ℕ) → f ≤ inType → Sound (headOf 0 0 f d)
-  none-keeps f d l = record { length-in = omega arith; port-in = omega arith; phase-in = l }
-
-  in-keeps : (f : ℕ) → f ≤ inType → Sound (phased h f)
-  in-keeps f l = record { length-in = k .length-in; port-in = k .port-in; phase-in = l }
-
-  drop-keeps : (f : ℕ) → f ≤ inType → Keeps (quietOf (dropOf h f))
-  unfolding dropOf
-  drop-keeps f l = none-keeps f _ l
-
-  put-keeps : (b : ℕ) → Keeps (putOf h b)
-  unfolding putOf
-  put-keeps b =
-      either Keeps (ltb (h .length) room)
-      (λ e. record { length-in = omega (arith, ltb-true (h .length) room e); port-in = k .port-in; phase-in = omega arith })
-      (λ _. drop-keeps dropping (omega arith))
-
-  typed-keeps : (t : ℕ) → Keeps (typedOf h t)
-  unfolding typedOf
-  typed-keeps t =
-      let dropped = drop-keeps dropping (omega arith) in
-      either Keeps (eqb (field 0 4 t) 0)
-      (λ _. either Keeps (ltb lastPort (field 4 4 t)) (λ _. dropped)
-      (λ e. record { length-in = omega arith; port-in = ltb-false lastPort (field 4 4 t) e; phase-in = omega arith }))
-      (λ _. dropped)
-
-  stray-phase : (b : ℕ) → cond (eqb b fend) opened dropping ≤ inType
-  stray-phase b = either (λ (f : ℕ). f ≤ inType) (eqb b fend) (λ _. omega arith) (λ _. omega arith)
-
-  behind-keeps : (does : ℕ → Move) → ((b : ℕ) → Keeps (does b)) → (b : ℕ) → Keeps (unescaped does h b)
-  unfolding unescaped strayOf
-  behind-keeps does w b =
-      either Keeps (eqb b tfend) (λ _. w fend) (λ _. either Keeps (eqb b tfesc) (λ _. w fesc) (λ _. drop-keeps _ (stray-phase b)))
-
-  move-keeps : (b : ℕ) → Keeps (moveOf h b)
-  unfolding moveOf dataOf openedOf outsideOf
-  move-keeps b =
-      either Keeps (eqb (h .phase) inData)
-      (λ _. either Keeps (eqb b fend) (λ _. in-keeps opened (omega arith)) (λ _. either Keeps (eqb b fesc) (λ _. in-keeps inEscape (omega arith)) (λ _. put-keeps b)))
-      (λ _. either Keeps (eqb (h .phase) opened)
-      (λ _. either Keeps (eqb b fend) (λ _. k) (λ _. either Keeps (eqb b fesc) (λ _. in-keeps inType (omega arith)) (λ _. typed-keeps b)))
-      (λ _. either Keeps (eqb (h .phase) inEscape) (λ _. behind-keeps (putOf h) put-keeps b)
-      (λ _. either Keeps (eqb (h .phase) inType) (λ _. behind-keeps (typedOf h) typed-keeps b)
-      (λ _. either Keeps (eqb b fend) (λ _. none-keeps opened (h .dropped) (omega arith)) (λ _. k)))))
+move-keeps : (h : Head) (b : ℕ) → Sound h → Sound (moveOf h b .head)
+unfolding dropOf
+move-keeps h b k =
+    move-by h b (λ m. Sound (m .head)) (record {
+      same = k;
+      opens = none-sound opened (h .dropped) (omega arith);
+      waits = λ f l. record { length-in = k .length-in; port-in = k .port-in; phase-in = l };
+      drops = λ f l. none-sound f _ l;
+      starts = λ p l. record { length-in = omega arith; port-in = l; phase-in = omega arith };
+      stores = λ z l. record { length-in = omega (arith, l); port-in = k .port-in; phase-in = omega arith };
+      closes = λ _. record { length-in = k .length-in; port-in = k .port-in; phase-in = omega arith };
+    })
 
 step-keeps : (s : Stream) (b : ℕ) → Sound (s .head) → Sound (stepOf s b .head)
 unfolding stepOf
-step-keeps s b k = move-keeps (s .head) k b
+step-keeps s b k = move-keeps (s .head) b k
 
 -- any state is read as one of them, and each of them as it is
 pub settled-sound : (h : Head) → Sound (settledHead h)

@@ -1,32 +1,31 @@
 -- A line is read as the packets that stand on it: cut at each C0, and M-103's reader on what stands between two.
 use Prim.Native.Nat.{ℕ, suc, _+_, _≤_}
 use mathlib.Core.Path.{_≡_, refl, sym, ap, _∙_}
-use mathlib.Core.Bool.{Bool, true, false, cond, _&&_, false≢true}
+use mathlib.Core.Bool.{Bool, true, false, cond, false≢true}
 use mathlib.Core.List.{List, [], _∷_, _++_, append-assoc, append-nil}
 use mathlib.Core.Logic.{_⊎_, inl, inr}
 use native.Mathlib.Omega.{arith}
 use borrow.Author.Tests.{eqb-true, ltb-true, ltb-false, lt-ltb, le-ltb, le-leb, leb-true}
-use lib.Dec.{eqb, ltb, leb}
-use lib.ListN.{length, getD, set, length-set}
+use lib.Dec.{eqb, ltb}
+use lib.ListN.{length, length-set}
 use lib.Seq.{append-snoc}
-use Rattle.octets.specs.Octet.{field}
 use Rattle.octets.specs.Count.{count}
 use Rattle.octets.proofs.Choice.{by, either, both}
 use Rattle.escapes.specs.Escape.{fend, fesc, tfend, tfesc}
-use Rattle.kiss.specs.Packet.{lastPort}
-use Rattle.kiss_reading.specs.Answer.{isAccepted, Given, accepted}
+use Rattle.kiss_reading.specs.Answer.{isAccepted, Given}
 use Rattle.kiss_reading.specs.Read.{heard, readPacket}
 use Rattle.kiss_reading.specs.declared.KissAnswer.the-variants.{NoRoom}
-use Rattle.kiss_reading.proofs.Judged.{Read, accepted-read}
+use Rattle.kiss_reading.proofs.Judged.{accepted-read}
 use Rattle.demands_kiss.proofs.Spelling.{heard-close, heard-plain, heard-last, heard-tfend, heard-tfesc, heard-stray}
 use Rattle.kiss_octet.specs.declared.Head.{Head}
 use Rattle.kiss_octet.specs.declared.Move.{Move}
 use Rattle.kiss_octet.specs.declared.Stream.{Stream}
-use Rattle.kiss_octet.specs.Step.{room, lastCount, outside, opened, inData, inEscape, dropping, inType, headOf, noneIn, phased, countedOf, dropOf, quietOf, putOf, typedOf, strayOf, unescaped, outsideOf, openedOf, dataOf, moveOf, storedBy, stepOf, gives}
-use Rattle.demands_stream.specs.Run.{Run, packetIn, giving, runOf, then}
+use Rattle.kiss_octet.specs.Step.{room, lastCount, outside, opened, inData, inEscape, inType, countedOf, dropOf, quietOf, strayOf, unescaped, outsideOf, openedOf, dataOf, moveOf, storedBy, stepOf, gives}
+use Rattle.kiss_octet.proofs.Laws.{move-by}
+use Rattle.demands_stream.specs.Run.{Run, packetIn, runOf, then}
 use Rattle.demands_stream.specs.Line.{own, whole, spoilt, between, cutAtFend, givenOut, atMost}
 use Rattle.demands_stream.proofs.Cut.{run-cut, given-stream}
-use Rattle.demands_stream.proofs.Between.{NoFend, Opened, Closed, closed}
+use Rattle.demands_stream.proofs.Between.{NoFend, Opened, closed}
 
 -- ---- the array, C0, and all other octets
 stored-length : (m : Move) (at : ℕ) (o : List ℕ) → length (storedBy m at o) ≡ length o
@@ -56,36 +55,18 @@ unfolding stepOf
 fend-opens s a = record { array = step-array s fend ∙ a; phase = fend-phase (s .head) }
 
 -- no other octet gives out a packet
-module _ (h : Head) (b : ℕ) (f : eqb b fend ≡ false) where
-  abbrev Quiet : Move → Type 0
-  Quiet m = m .ready ≡ false
-
-  put-quiet : (z : ℕ) → Quiet (putOf h z)
-  unfolding putOf
-  put-quiet z = either Quiet (ltb (h .length) room) (λ _. refl) (λ _. refl)
-
-  typed-quiet : (z : ℕ) → Quiet (typedOf h z)
-  unfolding typedOf
-  typed-quiet z = either Quiet (eqb (field 0 4 z) 0) (λ _. either Quiet (ltb lastPort (field 4 4 z)) (λ _. refl) (λ _. refl)) (λ _. refl)
-
-  behind-quiet : (does : ℕ → Move) → ((z : ℕ) → Quiet (does z)) → Quiet (unescaped does h b)
-  unfolding unescaped strayOf
-  behind-quiet does w = either Quiet (eqb b tfend) (λ _. w fend) (λ _. either Quiet (eqb b tfesc) (λ _. w fesc) (λ _. refl))
-
-  move-quiet : Quiet (moveOf h b)
-  unfolding moveOf dataOf openedOf outsideOf
-  move-quiet =
-      either Quiet (eqb (h .phase) inData)
-      (λ _. either Quiet (eqb b fend) (λ e. absurd (false≢true (sym f ∙ e))) (λ _. either Quiet (eqb b fesc) (λ _. refl) (λ _. put-quiet b)))
-      (λ _. either Quiet (eqb (h .phase) opened)
-      (λ _. either Quiet (eqb b fend) (λ _. refl) (λ _. either Quiet (eqb b fesc) (λ _. refl) (λ _. typed-quiet b)))
-      (λ _. either Quiet (eqb (h .phase) inEscape) (λ _. behind-quiet (putOf h) put-quiet)
-      (λ _. either Quiet (eqb (h .phase) inType) (λ _. behind-quiet (typedOf h) typed-quiet)
-      (λ _. either Quiet (eqb b fend) (λ _. refl) (λ _. refl)))))
-
 not-given : (s : Stream) (b : ℕ) → eqb b fend ≡ false → gives s b ≡ false
 unfolding gives
-not-given s b f = move-quiet (s .head) b f
+not-given s b f =
+    move-by (s .head) b (λ m. m .ready ≡ false) (record {
+      same = refl;
+      opens = refl;
+      waits = λ _ _. refl;
+      drops = λ _ _. refl;
+      starts = λ _ _. refl;
+      stores = λ _ _. refl;
+      closes = λ e. absurd (false≢true (sym f ∙ e));
+    })
 
 quiet-run : (t : List ℕ) (s : Stream) → NoFend t → runOf s t .packets ≡ []
 unfolding runOf

@@ -4,7 +4,7 @@ use mathlib.Core.List.{List, [], _∷_}
 use lib.ListN.{replicate}
 use Rattle.kiss_reading.specs.Answer.{Given, accepted}
 use Rattle.kiss_octet.specs.declared.Stream.{Stream}
-use Rattle.kiss_octet.specs.Step.{room, lastCount, outside, opened, inData, inEscape, dropping, inType, headOf}
+use Rattle.kiss_octet.specs.Step.{room, outside, opened, inData, inEscape, dropping, inType, headOf}
 use Rattle.kiss_stream.specs.Feed.{streamOf}
 use Rattle.demands_stream.specs.Run.{runOf}
 

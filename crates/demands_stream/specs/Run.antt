@@ -2,11 +2,11 @@
 use Prim.Native.Nat.{ℕ}
 use mathlib.Core.Bool.{Bool, true, false}
 use mathlib.Core.List.{List, [], _∷_, _++_}
-use lib.ListN.{take, drop}
+use lib.ListN.{take}
 use Rattle.kiss_reading.specs.Answer.{Given, accepted}
 use Rattle.kiss_octet.specs.declared.Stream.{Stream}
 use Rattle.kiss_octet.specs.Step.{stepOf, gives}
-use Rattle.kiss_stream.specs.Feed.{Called, settled}
+use Rattle.kiss_stream.specs.Feed.{settled}
 
 pub record Run : Type 0 where
   pub packets : List Given

@@ -1,13 +1,13 @@
 -- Each call takes some of what is left.
 use Prim.Native.Nat.{_-_}
-use mathlib.Core.Path.{_≡_, ap, sym, _∙_}
+use mathlib.Core.Path.{ap, sym, _∙_}
 use native.Mathlib.Nat.{le-trans, lt-of-le-of-lt}
 use native.Mathlib.Omega.{arith}
 use lib.ListN.{length, drop, length-drop}
 use Rattle.kiss_octet.specs.declared.Stream.{Stream}
 use Rattle.kiss_stream.specs.Feed.{streamOf}
 use Rattle.demands_stream.specs.Run.{lineOf}
-use Rattle.demands_stream.proofs.Cut.{Turns, turns}
+use Rattle.demands_stream.proofs.Cut.{turns}
 use Rattle.kept_stream.proofs.Laws.{rest-all, Left, left-start, left-turn, left-none}
 use borrow.Author.Needs.{needs}
 use Rattle.kept_stream.proofs.used_up.Statement.{statement}

@@ -1,6 +1,6 @@
 use mathlib.Core.Path.{sym}
 use native.Mathlib.Omega.{arith}
-use Rattle.kiss_octet.specs.Step.{moveOf, storedBy}
+use Rattle.kiss_octet.specs.Step.{storedBy}
 use Rattle.kiss_octet.proofs.Laws.{store-room}
 use borrow.Author.Needs.{needs}
 use Rattle.kiss_octet.proofs.step.Statement.{statement}
