@@ -21,13 +21,13 @@ pub const OUTSIDE: u8 = 0;
 const OPENED: u8 = 1;
 
 // The type octet, or data:
-const IN_DATA: u8 = 2;
+pub const IN_DATA: u8 = 2;
 
 // A DB in the data:
 const IN_ESCAPE: u8 = 3;
 
 // Something that makes the packet one to drop:
-const DROPPING: u8 = 4;
+pub const DROPPING: u8 = 4;
 
 // A DB in the type octet's place:
 pub const IN_TYPE: u8 = 5;

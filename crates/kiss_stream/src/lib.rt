@@ -1,11 +1,21 @@
 // A serial line of KISS packets, read in the pieces in which it gives them.
+use escapes::FEND;
+use escapes::FESC;
+use escapes::TFEND;
+use escapes::TFESC;
 use kiss::LAST_PORT;
+use kiss_octet::DROPPING;
 use kiss_octet::Head;
+use kiss_octet::IN_DATA;
 use kiss_octet::IN_TYPE;
 use kiss_octet::OUTSIDE;
 use kiss_octet::ROOM;
 ghost use mathlib.Core.Path.{_≡_};
+ghost use Prim.Native.Nat.{_+_, _≤_};
+ghost use lib.ListN.{length};
+ghost use Rattle.kiss_octet.specs.declared.Stream.{Stream};
 ghost use Rattle.kiss_stream.specs.Feed.{packetOf, settledHead, feedOf, streamOf, fedOf};
+ghost use Rattle.kiss_stream.specs.Run.{Reaches, Stores};
 
 // A packet given out: 1, its port, and the length of its data; or zeros.
 #[repr(C)]
@@ -20,6 +30,12 @@ pub struct Fed {
     pub head: Head,
     pub packet: Packet,
     pub taken: usize,
+}
+
+// How far a run of octets goes, and the numbers behind it.
+struct Reached {
+    head: Head,
+    at: usize,
 }
 
 // A state that no call made is a fresh one, its count kept.
@@ -48,14 +64,116 @@ fn packet_of(h: Head) -> Packet
     }
 }
 
-// Takes a piece of the line, of any length, through the first octet that gives out a packet, else the whole.
+// The octet that a DB at `at` and the octet behind it stand for, or 0 where the piece has no such pair there.
+fn escaped_at(piece: &[u8], at: usize) -> u8
+    requires { ⌜ at ≤ length (now piece) ⌝ }
+    ensures { λ r. ⌜ ((r ≡ 0 → ⊥) → (at + 2 ≤ length (now (piece .entry))) × Stores at r (at + 2) (now (piece .entry))) ⌝ }
+{
+    if piece.len() - at < 2 {
+        return 0;
+    }
+    if piece[at] != FESC {
+        return 0;
+    }
+    let second = piece[at + 1];
+    if second == TFEND {
+        return FEND;
+    }
+    if second == TFESC {
+        return FESC;
+    }
+    0
+}
+
+// In the phase of data, stores the data from `from` on as far as there is room: octets that stand for themselves, which have a short loop
+// of their own because most are such, and escapes that are good and whole.
+fn fill(octets: &mut [u8; 1024], h: Head, piece: &[u8], from: usize) -> Reached
+    requires { ⌜ from ≤ length (now piece) ⌝ }
+    ensures { λ r. ⌜ Reaches (streamOf (now (octets .entry)) h) from (streamOf (now (octets .exit)) (r .head)) (r .at) (now (piece .entry)) ⌝ }
+{
+    if h.phase != IN_DATA {
+        return Reached { head: h, at: from };
+    }
+    let mut end = h.length as usize;
+    let mut i = from;
+    loop {
+        while i < piece.len() {
+            let octet = piece[i];
+            if octet == FEND {
+                break;
+            }
+            if octet == FESC {
+                break;
+            }
+            if end >= 1024 {
+                break;
+            }
+            octets[end] = octet;
+            end += 1;
+            i += 1;
+        }
+        let escaped = escaped_at(piece, i);
+        if escaped == 0 {
+            break;
+        }
+        if end >= 1024 {
+            break;
+        }
+        octets[end] = escaped;
+        end += 1;
+        i += 2;
+    }
+    let length = end as u16;
+    let next = Head {
+        length,
+        port: h.port,
+        phase: IN_DATA,
+        dropped: h.dropped,
+    };
+    Reached { head: next, at: i }
+}
+
+// In the two phases that pass over all that is not C0, the place of the next C0 from `from` on, or the end; else `from`.
+fn skip(phase: u8, piece: &[u8], from: usize) -> usize
+    requires { ⌜ from ≤ length (now piece) ⌝ }
+    ensures { λ r. ⌜ ((s : Stream) → s .head .phase ≡ phase → Reaches s from s r (now (piece .entry))) ⌝ }
+{
+    if phase != OUTSIDE && phase != DROPPING {
+        return from;
+    }
+    let mut i = from;
+    while i < piece.len() {
+        if piece[i] == FEND {
+            break;
+        }
+        i += 1;
+    }
+    i
+}
+
+// Takes a piece of the line, of any length, through the first octet that gives out a packet, else the whole. Each turn takes the octets
+// that a short loop can take, and then one octet by the step, which is slower because it asks for the phase at each.
 pub fn feed(octets: &mut [u8; 1024], head: Head, piece: &[u8]) -> Fed
     ensures { λ r. ⌜ (r ≡ fedOf (feedOf (streamOf (now (octets .entry)) head) (now (piece .entry))))
         × (now (octets .exit) ≡ feedOf (streamOf (now (octets .entry)) head) (now (piece .entry)) .stream .octets) ⌝ }
 {
     let mut h = settle(head);
     let mut i = 0;
-    while i < piece.len() {
+    loop {
+        let filled = fill(octets, h, piece, i);
+        h = filled.head;
+        i = skip(h.phase, piece, filled.at);
+        if i >= piece.len() {
+            return Fed {
+                head: h,
+                packet: Packet {
+                    ready: 0,
+                    port: 0,
+                    length: 0,
+                },
+                taken: i,
+            };
+        }
         let m = kiss_octet::step(octets, h, piece[i]);
         h = m.head;
         i += 1;
@@ -66,14 +184,5 @@ pub fn feed(octets: &mut [u8; 1024], head: Head, piece: &[u8]) -> Fed
                 taken: i,
             };
         }
-    }
-    Fed {
-        head: h,
-        packet: Packet {
-            ready: 0,
-            port: 0,
-            length: 0,
-        },
-        taken: i,
     }
 }

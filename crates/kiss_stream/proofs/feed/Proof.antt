@@ -1,6 +1,6 @@
 -- The call is the fold of the step. The invariant: the whole call is the call on the rest from here, with i octets more taken.
 use Prim.Native.Nat.{_-_, _≤_}
-use mathlib.Core.Path.{_≡_, ap, sym}
+use mathlib.Core.Path.{_≡_, refl, ap, sym, _∙_}
 use native.Mathlib.Omega.{arith}
 use lib.ListN.{length, drop}
 use Rattle.kiss_stream.specs.Feed.{Called, later, takenFrom, feedOf, streamOf, fedOf}
@@ -25,6 +25,27 @@ settle-requires c κs = search needs
 loop-holds : tie.Need-loop-holds Inv-loop μ-loop
 loop-holds c = (search needs, sym (later-none _))
 
+fill-requires : tie.Need-fill-requires Inv-loop μ-loop
+fill-requires c κs = search needs
+
+skip-requires : tie.Need-skip-requires Inv-loop μ-loop
+skip-requires c κs = c .before .fill .ensures .1
+
+-- the whole call is the call from behind the runs on
+behind : (c : tie.After-skip Inv-loop μ-loop) → takenFrom (streamOf (c .before .before .before .before .before .before .before .args .octets .now) (c .before .before .before .before .before .settle .result)) (c .before .before .before .before .before .before .before .args .piece .now)
+    ≡ later (c .skip .result) (takenFrom (streamOf (c .before .before .fill .last .0) (c .before .before .fill .result .head)) (drop (c .skip .result) (c .before .before .before .before .before .before .before .args .piece .now)))
+behind c =
+    let f = c .before .before .fill in
+    c .before .before .before .before .loop .inv .1 ∙ f .ensures .2 ∙ c .skip .ensures (streamOf (f .last .0) (f .result .head)) refl .2
+
+returns : tie.Need-returns Inv-loop μ-loop
+unfolding feedOf
+returns c =
+    let f = c .before .before .before .fill in
+    let e = c .before .before .before .before .before .before .settle .ensures in
+    let w = taken-ends _ (streamOf (f .last .0) (f .result .head)) _ (c .before .skip .result) (behind (c .before)) (c .if1 .taken) in
+    answered (sym (rw e at w))
+
 shared-slice-read-step : tie.Need-shared-slice-read-step Inv-loop μ-loop
 shared-slice-read-step c = search needs
 
@@ -37,29 +58,28 @@ add-i c = search needs
 packet-of-requires : tie.Need-packet-of-requires Inv-loop μ-loop
 packet-of-requires c κs = search needs
 
-returns : tie.Need-returns Inv-loop μ-loop
-unfolding feedOf
-returns c =
-    let l = c .before .before .before .before .before .before .before .loop in
-    let s = c .before .before .before .step in
-    let e = c .before .before .before .before .before .before .before .before .settle .ensures in
-    let w = taken-gives _ (l .octets) (l .h) _ (l .i) (s .result) (s .last .0) (l .inv .1) (omega arith) (s .ensures .0) (s .ensures .1) (c .before .if1 .taken) in
-    rw (c .packet-of .ensures) (answered (sym (rw e at w)))
-
-loop-less : tie.Need-loop-less Inv-loop μ-loop
-loop-less c = search needs
-
-loop-again : tie.Need-loop-again Inv-loop μ-loop
-loop-again c =
-    let l = c .before .before .before .before .before .before .loop in
-    let s = c .before .before .step in
-    (search needs, taken-goes _ (l .octets) (l .h) _ (l .i) (s .result) (s .last .0) (l .inv .1) (omega arith) (s .ensures .0) (s .ensures .1) (c .if1 .left))
-
 returns-2 : tie.Need-returns-2 Inv-loop μ-loop
 unfolding feedOf
 returns-2 c =
-    let l = c .before .loop in
-    answered (sym (rw (c .before .before .settle .ensures) at (taken-ends _ (streamOf (l .octets) (l .h)) _ (l .i) (l .inv .1) (omega arith))))
+    let f = c .before .before .before .before .before .before .before .before .before .fill in
+    let k = c .before .before .before .before .before .before .before .skip in
+    let s = c .before .before .before .step in
+    let e = c .before .before .before .before .before .before .before .before .before .before .before .before .settle .ensures in
+    let w = taken-gives _ (f .last .0) (f .result .head) _ (k .result) (s .result) (s .last .0) (behind (c .before .before .before .before .before .before .before)) (omega arith) (s .ensures .0) (s .ensures .1) (c .before .if2 .taken) in
+    rw (c .packet-of .ensures) (answered (sym (rw e at w)))
+
+loop-less : tie.Need-loop-less Inv-loop μ-loop
+loop-less c =
+    let f = c .before .before .before .before .before .before .before .before .fill in
+    let k = c .before .before .before .before .before .before .skip in
+    omega (arith, f .ensures .0, k .ensures (streamOf (f .last .0) (f .result .head)) refl .0)
+
+loop-again : tie.Need-loop-again Inv-loop μ-loop
+loop-again c =
+    let f = c .before .before .before .before .before .before .before .before .fill in
+    let k = c .before .before .before .before .before .before .skip in
+    let s = c .before .before .step in
+    (omega arith, taken-goes _ (f .last .0) (f .result .head) _ (k .result) (s .result) (s .last .0) (behind (c .before .before .before .before .before .before)) (omega arith) (s .ensures .0) (s .ensures .1) (c .if2 .left))
 
 pub feed-spec : {M : Type 1} → statement M
 feed-spec =
@@ -69,11 +89,13 @@ feed-spec =
     μ-loop
     settle-requires
     loop-holds
+    fill-requires
+    skip-requires
+    returns
     shared-slice-read-step
     step-requires
     add-i
     packet-of-requires
-    returns
+    returns-2
     loop-less
-    loop-again
-    returns-2)
+    loop-again)
