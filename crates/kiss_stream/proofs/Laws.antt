@@ -1,5 +1,5 @@
 -- One turn of the loop over a piece, and one of each loop over a run.
-use Prim.Native.Nat.{ℕ, _+_, _≤_, _<_}
+use Prim.Native.Nat.{ℕ, _+_, _-_, _≤_, _<_}
 use mathlib.Core.Path.{_≡_, refl, ap, sym, _∙_}
 use mathlib.Core.Bool.{true, false, cond}
 use mathlib.Core.List.{List}
@@ -16,7 +16,7 @@ use Rattle.kiss_octet.specs.declared.Stream.{Stream}
 use Rattle.kiss_octet.specs.declared.Move.{Move}
 use Rattle.kiss_octet.specs.Step.{room, outside, inData, inEscape, dropping, headOf, phased, quietOf, putOf, unescaped, outsideOf, dataOf, moveOf, storedBy, stepOf, gives}
 use Rattle.kiss_stream.specs.Feed.{Called, noPacket, packetOf, later, takenFrom, streamOf}
-use Rattle.kiss_stream.specs.Run.{Stores}
+use Rattle.kiss_stream.specs.Steps.{Reaches, Stores}
 
 -- ---- the loop over a piece
 pub later-later : (i j : ℕ) (c : Called) → later i (later j c) ≡ later (i + j) c
@@ -114,3 +114,27 @@ unfolding storedBy
 taken-passes w s l i e far p a =
     let moves = idle-move (s .head) (getD l i 0) p (ne-eqb _ _ a) in
     taken-goes w (s .octets) (s .head) l i _ _ e far (sym moves) (rw moves refl) refl
+
+-- octets of data that stand for themselves, from `from` to `i`: how many there are, and where the call is with them stored
+pub record Filled (octets₀ : List ℕ) (held : ℕ) (l : List ℕ) (from : ℕ) (octets : List ℕ) (end i : ℕ) : Type 0 where
+  pub few : end ≤ 65535
+  pub many : end ≡ held + (i - from)
+  pub reaches : (p d : ℕ) → Reaches (streamOf octets₀ (headOf held p inData d)) from (streamOf octets (headOf end p inData d)) i l
+
+pub filled-none : (octets : List ℕ) (held : ℕ) (l : List ℕ) (from : ℕ) → (from ≤ length l) × (held ≤ 65535) → Filled octets held l from octets held from
+filled-none octets held l from h = record { few = h .1; many = omega arith; reaches = λ p d. (omega arith, h .0, refl) }
+
+module _ (octets₀ : List ℕ) (held : ℕ) (l : List ℕ) (from : ℕ) (octets : List ℕ) (end i : ℕ) (k : Filled octets₀ held l from octets end i) where
+  pub filled-more : i < length l → (getD l i 0 ≡ fend → ⊥) → (getD l i 0 ≡ fesc → ⊥) → end < room → Filled octets₀ held l from (set octets end (getD l i 0)) (end + 1) (i + 1)
+  filled-more far a b r =
+      let many = k .many in
+      let on = k .reaches 0 0 .0 in
+      record {
+        few = omega arith;
+        many = omega arith;
+        reaches = λ p d. (omega arith, omega arith, k .reaches p d .2 ∙ plain-stores l i far a b octets end p d r);
+      }
+
+  pub filled-gives : (held + (i - from) ≤ 65535)
+      × ((p d : ℕ) → Reaches (streamOf octets₀ (headOf held p inData d)) from (streamOf octets (headOf (held + (i - from)) p inData d)) i l)
+  filled-gives = rw (sym (k .many)) (k .few, k .reaches)

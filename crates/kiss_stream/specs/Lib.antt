@@ -1,2 +1,2 @@
 pub mod Feed
-pub mod Run
+pub mod Steps

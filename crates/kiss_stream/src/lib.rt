@@ -11,11 +11,12 @@ use kiss_octet::IN_TYPE;
 use kiss_octet::OUTSIDE;
 use kiss_octet::ROOM;
 ghost use mathlib.Core.Path.{_≡_};
-ghost use Prim.Native.Nat.{_+_, _≤_};
+ghost use Prim.Native.Nat.{ℕ, _+_, _-_, _≤_};
 ghost use lib.ListN.{length};
 ghost use Rattle.kiss_octet.specs.declared.Stream.{Stream};
+ghost use Rattle.kiss_octet.specs.Step.{inData, headOf};
 ghost use Rattle.kiss_stream.specs.Feed.{packetOf, settledHead, feedOf, streamOf, fedOf};
-ghost use Rattle.kiss_stream.specs.Run.{Reaches, Stores};
+ghost use Rattle.kiss_stream.specs.Steps.{Reaches, Stores};
 
 // A packet given out: 1, its port, and the length of its data; or zeros.
 #[repr(C)]
@@ -85,8 +86,34 @@ fn escaped_at(piece: &[u8], at: usize) -> u8
     0
 }
 
-// In the phase of data, stores the data from `from` on as far as there is room: octets that stand for themselves, which have a short loop
-// of their own because most are such, and escapes that are good and whole.
+// Stores the octets of data from `from` on that stand for themselves, behind `held` octets of data and as far as there is room. Gives the
+// place behind them. Most octets are taken here, and the loop is short.
+fn fill_plain(octets: &mut [u8; 1024], held: usize, piece: &[u8], from: usize) -> usize
+    requires { ⌜ (from ≤ length (now piece)) × (held ≤ 65535) ⌝ }
+    ensures { λ r. ⌜ (held + (r - from) ≤ 65535) × ((p d : ℕ) → Reaches (streamOf (now (octets .entry)) (headOf held p inData d)) from (streamOf (now (octets .exit)) (headOf (held + (r - from)) p inData d)) r (now (piece .entry))) ⌝ }
+{
+    let mut end = held;
+    let mut i = from;
+    while i < piece.len() {
+        let octet = piece[i];
+        if octet == FEND {
+            return i;
+        }
+        if octet == FESC {
+            return i;
+        }
+        if end >= 1024 {
+            return i;
+        }
+        octets[end] = octet;
+        end += 1;
+        i += 1;
+    }
+    i
+}
+
+// In the phase of data, stores the data from `from` on as far as there is room: octets that stand for themselves, and escapes that are
+// good and whole.
 fn fill(octets: &mut [u8; 1024], h: Head, piece: &[u8], from: usize) -> Reached
     requires { ⌜ from ≤ length (now piece) ⌝ }
     ensures { λ r. ⌜ Reaches (streamOf (now (octets .entry)) h) from (streamOf (now (octets .exit)) (r .head)) (r .at) (now (piece .entry)) ⌝ }
@@ -97,21 +124,9 @@ fn fill(octets: &mut [u8; 1024], h: Head, piece: &[u8], from: usize) -> Reached
     let mut end = h.length as usize;
     let mut i = from;
     loop {
-        while i < piece.len() {
-            let octet = piece[i];
-            if octet == FEND {
-                break;
-            }
-            if octet == FESC {
-                break;
-            }
-            if end >= 1024 {
-                break;
-            }
-            octets[end] = octet;
-            end += 1;
-            i += 1;
-        }
+        let to = fill_plain(octets, end, piece, i);
+        end += to - i;
+        i = to;
         let escaped = escaped_at(piece, i);
         if escaped == 0 {
             break;
