@@ -17,12 +17,12 @@ use Rattle.kiss_reading.specs.Answer.{isAccepted, Given, accepted}
 use Rattle.kiss_reading.specs.Read.{Heard, more, heard, onPort, readPacket}
 use Rattle.kiss_reading.proofs.Judged.{Read, accepted-read, read-opened, opened-typed, typed-data, on-accepted, on-refused}
 use Rattle.demands_kiss.proofs.Spelling.{heard-close, heard-plain, heard-tfend, heard-tfesc, heard-stray}
-use Rattle.kiss_octet.specs.declared.Head.{Head}
+use Rattle.kiss_state.specs.declared.Head.{Head}
+use Rattle.kiss_state.specs.State.{room, opened, inData, inEscape, dropping, inType, headOf, streamOf}
 use Rattle.kiss_octet.specs.declared.Move.{Move}
-use Rattle.kiss_octet.specs.declared.Stream.{Stream}
-use Rattle.kiss_octet.specs.Step.{room, opened, inData, inEscape, dropping, inType, headOf, countedOf, dropOf, quietOf, putOf, typedOf, strayOf, unescaped, outsideOf, openedOf, dataOf, moveOf, storedBy, stepOf, gives}
+use Rattle.kiss_state.specs.declared.Stream.{Stream}
+use Rattle.kiss_octet.specs.Step.{countedOf, dropOf, quietOf, putOf, typedOf, strayOf, unescaped, outsideOf, openedOf, dataOf, moveOf, storedBy, stepOf, gives}
 use Rattle.kiss_octet.proofs.Laws.{type-stray}
-use Rattle.kiss_stream.specs.Feed.{streamOf}
 use Rattle.demands_stream.specs.Run.{Run, giving, runOf}
 use Rattle.demands_stream.specs.Line.{own, whole, spoilt}
 

@@ -9,12 +9,13 @@ use lib.Dec.{ltb, eqb}
 use lib.ListN.{length, drop}
 use Rattle.octets.proofs.Choice.{either}
 use Rattle.kiss.specs.Packet.{lastPort}
-use Rattle.kiss_octet.specs.declared.Head.{Head}
-use Rattle.kiss_octet.specs.declared.Stream.{Stream}
-use Rattle.kiss_octet.specs.Step.{room, opened, inType, headOf, noneIn, dropOf, moveOf, stepOf, gives}
+use Rattle.kiss_state.specs.declared.Head.{Head}
+use Rattle.kiss_state.specs.declared.Stream.{Stream}
+use Rattle.kiss_state.specs.State.{room, opened, inType, headOf, noneIn, settledHead, settled, streamOf}
+use Rattle.kiss_octet.specs.Step.{dropOf, moveOf, stepOf, gives}
 use Rattle.kiss_octet.proofs.Laws.{move-by}
 use Rattle.kiss_stream.specs.declared.Fed.{Fed}
-use Rattle.kiss_stream.specs.Feed.{Called, noPacket, packetOf, later, takenFrom, settledHead, settled, feedOf, streamOf, fedOf}
+use Rattle.kiss_stream.specs.Feed.{Called, noPacket, packetOf, later, takenFrom, feedOf, fedOf}
 use Rattle.demands_stream.specs.Run.{Run, giving, runOf, lineOf, then, inPieces, joined}
 
 -- ---- states that calls make

@@ -17,10 +17,11 @@ use Rattle.kiss_reading.specs.Read.{heard, readPacket}
 use Rattle.kiss_reading.specs.declared.KissAnswer.the-variants.{NoRoom}
 use Rattle.kiss_reading.proofs.Judged.{accepted-read}
 use Rattle.demands_kiss.proofs.Spelling.{heard-close, heard-plain, heard-last, heard-tfend, heard-tfesc, heard-stray}
-use Rattle.kiss_octet.specs.declared.Head.{Head}
+use Rattle.kiss_state.specs.declared.Head.{Head}
+use Rattle.kiss_state.specs.State.{room, outside, opened, inData, inEscape, inType}
 use Rattle.kiss_octet.specs.declared.Move.{Move}
-use Rattle.kiss_octet.specs.declared.Stream.{Stream}
-use Rattle.kiss_octet.specs.Step.{room, lastCount, outside, opened, inData, inEscape, inType, countedOf, dropOf, quietOf, strayOf, unescaped, outsideOf, openedOf, dataOf, moveOf, storedBy, stepOf, gives}
+use Rattle.kiss_state.specs.declared.Stream.{Stream}
+use Rattle.kiss_octet.specs.Step.{lastCount, countedOf, dropOf, quietOf, strayOf, unescaped, outsideOf, openedOf, dataOf, moveOf, storedBy, stepOf, gives}
 use Rattle.kiss_octet.proofs.Laws.{move-by}
 use Rattle.demands_stream.specs.Run.{Run, packetIn, runOf, then}
 use Rattle.demands_stream.specs.Line.{own, whole, spoilt, between, cutAtFend, givenOut, atMost}

@@ -3,9 +3,8 @@ use Prim.Native.Nat.{ℕ}
 use mathlib.Core.List.{List, [], _∷_}
 use lib.ListN.{replicate}
 use Rattle.kiss_reading.specs.Answer.{Given, accepted}
-use Rattle.kiss_octet.specs.declared.Stream.{Stream}
-use Rattle.kiss_octet.specs.Step.{room, outside, opened, inData, inEscape, dropping, inType, headOf}
-use Rattle.kiss_stream.specs.Feed.{streamOf}
+use Rattle.kiss_state.specs.declared.Stream.{Stream}
+use Rattle.kiss_state.specs.State.{room, outside, opened, inData, inEscape, dropping, inType, headOf, streamOf}
 use Rattle.demands_stream.specs.Run.{runOf}
 
 -- zeros, with so many dropped

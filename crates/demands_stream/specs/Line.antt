@@ -7,7 +7,7 @@ use lib.ListN.{length}
 use Rattle.escapes.specs.Escape.{fend}
 use Rattle.kiss_reading.specs.Answer.{isAccepted, Given}
 use Rattle.kiss_reading.specs.Read.{readPacket}
-use Rattle.kiss_octet.specs.Step.{room}
+use Rattle.kiss_state.specs.State.{room}
 
 -- what stands between two C0, with them: a packet's own octets
 abbrev pub own : List ℕ → List ℕ

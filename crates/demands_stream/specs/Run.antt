@@ -4,9 +4,9 @@ use mathlib.Core.Bool.{Bool, true, false}
 use mathlib.Core.List.{List, [], _∷_, _++_}
 use lib.ListN.{take}
 use Rattle.kiss_reading.specs.Answer.{Given, accepted}
-use Rattle.kiss_octet.specs.declared.Stream.{Stream}
+use Rattle.kiss_state.specs.declared.Stream.{Stream}
+use Rattle.kiss_state.specs.State.{settled}
 use Rattle.kiss_octet.specs.Step.{stepOf, gives}
-use Rattle.kiss_stream.specs.Feed.{settled}
 
 pub record Run : Type 0 where
   pub packets : List Given

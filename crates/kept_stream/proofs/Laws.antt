@@ -5,10 +5,10 @@ use mathlib.Core.List.{List, []}
 use native.Mathlib.Omega.{arith}
 use lib.ListN.{length, take, drop, length-drop, length-append, take-append-drop, drop-of-length-le}
 use lib.Seq.{take-all, drop-drop}
-use Rattle.kiss_octet.specs.declared.Head.{Head}
-use Rattle.kiss_octet.specs.declared.Stream.{Stream}
+use Rattle.kiss_state.specs.declared.Head.{Head}
+use Rattle.kiss_state.specs.declared.Stream.{Stream}
+use Rattle.kiss_state.specs.State.{streamOf}
 use Rattle.kiss_stream.specs.declared.Fed.{Fed}
-use Rattle.kiss_stream.specs.Feed.{streamOf}
 use Rattle.demands_stream.specs.Run.{Run, lineOf, then}
 use Rattle.demands_stream.proofs.Cut.{Sound, Turns, line-none, line-cut, line-few}
 use Rattle.kept_stream.specs.declared.UsedUp.{UsedUp}

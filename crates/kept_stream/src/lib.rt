@@ -1,8 +1,8 @@
 // What document 02, M-104, asks of a serial line as contracts of functions that only call the product's, as in `kept`.
-use kiss_octet::Head;
+use kiss_state::Head;
 ghost use mathlib.Core.Path.{_≡_};
 ghost use lib.ListN.{length};
-ghost use Rattle.kiss_stream.specs.Feed.{streamOf};
+ghost use Rattle.kiss_state.specs.State.{streamOf};
 ghost use Rattle.demands_stream.specs.Run.{lineOf};
 
 // What calls leave of a piece that they used up: the numbers of the state, and how many packets were given out.

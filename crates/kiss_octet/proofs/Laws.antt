@@ -10,9 +10,10 @@ use Rattle.octets.specs.Octet.{field}
 use Rattle.octets.proofs.Choice.{by, either}
 use Rattle.escapes.specs.Escape.{fend, fesc, tfend, tfesc}
 use Rattle.kiss.specs.Packet.{lastPort}
-use Rattle.kiss_octet.specs.declared.Head.{Head}
+use Rattle.kiss_state.specs.declared.Head.{Head}
+use Rattle.kiss_state.specs.State.{room, opened, inData, inEscape, dropping, inType, headOf, phased, noneIn}
 use Rattle.kiss_octet.specs.declared.Move.{Move}
-use Rattle.kiss_octet.specs.Step.{room, opened, inData, inEscape, dropping, inType, headOf, noneIn, phased, dropOf, quietOf, putOf, typedOf, strayOf, unescaped, outsideOf, openedOf, dataOf, moveOf}
+use Rattle.kiss_octet.specs.Step.{dropOf, quietOf, putOf, typedOf, strayOf, unescaped, outsideOf, openedOf, dataOf, moveOf}
 
 -- an escaped type octet is C0, on port 12, or DB, with command 11: whatever follows DB in its place, the packet is dropped
 pub type-stray : (h : Head) (b : ℕ) → unescaped (typedOf h) h b ≡ strayOf h b

@@ -7,48 +7,14 @@ use lib.ListN.{set}
 use Rattle.octets.specs.Octet.{field}
 use Rattle.escapes.specs.Escape.{fend, fesc, tfend, tfesc}
 use Rattle.kiss.specs.Packet.{lastPort}
-use Rattle.kiss_octet.specs.declared.Head.{Head}
-use Rattle.kiss_octet.specs.declared.Stream.{Stream}
+use Rattle.kiss_state.specs.declared.Head.{Head}
+use Rattle.kiss_state.specs.declared.Stream.{Stream}
+use Rattle.kiss_state.specs.State.{room, opened, inData, inEscape, dropping, inType, headOf, phased, noneIn}
 use Rattle.kiss_octet.specs.declared.Move.{Move}
-
--- room for so many octets of data
-abbrev pub room : ℕ
-room = 1024
 
 -- the count stops here
 abbrev pub lastCount : ℕ
 lastCount = 65535
-
--- the phases, by what was read last: no C0 yet; a C0; the type octet or data; a DB in the data; something that makes the packet one to
--- drop; a DB in the type octet's place
-abbrev pub outside : ℕ
-outside = 0
-
-abbrev pub opened : ℕ
-opened = 1
-
-abbrev pub inData : ℕ
-inData = 2
-
-abbrev pub inEscape : ℕ
-inEscape = 3
-
-abbrev pub dropping : ℕ
-dropping = 4
-
-abbrev pub inType : ℕ
-inType = 5
-
-abbrev pub headOf : (length port phase dropped : ℕ) → Head
-headOf l p f d = record { length = l; port = p; phase = f; dropped = d }
-
--- the same in another phase
-abbrev pub phased : Head → ℕ → Head
-phased h f = headOf (h .length) (h .port) f (h .dropped)
-
--- no packet, and the count kept
-abbrev pub noneIn : Head → ℕ → Head
-noneIn h f = headOf 0 0 f (h .dropped)
 
 unfoldable pub countedOf : ℕ → ℕ
 countedOf n = cond (ltb n lastCount) (n + 1) n

@@ -5,49 +5,19 @@ use escapes::FESC;
 use escapes::TFEND;
 use escapes::TFESC;
 use kiss::LAST_PORT;
+use kiss_state::DROPPING;
+use kiss_state::Head;
+use kiss_state::IN_DATA;
+use kiss_state::IN_ESCAPE;
+use kiss_state::IN_TYPE;
+use kiss_state::OPENED;
+use kiss_state::ROOM;
 ghost use mathlib.Core.Path.{_≡_};
-ghost use Rattle.kiss_octet.specs.Step.{countedOf, noneIn, phased, dropOf, quietOf, putOf, typedOf, strayOf, unescaped, outsideOf, openedOf, dataOf, moveOf, storedBy};
-
-// Room for the data of a packet, in octets.
-pub const ROOM: u16 = 1024;
+ghost use Rattle.kiss_state.specs.State.{phased, noneIn};
+ghost use Rattle.kiss_octet.specs.Step.{countedOf, dropOf, quietOf, putOf, typedOf, strayOf, unescaped, outsideOf, openedOf, dataOf, moveOf, storedBy};
 
 // The count of packets dropped stops here.
 const LAST_COUNT: u16 = 65535;
-
-// The phases, by what was read last. No C0 yet:
-pub const OUTSIDE: u8 = 0;
-
-// A C0:
-const OPENED: u8 = 1;
-
-// The type octet, or data:
-pub const IN_DATA: u8 = 2;
-
-// A DB in the data:
-const IN_ESCAPE: u8 = 3;
-
-// Something that makes the packet one to drop:
-pub const DROPPING: u8 = 4;
-
-// A DB in the type octet's place:
-pub const IN_TYPE: u8 = 5;
-
-// The numbers of the state: how many octets of data there are, their port, the phase, and how many packets were dropped. Here and below
-// the layout is C's, and no struct that is lent has padding.
-#[repr(C)]
-pub struct Head {
-    pub length: u16,
-    pub port: u8,
-    pub phase: u8,
-    pub dropped: u16,
-}
-
-// The state of a line, which its owner keeps: the data is the first octets of the array. Zeros are a fresh one.
-#[repr(C)]
-pub struct Stream {
-    pub octets: [u8; 1024],
-    pub head: Head,
-}
 
 // What one octet does: the numbers after it, an octet of data to store or none, whether a packet is given out.
 pub struct Move {
@@ -61,17 +31,6 @@ fn counted(n: u16) -> u16
     ensures { λ r. ⌜ r ≡ countedOf n ⌝ }
 {
     if n < LAST_COUNT { n + 1 } else { n }
-}
-
-pub fn none_in(h: Head, phase: u8) -> Head
-    ensures { λ r. ⌜ r ≡ noneIn h phase ⌝ }
-{
-    Head {
-        length: 0,
-        port: 0,
-        phase,
-        dropped: h.dropped,
-    }
 }
 
 fn in_phase(h: Head, phase: u8) -> Head
@@ -178,7 +137,7 @@ fn skip(h: Head, octet: u8) -> Move
     ensures { λ r. ⌜ r ≡ outsideOf h octet ⌝ }
 {
     if octet == FEND {
-        return quiet(none_in(h, OPENED));
+        return quiet(kiss_state::none_in(h, OPENED));
     }
     quiet(h)
 }

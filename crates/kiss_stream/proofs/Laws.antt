@@ -11,11 +11,12 @@ use lib.Dec.{eqb}
 use lib.ListN.{length, getD, set, drop, drop-of-length-le}
 use lib.Seq.{drop-cons}
 use Rattle.escapes.specs.Escape.{fend, fesc, tfend, tfesc}
-use Rattle.kiss_octet.specs.declared.Head.{Head}
-use Rattle.kiss_octet.specs.declared.Stream.{Stream}
+use Rattle.kiss_state.specs.declared.Head.{Head}
+use Rattle.kiss_state.specs.declared.Stream.{Stream}
+use Rattle.kiss_state.specs.State.{room, outside, inData, inEscape, dropping, headOf, phased, streamOf}
 use Rattle.kiss_octet.specs.declared.Move.{Move}
-use Rattle.kiss_octet.specs.Step.{room, outside, inData, inEscape, dropping, headOf, phased, quietOf, putOf, unescaped, outsideOf, dataOf, moveOf, storedBy, stepOf, gives}
-use Rattle.kiss_stream.specs.Feed.{Called, noPacket, packetOf, later, takenFrom, streamOf}
+use Rattle.kiss_octet.specs.Step.{quietOf, putOf, unescaped, outsideOf, dataOf, moveOf, storedBy, stepOf, gives}
+use Rattle.kiss_stream.specs.Feed.{Called, noPacket, packetOf, later, takenFrom}
 use Rattle.kiss_stream.specs.Steps.{Reaches, Stores}
 
 -- ---- the loop over a piece

@@ -2,13 +2,12 @@
 use Prim.Native.Nat.{ℕ, _+_}
 use mathlib.Core.Bool.{cond}
 use mathlib.Core.List.{List, [], _∷_}
-use lib.Dec.{ltb}
-use Rattle.kiss.specs.Packet.{lastPort}
-use Rattle.kiss_octet.specs.declared.Head.{Head}
-use Rattle.kiss_octet.specs.declared.Stream.{Stream}
+use Rattle.kiss_state.specs.declared.Head.{Head}
+use Rattle.kiss_state.specs.declared.Stream.{Stream}
+use Rattle.kiss_state.specs.State.{settled}
 use Rattle.kiss_stream.specs.declared.Packet.{Packet}
 use Rattle.kiss_stream.specs.declared.Fed.{Fed}
-use Rattle.kiss_octet.specs.Step.{room, outside, inType, noneIn, stepOf, gives}
+use Rattle.kiss_octet.specs.Step.{stepOf, gives}
 
 -- what a call leaves: the state, the packet given out or none, and how many octets it took
 pub record Called : Type 0 where
@@ -32,21 +31,9 @@ takenFrom s [] = record { stream = s; packet = noPacket; taken = 0 }
 takenFrom s (b ∷ l) =
     cond (gives s b) (record { stream = stepOf s b; packet = packetOf (stepOf s b .head); taken = 1 }) (later 1 (takenFrom (stepOf s b) l))
 
--- a state that no call made is read as a fresh one, its count kept
-unfoldable pub settledHead : Head → Head
-settledHead h =
-    cond (ltb room (h .length)) (noneIn h outside)
-    (cond (ltb lastPort (h .port)) (noneIn h outside) (cond (ltb inType (h .phase)) (noneIn h outside) h))
-
-abbrev pub settled : Stream → Stream
-settled s = record { octets = s .octets; head = settledHead (s .head) }
-
 unfoldable pub feedOf : Stream → List ℕ → Called
 feedOf s piece = takenFrom (settled s) piece
 
--- the parts as the functions take and give them, the array being lent by itself
-abbrev pub streamOf : List ℕ → Head → Stream
-streamOf octets h = record { octets = octets; head = h }
-
+-- the same as the function gives it, the array being lent by itself
 abbrev pub fedOf : Called → Fed
 fedOf c = record { head = c .stream .head; packet = c .packet; taken = c .taken }

@@ -3,9 +3,9 @@ use Prim.Native.Nat.{ℕ, _+_, _≤_, _<_}
 use mathlib.Core.Path.{_≡_}
 use mathlib.Core.List.{List}
 use lib.ListN.{length, set, drop}
-use Rattle.kiss_octet.specs.declared.Stream.{Stream}
-use Rattle.kiss_octet.specs.Step.{room, inData, headOf}
-use Rattle.kiss_stream.specs.Feed.{later, takenFrom, streamOf}
+use Rattle.kiss_state.specs.declared.Stream.{Stream}
+use Rattle.kiss_state.specs.State.{room, inData, headOf, streamOf}
+use Rattle.kiss_stream.specs.Feed.{later, takenFrom}
 
 -- a call that is at `i` in the state `s` comes to the same as one that is at `j` in the state `t`
 abbrev pub Reaches : Stream → ℕ → Stream → ℕ → List ℕ → Type 0

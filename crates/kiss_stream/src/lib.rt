@@ -3,19 +3,16 @@ use escapes::FEND;
 use escapes::FESC;
 use escapes::TFEND;
 use escapes::TFESC;
-use kiss::LAST_PORT;
-use kiss_octet::DROPPING;
-use kiss_octet::Head;
-use kiss_octet::IN_DATA;
-use kiss_octet::IN_TYPE;
-use kiss_octet::OUTSIDE;
-use kiss_octet::ROOM;
+use kiss_state::DROPPING;
+use kiss_state::Head;
+use kiss_state::IN_DATA;
+use kiss_state::OUTSIDE;
 ghost use mathlib.Core.Path.{_≡_};
 ghost use Prim.Native.Nat.{ℕ, _+_, _-_, _≤_};
 ghost use lib.ListN.{length};
-ghost use Rattle.kiss_octet.specs.declared.Stream.{Stream};
-ghost use Rattle.kiss_octet.specs.Step.{inData, headOf};
-ghost use Rattle.kiss_stream.specs.Feed.{packetOf, settledHead, feedOf, streamOf, fedOf};
+ghost use Rattle.kiss_state.specs.declared.Stream.{Stream};
+ghost use Rattle.kiss_state.specs.State.{inData, headOf, settledHead, streamOf};
+ghost use Rattle.kiss_stream.specs.Feed.{packetOf, feedOf, fedOf};
 ghost use Rattle.kiss_stream.specs.Steps.{Reaches, Stores};
 
 // A packet given out: 1, its port, and the length of its data; or zeros.
@@ -37,22 +34,6 @@ pub struct Fed {
 struct Reached {
     head: Head,
     at: usize,
-}
-
-// A state that no call made is a fresh one, its count kept.
-fn settle(h: Head) -> Head
-    ensures { λ r. ⌜ r ≡ settledHead h ⌝ }
-{
-    if h.length > ROOM {
-        return kiss_octet::none_in(h, OUTSIDE);
-    }
-    if h.port > LAST_PORT {
-        return kiss_octet::none_in(h, OUTSIDE);
-    }
-    if h.phase > IN_TYPE {
-        return kiss_octet::none_in(h, OUTSIDE);
-    }
-    h
 }
 
 fn packet_of(h: Head) -> Packet
@@ -172,7 +153,7 @@ pub fn feed(octets: &mut [u8; 1024], head: Head, piece: &[u8]) -> Fed
     ensures { λ r. ⌜ (r ≡ fedOf (feedOf (streamOf (now (octets .entry)) head) (now (piece .entry))))
         × (now (octets .exit) ≡ feedOf (streamOf (now (octets .entry)) head) (now (piece .entry)) .stream .octets) ⌝ }
 {
-    let mut h = settle(head);
+    let mut h = kiss_state::settle(head);
     let mut i = 0;
     loop {
         let filled = fill(octets, h, piece, i);

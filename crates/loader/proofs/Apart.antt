@@ -19,12 +19,12 @@ use denote.Struct.Laws.{lawfuls}
 use denote.Struct.Members.{Member, rowsOf}
 use denote.Struct.Parts.{PartsBack}
 use denote.Struct.Pick.{record-field-out, record-field-back}
-use Rattle.kiss_octet.specs.declared.Head.{Head}
-use Rattle.kiss_octet.specs.declared.Stream.{Stream}
-use Rattle.kiss_octet.proofs.Head as Hd
-use Rattle.kiss_octet.proofs.Head.Laws as Hd′
-use Rattle.kiss_octet.proofs.Stream as T
-use Rattle.kiss_octet.proofs.Stream.Laws as T′
+use Rattle.kiss_state.specs.declared.Head.{Head}
+use Rattle.kiss_state.specs.declared.Stream.{Stream}
+use Rattle.kiss_state.proofs.Head as Hd
+use Rattle.kiss_state.proofs.Head.Laws as Hd′
+use Rattle.kiss_state.proofs.Stream as T
+use Rattle.kiss_state.proofs.Stream.Laws as T′
 
 abbrev pub Octets : RattleType
 Octets = Array u8 1024

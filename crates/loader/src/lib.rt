@@ -1,5 +1,5 @@
 // The calls that C links. A slice is a pointer and a length there; include/ax25.h says what the caller owes.
-use kiss_octet::Stream;
+use kiss_state::Stream;
 use kiss_stream::Packet;
 ghost use mathlib.Core.Path.{_≡_};
 ghost use mathlib.Core.Bool.{cond};

@@ -4,8 +4,8 @@ use mathlib.Core.Path.{ap, sym, _∙_}
 use native.Mathlib.Nat.{le-trans, lt-of-le-of-lt}
 use native.Mathlib.Omega.{arith}
 use lib.ListN.{length, drop, length-drop}
-use Rattle.kiss_octet.specs.declared.Stream.{Stream}
-use Rattle.kiss_stream.specs.Feed.{streamOf}
+use Rattle.kiss_state.specs.declared.Stream.{Stream}
+use Rattle.kiss_state.specs.State.{streamOf}
 use Rattle.demands_stream.specs.Run.{lineOf}
 use Rattle.demands_stream.proofs.Cut.{turns}
 use Rattle.kept_stream.proofs.Laws.{rest-all, Left, left-start, left-turn, left-none}

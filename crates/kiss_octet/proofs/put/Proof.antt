@@ -1,7 +1,8 @@
 -- By the room.
 use native.Mathlib.Omega.{arith}
 use borrow.Author.Tests.{lt-ltb, le-ltb}
-use Rattle.kiss_octet.specs.Step.{room, putOf}
+use Rattle.kiss_state.specs.State.{room}
+use Rattle.kiss_octet.specs.Step.{putOf}
 use borrow.Author.Needs.{needs}
 use Rattle.kiss_octet.proofs.put.Statement.{statement}
 use Rattle.kiss_octet.proofs.put.Tie as tie

@@ -3,7 +3,8 @@ use Prim.Native.Nat.{_-_, _≤_}
 use mathlib.Core.Path.{_≡_, refl, ap, sym, _∙_}
 use native.Mathlib.Omega.{arith}
 use lib.ListN.{length, drop}
-use Rattle.kiss_stream.specs.Feed.{Called, later, takenFrom, feedOf, streamOf, fedOf}
+use Rattle.kiss_state.specs.State.{streamOf}
+use Rattle.kiss_stream.specs.Feed.{Called, later, takenFrom, feedOf, fedOf}
 use Rattle.kiss_stream.proofs.Laws.{later-none, taken-gives, taken-goes, taken-ends}
 use borrow.Author.Needs.{needs}
 use Rattle.kiss_stream.proofs.feed.Statement.{statement}

@@ -3,8 +3,8 @@ use Prim.Native.Nat.{ℕ, _+_, _-_, _≤_}
 use mathlib.Core.Path.{refl, ap, _∙_}
 use native.Mathlib.Omega.{arith}
 use lib.ListN.{length, drop}
-use Rattle.kiss_octet.specs.Step.{inData, headOf, phased}
-use Rattle.kiss_stream.specs.Feed.{later, takenFrom, streamOf}
+use Rattle.kiss_state.specs.State.{inData, headOf, phased, streamOf}
+use Rattle.kiss_stream.specs.Feed.{later, takenFrom}
 use Rattle.kiss_stream.specs.Steps.{Reaches}
 use borrow.Author.Needs.{needs}
 use Rattle.kiss_stream.proofs.fill.Statement.{statement}

@@ -5,7 +5,7 @@ use mathlib.Core.Logic.{inl, inr, ⊎-elim}
 use native.Mathlib.Omega.{arith}
 use borrow.Author.Tests.{eqb-true, not-false}
 use lib.ListN.{length}
-use Rattle.kiss_octet.specs.declared.Stream.{Stream}
+use Rattle.kiss_state.specs.declared.Stream.{Stream}
 use Rattle.kiss_stream.specs.Steps.{Reaches}
 use Rattle.kiss_stream.proofs.Laws.{taken-passes}
 use borrow.Author.Needs.{needs}

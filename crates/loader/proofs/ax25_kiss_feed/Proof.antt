@@ -45,18 +45,18 @@ use denote.Triple.Table.{entered, cited}
 use denote.Triple.Clauses.{ensured, lasts}
 use denote.Triple.Walked.{says, Stays, stay-ref, stay-none-slice, walkOf, AllGo, goes-ref, goes-none-slice, Walks, ends-at, walked, walk-meets}
 use denote.Exit.{yes}
-use Rattle.kiss_octet.specs.declared.Head.{Head}
-use Rattle.kiss_octet.specs.declared.Stream.{Stream}
+use Rattle.kiss_state.specs.declared.Head.{Head}
+use Rattle.kiss_state.specs.declared.Stream.{Stream}
 use Rattle.kiss_stream.specs.declared.Packet.{Packet}
 use Rattle.kiss_stream.specs.declared.Fed.{Fed}
 use Rattle.kiss_stream.specs.Feed.{Called, feedOf, fedOf}
-use Rattle.kiss_octet.proofs.Head as Hd
-use Rattle.kiss_octet.proofs.Head.Laws as Hd′
+use Rattle.kiss_state.proofs.Head as Hd
+use Rattle.kiss_state.proofs.Head.Laws as Hd′
 use Rattle.kiss_stream.proofs.Packet as Pk
 use Rattle.kiss_stream.proofs.Packet.Laws as Pk′
 use Rattle.kiss_stream.proofs.Fed as Fd
 use Rattle.kiss_stream.proofs.Fed.Laws as Fd′
-use Rattle.kiss_octet.proofs.Stream as T
+use Rattle.kiss_state.proofs.Stream as T
 use Rattle.loader.proofs.Apart.{Octets, Back, apart, together}
 use Rattle.kiss_stream.proofs.feed as feed
 use Rattle.kiss_stream.proofs.feed.Symbol as feed-def

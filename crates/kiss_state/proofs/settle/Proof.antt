@@ -1,9 +1,9 @@
 -- Three tests, in the order of the definition.
 use borrow.Author.Tests.{lt-ltb, le-ltb}
-use Rattle.kiss_stream.specs.Feed.{settledHead}
+use Rattle.kiss_state.specs.State.{settledHead}
 use borrow.Author.Needs.{needs}
-use Rattle.kiss_stream.proofs.settle.Statement.{statement}
-use Rattle.kiss_stream.proofs.settle.Tie as tie
+use Rattle.kiss_state.proofs.settle.Statement.{statement}
+use Rattle.kiss_state.proofs.settle.Tie as tie
 
 none-in-requires : tie.Need-none-in-requires
 none-in-requires c κs = search needs
