@@ -203,7 +203,7 @@ struct ax25_kiss_packet {
      the DB, the octet that completes the type octet, or the one that completes the 1,025th of the data: an escape is complete with
      its second octet. Where a C0 stands behind the DB, the next packet starts there. While a packet is dropped, DB means nothing.
    - There are no refusals. A state that no call can have made, with a length over 1,024, a port over 11 or a phase over 5, is read
-     as a fresh one with its count kept, and is one after the call. */
+     as a fresh one with its count kept; an empty piece leaves it as that. */
 size_t ax25_kiss_feed(struct ax25_kiss_stream *stream, const uint8_t *piece, size_t piece_len, struct ax25_kiss_packet *packet);
 
 #ifdef __cplusplus

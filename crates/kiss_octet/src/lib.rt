@@ -202,9 +202,7 @@ pub fn step(octets: &mut [u8; 1024], h: Head, octet: u8) -> Move
     let m = move_of(h, octet);
     let at = h.length as usize;
     if m.store {
-        if at < 1024 {
-            octets[at] = m.octet;
-        }
+        octets[at] = m.octet;
     }
     m
 }

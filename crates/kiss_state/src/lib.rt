@@ -41,6 +41,7 @@ pub struct Stream {
     pub head: Head,
 }
 
+// No packet, and the count kept.
 pub fn none_in(h: Head, phase: u8) -> Head
     ensures { λ r. ⌜ r ≡ noneIn h phase ⌝ }
 {

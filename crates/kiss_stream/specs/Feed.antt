@@ -26,11 +26,13 @@ packetOf h = record { ready = 1; port = h .port; length = h .length }
 abbrev pub later : ℕ → Called → Called
 later n c = record { stream = c .stream; packet = c .packet; taken = n + c .taken }
 
+-- octet after octet, through the first that gives out a packet
 unfoldable pub takenFrom : Stream → List ℕ → Called
 takenFrom s [] = record { stream = s; packet = noPacket; taken = 0 }
 takenFrom s (b ∷ l) =
     cond (gives s b) (record { stream = stepOf s b; packet = packetOf (stepOf s b .head); taken = 1 }) (later 1 (takenFrom (stepOf s b) l))
 
+-- from any state: one that no call made is read as a fresh one
 unfoldable pub feedOf : Stream → List ℕ → Called
 feedOf s piece = takenFrom (settled s) piece
 

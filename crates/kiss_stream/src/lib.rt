@@ -11,7 +11,7 @@ ghost use mathlib.Core.Path.{_≡_};
 ghost use Prim.Native.Nat.{ℕ, _+_, _-_, _≤_};
 ghost use lib.ListN.{length};
 ghost use Rattle.kiss_state.specs.declared.Stream.{Stream};
-ghost use Rattle.kiss_state.specs.State.{inData, headOf, settledHead, streamOf};
+ghost use Rattle.kiss_state.specs.State.{inData, headOf, streamOf};
 ghost use Rattle.kiss_stream.specs.Feed.{packetOf, feedOf, fedOf};
 ghost use Rattle.kiss_stream.specs.Steps.{Reaches, Stores};
 

@@ -1,5 +1,5 @@
+-- A store lies within the room, by the law of the moves.
 use mathlib.Core.Path.{sym}
-use native.Mathlib.Omega.{arith}
 use Rattle.kiss_octet.specs.Step.{storedBy}
 use Rattle.kiss_octet.proofs.Laws.{store-room}
 use borrow.Author.Needs.{needs}
@@ -13,27 +13,21 @@ cast-at : tie.Need-cast-at
 cast-at c = search needs
 
 element-write-octets : tie.Need-element-write-octets
-element-write-octets c = search needs
+element-write-octets c =
+    let a = c .before .before .before .args in
+    store-room (a .h) (a .octet) (rw (c .before .before .move-of .ensures) at (c .if1 .taken))
 
 returns : tie.Need-returns
 unfolding storedBy
 returns c =
-    let e = c .before .before .before .move-of .ensures in
-    (e, rw (sym e) (simp (c .before .if1 .taken)))
+    let e = c .before .before .move-of .ensures in
+    (e, rw (sym e) (simp (c .if1 .taken)))
 
 returns-2 : tie.Need-returns-2
-returns-2 c =
-    let a = c .before .before .before .before .args in
-    let e = c .before .before .before .move-of .ensures in
-    let room = store-room (a .h) (a .octet) (rw e at (c .before .if1 .taken)) in
-    absurd (omega (arith, room, c .if2 .left))
-
-returns-3 : tie.Need-returns-3
 unfolding storedBy
-returns-3 c =
+returns-2 c =
     let e = c .before .before .move-of .ensures in
     (e, rw (sym e) (simp (c .if1 .left)))
 
 pub step-spec : {M : Type 1} → statement M
-step-spec =
-    tie.close (tie.spec move-of-requires cast-at element-write-octets returns returns-2 returns-3)
+step-spec = tie.close (tie.spec move-of-requires cast-at element-write-octets returns returns-2)
