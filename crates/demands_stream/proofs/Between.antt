@@ -3,6 +3,7 @@ use Prim.Native.Nat.{ℕ, suc, _+_, _≤_, _<_}
 use mathlib.Core.Path.{_≡_, refl, sym, ap, _∙_}
 use mathlib.Core.Bool.{Bool, true, false, cond, _&&_, false≢true}
 use mathlib.Core.List.{List, [], _∷_, _++_, append-nil}
+use mathlib.Core.Logic.{inr}
 use native.Mathlib.Numerals.{add-one}
 use native.Mathlib.Omega.{arith}
 use borrow.Author.Tests.{eqb-true, eq-eqb, ltb-true, ltb-false, lt-ltb, le-ltb, le-leb, lt-leb}
@@ -22,7 +23,7 @@ use Rattle.kiss_state.specs.State.{room, opened, inData, inEscape, dropping, in
 use Rattle.kiss_octet.specs.declared.Move.{Move}
 use Rattle.kiss_state.specs.declared.Stream.{Stream}
 use Rattle.kiss_octet.specs.Step.{countedOf, dropOf, quietOf, putOf, typedOf, strayOf, unescaped, outsideOf, openedOf, dataOf, moveOf, storedBy, stepOf, gives}
-use Rattle.kiss_octet.proofs.Laws.{type-stray}
+use Rattle.kiss_octet.proofs.Laws.{type-stray, plain-move, escape-move, fend-move, fesc-move, idle-move}
 use Rattle.demands_stream.specs.Run.{Run, giving, runOf}
 use Rattle.demands_stream.specs.Line.{own, whole, spoilt}
 
@@ -71,25 +72,12 @@ module _ (f : ℕ) (o : List ℕ) (n p d : ℕ) (b : ℕ) (l : List ℕ) where
   stray-opens is e = run-quiet (at f o n p d) b l (headOf 0 0 opened (countedOf d)) (is ∙ rw e refl)
 
 module _ (o : List ℕ) (n p d : ℕ) where
-  data-plain : (b : ℕ) → eqb b fend ≡ false → eqb b fesc ≡ false → moveOf (headOf n p inData d) b ≡ putOf (headOf n p inData d) b
-  unfolding moveOf dataOf
-  data-plain b f e = rw (f, e) refl
-
   data-escape : (b : ℕ) (l : List ℕ) → eqb b fend ≡ false → eqb b fesc ≡ true → runOf (at inData o n p d) (b ∷ l) ≡ runOf (at inEscape o n p d) l
-  unfolding moveOf dataOf
-  data-escape b l f e = run-quiet (at inData o n p d) b l (headOf n p inEscape d) (rw (f, e) refl)
+  data-escape b l f e = run-quiet (at inData o n p d) b l (headOf n p inEscape d) (escape-move (headOf n p inData d) b refl f e)
 
   data-closes : (l : List ℕ) → runOf (at inData o n p d) (fend ∷ l) ≡ giving true (at opened o n p d) (runOf (at opened o n p d) l)
   unfolding moveOf dataOf storedBy
   data-closes l = run-move (at inData o n p d) fend l _ refl
-
-  escape-fend : (b : ℕ) → eqb b tfend ≡ true → moveOf (headOf n p inEscape d) b ≡ putOf (headOf n p inEscape d) fend
-  unfolding moveOf unescaped
-  escape-fend b e = rw e refl
-
-  escape-fesc : (b : ℕ) → eqb b tfend ≡ false → eqb b tfesc ≡ true → moveOf (headOf n p inEscape d) b ≡ putOf (headOf n p inEscape d) fesc
-  unfolding moveOf unescaped
-  escape-fesc b e g = rw (e, g) refl
 
   escape-stray : (b : ℕ) → eqb b tfend ≡ false → eqb b tfesc ≡ false → moveOf (headOf n p inEscape d) b ≡ strayOf (headOf n p inEscape d) b
   unfolding moveOf unescaped
@@ -100,8 +88,7 @@ module _ (o : List ℕ) (n p d : ℕ) where
   type-strays b = type-stray (headOf n p inType d) b
 
   drops : (b : ℕ) (l : List ℕ) → eqb b fend ≡ false → runOf (at dropping o n p d) (b ∷ l) ≡ runOf (at dropping o n p d) l
-  unfolding moveOf outsideOf
-  drops b l f = run-quiet (at dropping o n p d) b l (headOf n p dropping d) (rw f refl)
+  drops b l f = run-quiet (at dropping o n p d) b l (headOf n p dropping d) (idle-move (headOf n p dropping d) b (inr refl) f)
 
   drop-opens : (l : List ℕ) → runOf (at dropping o n p d) (fend ∷ l) ≡ runOf (at opened o 0 0 d) l
   unfolding moveOf outsideOf
@@ -213,7 +200,7 @@ data-ends (x ∷ []) o n p d a r q =
     )
     (record { packets = refl; dropped = refl; opens = record { array = a; phase = refl } }))
     (λ e. rw (heard-plain x (fend ∷ []) (q .0) e)
-    (stored inData x x o n p d (fend ∷ []) a (data-plain o n p d x (q .0) e)
+    (stored inData x x o n p d (fend ∷ []) a (plain-move (headOf n p inData d) x refl (q .0) e)
     (λ m. data-ends [] (set o n x) (n + 1) p d (length-set o n x ∙ a) (omega (arith, m)) tt)
     (λ g. spoiled-ends [] o d g a tt)))
 data-ends (x ∷ y ∷ l) o n p d a r q =
@@ -224,12 +211,12 @@ data-ends (x ∷ y ∷ l) o n p d a r q =
     by (eqb x fesc)
     (λ e. rw (data-escape o n p d x (y ∷ k) (q .0) e)
     (by (eqb y tfend)
-    (λ t. rw (heard-tfend x y k (q .0) e t) (stored inEscape fend y o n p d k a (escape-fend o n p d y t) (rest fend) spoilt-rest))
+    (λ t. rw (heard-tfend x y k (q .0) e t) (stored inEscape fend y o n p d k a (fend-move (headOf n p inEscape d) y refl t) (rest fend) spoilt-rest))
     (λ t. by (eqb y tfesc)
-    (λ u. rw (heard-tfesc x y k (q .0) e t u) (stored inEscape fesc y o n p d k a (escape-fesc o n p d y t u) (rest fesc) spoilt-rest))
+    (λ u. rw (heard-tfesc x y k (q .0) e t u) (stored inEscape fesc y o n p d k a (fesc-move (headOf n p inEscape d) y refl t u) (rest fesc) spoilt-rest))
     (λ u. rw (heard-stray x y k (q .0) e t u, stray-in inEscape o n p d y k (escape-stray o n p d y t u) (q .1 .0)) (spoilt-rest _)))))
     (λ e. rw (heard-plain x (y ∷ k) (q .0) e)
-    (stored inData x x o n p d (y ∷ k) a (data-plain o n p d x (q .0) e)
+    (stored inData x x o n p d (y ∷ k) a (plain-move (headOf n p inData d) x refl (q .0) e)
     (λ m. data-ends (y ∷ l) (set o n x) (n + 1) p d (length-set o n x ∙ a) (omega (arith, m)) (q .1))
     (λ g. spoiled-ends (y ∷ l) o d g a (q .1))))
 

@@ -21,8 +21,8 @@ use Rattle.kiss_state.specs.declared.Head.{Head}
 use Rattle.kiss_state.specs.State.{room, outside, opened, inData, inEscape, inType}
 use Rattle.kiss_octet.specs.declared.Move.{Move}
 use Rattle.kiss_state.specs.declared.Stream.{Stream}
-use Rattle.kiss_octet.specs.Step.{lastCount, countedOf, dropOf, quietOf, strayOf, unescaped, outsideOf, openedOf, dataOf, moveOf, storedBy, stepOf, gives}
-use Rattle.kiss_octet.proofs.Laws.{move-by}
+use Rattle.kiss_octet.specs.Step.{lastCount, countedOf, dropOf, strayOf, unescaped, outsideOf, openedOf, dataOf, moveOf, storedBy, stepOf, gives}
+use Rattle.kiss_octet.proofs.Laws.{move-by, idle-move}
 use Rattle.demands_stream.specs.Run.{Run, packetIn, runOf, then}
 use Rattle.demands_stream.specs.Line.{own, whole, spoilt, between, cutAtFend, givenOut, atMost}
 use Rattle.demands_stream.proofs.Cut.{run-cut, given-stream}
@@ -162,13 +162,9 @@ pub record Fresh (s : Stream) : Type 0 where
   pub phase : s .head .phase ≡ outside
 
 -- nothing comes of what stands before it
-outside-same : (h : Head) (b : ℕ) → h .phase ≡ outside → eqb b fend ≡ false → moveOf h b ≡ quietOf h
-unfolding moveOf outsideOf
-outside-same h b p f = rw (p, f) refl
-
 outside-step : (s : Stream) (b : ℕ) → s .head .phase ≡ outside → eqb b fend ≡ false → stepOf s b ≡ s
 unfolding stepOf storedBy
-outside-step s b p f = rw (outside-same (s .head) b p f) refl
+outside-step s b p f = rw (idle-move (s .head) b (inl p) f) refl
 
 outside-fend : (s : Stream) → s .head .phase ≡ outside → (gives s fend ≡ false) × (stepOf s fend .head .dropped ≡ s .head .dropped)
 unfolding gives stepOf moveOf outsideOf

@@ -2,6 +2,7 @@
 use Prim.Native.Nat.{ℕ, _+_, _≤_, _<_}
 use mathlib.Core.Path.{_≡_, refl}
 use mathlib.Core.Bool.{true, false, cond, false≢true}
+use mathlib.Core.Logic.{_⊎_, inl, inr}
 use native.Mathlib.Omega.{arith}
 use borrow.Author.Tests.{eqb-true, ltb-true, ltb-false}
 use lib.Dec.{ltb, eqb}
@@ -11,7 +12,7 @@ use Rattle.octets.proofs.Choice.{by, either}
 use Rattle.escapes.specs.Escape.{fend, fesc, tfend, tfesc}
 use Rattle.kiss.specs.Packet.{lastPort}
 use Rattle.kiss_state.specs.declared.Head.{Head}
-use Rattle.kiss_state.specs.State.{room, opened, inData, inEscape, dropping, inType, headOf, phased, noneIn}
+use Rattle.kiss_state.specs.State.{room, outside, opened, inData, inEscape, dropping, inType, headOf, phased, noneIn}
 use Rattle.kiss_octet.specs.declared.Move.{Move}
 use Rattle.kiss_octet.specs.Step.{dropOf, quietOf, putOf, typedOf, strayOf, unescaped, outsideOf, openedOf, dataOf, moveOf}
 
@@ -22,6 +23,30 @@ type-stray h b =
     by (eqb b tfend)
     (λ e. rw (eqb-true b tfend e) refl)
     (λ e. by (eqb b tfesc) (λ f. rw (eqb-true b tfesc f) refl) (λ f. rw (e, f) refl))
+
+-- ---- what an octet does in a phase
+module _ (h : Head) (b : ℕ) where
+  pub plain-move : h .phase ≡ inData → eqb b fend ≡ false → eqb b fesc ≡ false → moveOf h b ≡ putOf h b
+  unfolding moveOf dataOf
+  plain-move p f e = rw (p, f, e) refl
+
+  pub escape-move : h .phase ≡ inData → eqb b fend ≡ false → eqb b fesc ≡ true → moveOf h b ≡ quietOf (phased h inEscape)
+  unfolding moveOf dataOf
+  escape-move p f e = rw (p, f, e) refl
+
+  pub fend-move : h .phase ≡ inEscape → eqb b tfend ≡ true → moveOf h b ≡ putOf h fend
+  unfolding moveOf unescaped
+  fend-move p e = rw (p, e) refl
+
+  pub fesc-move : h .phase ≡ inEscape → eqb b tfend ≡ false → eqb b tfesc ≡ true → moveOf h b ≡ putOf h fesc
+  unfolding moveOf unescaped
+  fesc-move p e f = rw (p, e, f) refl
+
+  -- before the first C0, and of a packet that is dropped
+  pub idle-move : (h .phase ≡ outside) ⊎ (h .phase ≡ dropping) → eqb b fend ≡ false → moveOf h b ≡ quietOf h
+  unfolding moveOf outsideOf
+  idle-move (inl p) e = rw (p, e) refl
+  idle-move (inr p) e = rw (p, e) refl
 
 -- ---- what holds of every move
 -- the moves that there are: what holds of each of them holds of what an octet does

@@ -3,19 +3,19 @@ use Prim.Native.Nat.{ℕ, _+_, _-_, _≤_, _<_}
 use mathlib.Core.Path.{_≡_, refl, ap, sym, _∙_}
 use mathlib.Core.Bool.{true, false, cond}
 use mathlib.Core.List.{List}
-use mathlib.Core.Logic.{_⊎_, inl, inr}
+use mathlib.Core.Logic.{_⊎_}
 use native.Mathlib.Numerals.{add-one}
 use native.Mathlib.Omega.{arith}
 use borrow.Author.Tests.{ne-eqb, lt-ltb}
-use lib.Dec.{eqb}
 use lib.ListN.{length, getD, set, drop, drop-of-length-le}
 use lib.Seq.{drop-cons}
 use Rattle.escapes.specs.Escape.{fend, fesc, tfend, tfesc}
 use Rattle.kiss_state.specs.declared.Head.{Head}
 use Rattle.kiss_state.specs.declared.Stream.{Stream}
-use Rattle.kiss_state.specs.State.{room, outside, inData, inEscape, dropping, headOf, phased, streamOf}
+use Rattle.kiss_state.specs.State.{room, outside, inData, inEscape, dropping, headOf, streamOf}
 use Rattle.kiss_octet.specs.declared.Move.{Move}
-use Rattle.kiss_octet.specs.Step.{quietOf, putOf, unescaped, outsideOf, dataOf, moveOf, storedBy, stepOf, gives}
+use Rattle.kiss_octet.specs.Step.{putOf, moveOf, storedBy, stepOf, gives}
+use Rattle.kiss_octet.proofs.Laws.{plain-move, escape-move, fend-move, fesc-move, idle-move}
 use Rattle.kiss_stream.specs.Feed.{Called, noPacket, packetOf, later, takenFrom}
 use Rattle.kiss_stream.specs.Steps.{Reaches, Stores}
 
@@ -57,25 +57,7 @@ unfolding takenFrom
 taken-ends w s l i e h = e ∙ rw (drop-of-length-le l h) (ap (λ (n : ℕ). record { stream = s; packet = noPacket; taken = n }) (omega arith))
 
 -- ---- the runs
--- an octet of data that stands for itself
-plain-move : (h : Head) (b : ℕ) → h .phase ≡ inData → eqb b fend ≡ false → eqb b fesc ≡ false → moveOf h b ≡ putOf h b
-unfolding moveOf dataOf
-plain-move h b p e f = rw (p, e, f) refl
-
--- one with its escape before it
-escape-move : (h : Head) → h .phase ≡ inData → moveOf h fesc ≡ quietOf (phased h inEscape)
-unfolding moveOf dataOf
-escape-move h p = rw p refl
-
-fend-move : (h : Head) → h .phase ≡ inEscape → moveOf h tfend ≡ putOf h fend
-unfolding moveOf unescaped
-fend-move h p = rw p refl
-
-fesc-move : (h : Head) → h .phase ≡ inEscape → moveOf h tfesc ≡ putOf h fesc
-unfolding moveOf unescaped
-fesc-move h p = rw p refl
-
--- it is stored where there is room
+-- an octet of data: it is stored where there is room
 taken-puts : (w : Called) (octets : List ℕ) (h : Head) (l : List ℕ) (i b : ℕ) → w ≡ later i (takenFrom (streamOf octets h) (drop i l))
     → i < length l → moveOf h (getD l i 0) ≡ putOf h b → h .length < room
     → w ≡ later (i + 1) (takenFrom (streamOf (set octets (h .length) b) (headOf (h .length + 1) (h .port) inData (h .dropped))) (drop (i + 1) l))
@@ -92,23 +74,18 @@ escape-stores : (l : List ℕ) (i b : ℕ) → i + 1 < length l → getD l i 0 �
     → ((h : Head) → h .phase ≡ inEscape → moveOf h (getD l (i + 1) 0) ≡ putOf h b) → Stores i b (i + 2) l
 unfolding storedBy
 escape-stores l i b far a puts octets n p d r =
-    let moves = rw (sym a) at (escape-move (headOf n p inData d) refl) in
+    let moves = rw (sym a) at (escape-move (headOf n p inData d) fesc refl refl refl) in
     let first = taken-goes _ octets (headOf n p inData d) l i _ octets refl (omega arith) (sym moves) (rw moves refl) refl in
     let on : i + 2 ≡ i + 1 + 1 = omega arith in
     rw on (taken-puts _ octets (headOf n p inEscape d) l (i + 1) b first far (puts (headOf n p inEscape d) refl) r)
 
 pub fend-stores : (l : List ℕ) (i : ℕ) → i + 1 < length l → getD l i 0 ≡ fesc → getD l (i + 1) 0 ≡ tfend → Stores i fend (i + 2) l
-fend-stores l i far a b = escape-stores l i fend far a (rw b fend-move)
+fend-stores l i far a b = escape-stores l i fend far a (rw b (λ h p. fend-move h tfend p refl))
 
 pub fesc-stores : (l : List ℕ) (i : ℕ) → i + 1 < length l → getD l i 0 ≡ fesc → getD l (i + 1) 0 ≡ tfesc → Stores i fesc (i + 2) l
-fesc-stores l i far a b = escape-stores l i fesc far a (rw b fesc-move)
+fesc-stores l i far a b = escape-stores l i fesc far a (rw b (λ h p. fesc-move h tfesc p refl refl))
 
 -- an octet that is passed over
-idle-move : (h : Head) (b : ℕ) → (h .phase ≡ outside) ⊎ (h .phase ≡ dropping) → eqb b fend ≡ false → moveOf h b ≡ quietOf h
-unfolding moveOf outsideOf
-idle-move h b (inl p) e = rw (p, e) refl
-idle-move h b (inr p) e = rw (p, e) refl
-
 pub taken-passes : (w : Called) (s : Stream) (l : List ℕ) (i : ℕ) → w ≡ later i (takenFrom s (drop i l)) → i < length l
     → (s .head .phase ≡ outside) ⊎ (s .head .phase ≡ dropping) → (getD l i 0 ≡ fend → ⊥) → w ≡ later (i + 1) (takenFrom s (drop (i + 1) l))
 unfolding storedBy

@@ -14,9 +14,9 @@ use denote.RattleType.{RattleType}
 use denote.Array.{Array}
 use denote.Builtin.{u8}
 use denote.Memory.{partAt, partOf}
-use denote.Struct.Declared.{field, fields}
+use denote.Struct.Declared.{field}
 use denote.Struct.Laws.{lawfuls}
-use denote.Struct.Members.{Member, rowsOf}
+use denote.Struct.Members.{Member}
 use denote.Struct.Parts.{PartsBack}
 use denote.Struct.Pick.{record-field-out, record-field-back}
 use Rattle.kiss_state.specs.declared.Head.{Head}
@@ -31,9 +31,6 @@ Octets = Array u8 1024
 
 abbrev pub members : List Member
 members = record { row = Octets; ty = tyArray (tyInt w8) 1024 } ∷ record { row = field Hd.the-type .row; ty = Hd′.mir } ∷ []
-
-rows-are : rowsOf members ≡ fields T.the-type
-rows-are = refl
 
 -- an array in a struct has its elements under a `map` that changes none
 as-is : (l : List ℕ) → map (λ (v : ℕ). v) l ≡ l
