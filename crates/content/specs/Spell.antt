@@ -70,7 +70,7 @@ hasInfo kind.UnknownContent = true
 abbrev pub spellContent : FrameContent → List ℕ → List ℕ
 spellContent k info = front k ++ info
 
--- plain: sequence numbers below 8, `Unknown` identifiers as `plainPid` has them, not `UnknownContent`
+-- plain: sequence numbers below 8, a plain protocol identifier, not `UnknownContent`
 abbrev pub PlainContent : FrameContent → Type 0
 PlainContent (kind.Information k) = (k .«receive_sequence» < 8) × (k .«send_sequence» < 8) × (plainPid (k .pid) ≡ true)
 PlainContent (kind.ReceiveReady k) = k .«receive_sequence» < 8

@@ -101,6 +101,7 @@ pub enum FrameContent {
 pub enum EncodeAnswer {
     Written,
     InfoNotAllowed,
+    PidOutsideClass,
     NoRoom,
 }
 
@@ -116,6 +117,7 @@ impl EncodeAnswer {
         match self {
             EncodeAnswer::Written => 0,
             EncodeAnswer::InfoNotAllowed => 23,
+            EncodeAnswer::PidOutsideClass => 25,
             EncodeAnswer::NoRoom => 24,
         }
     }

@@ -11,7 +11,7 @@ ghost use lib.ListN.{length};
 ghost use Rattle.octets.specs.Splice.{splice};
 ghost use Rattle.content.specs.Control.{uKind};
 ghost use Rattle.content.specs.Spell.{hasInfo, numbered, sent, unnumbered, flags, isResponse, front};
-ghost use Rattle.content.specs.Encode.{strayInfo, lacksRoom, encodeOf, encoded, four};
+ghost use Rattle.content.specs.Encode.{strayInfo, strayPid, lacksRoom, encodeOf, encoded, four};
 
 fn bit_if(on: bool, value: u8) -> u8
     ensures { λ r. ⌜ r ≡ cond on value 0 ⌝ }
@@ -179,6 +179,31 @@ impl FrameContent {
         carried != 0
     }
 
+    // A layer 3 identifier with an octet outside the class.
+    pub fn stray_pid(self) -> bool
+        ensures { λ r. ⌜ r ≡ strayPid self ⌝ }
+    {
+        match self {
+            FrameContent::Information(i) => {
+                let pid = i.pid;
+                pid.outside_class()
+            }
+            FrameContent::ReceiveReady(_) => false,
+            FrameContent::ReceiveNotReady(_) => false,
+            FrameContent::Reject(_) => false,
+            FrameContent::SetAsynchronousBalancedMode(_) => false,
+            FrameContent::Disconnect(_) => false,
+            FrameContent::DisconnectedMode(_) => false,
+            FrameContent::UnnumberedAcknowledge(_) => false,
+            FrameContent::FrameReject(_) => false,
+            FrameContent::UnnumberedInformation(ui) => {
+                let pid = ui.pid;
+                pid.outside_class()
+            }
+            FrameContent::UnknownContent => false,
+        }
+    }
+
     // Too little room for the content with info of this length. The sum of the lengths might not fit a usize, so none is made.
     fn lacks_room(self, carried: usize, room: usize) -> bool
         ensures { λ r. ⌜ r ≡ lacksRoom self carried room ⌝ }
@@ -216,6 +241,12 @@ impl FrameContent {
         if self.stray_info(info.len()) {
             return ContentWritten {
                 answer: EncodeAnswer::InfoNotAllowed,
+                length: 0,
+            };
+        }
+        if self.stray_pid() {
+            return ContentWritten {
+                answer: EncodeAnswer::PidOutsideClass,
                 length: 0,
             };
         }

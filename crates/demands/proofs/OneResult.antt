@@ -50,7 +50,8 @@ its-own number byNumber back a b e = sym (back a) ∙ ap byNumber e ∙ back b
 
 written : ℕ → WriteAnswer
 written n =
-    cond (eqb n 0) write.Accepted (cond (eqb n 21) write.RouteTooLong (cond (eqb n 22) write.NotEncodable (cond (eqb n 23) write.InfoNotAllowed write.NoRoom)))
+    cond (eqb n 0) write.Accepted (cond (eqb n 21) write.RouteTooLong (cond (eqb n 22) write.NotEncodable (cond (eqb n 23) write.InfoNotAllowed
+    (cond (eqb n 25) write.PidOutsideClass write.NoRoom))))
 
 written-back : (a : WriteAnswer) → written (writeNumber a) ≡ a
 unfolding written
@@ -58,6 +59,7 @@ written-back write.Accepted = refl
 written-back write.RouteTooLong = refl
 written-back write.NotEncodable = refl
 written-back write.InfoNotAllowed = refl
+written-back write.PidOutsideClass = refl
 written-back write.NoRoom = refl
 
 pub one-answer : (a b : WriteAnswer) → writeNumber a ≡ writeNumber b → a ≡ b

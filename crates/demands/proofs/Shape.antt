@@ -1,6 +1,6 @@
 -- What a plain frame spells has the shape that document 01 says.
 use Prim.Native.Nat.{ℕ, _+_, _*_}
-use mathlib.Core.Path.{_≡_, refl, sym, _∙_}
+use mathlib.Core.Path.{_≡_, ap, _∙_}
 use mathlib.Core.Bool.{true}
 use mathlib.Core.List.{List}
 use native.Mathlib.Omega.{arith}
@@ -8,10 +8,9 @@ use lib.ListN.{getD, List·getD-append}
 use lib.Seq.{getD-drop}
 use Rattle.octets.specs.Octet.{bit}
 use Rattle.octets.proofs.First.{first-before, first-passes}
-use Rattle.protocol.specs.Pid.{layer3, octetOf, pidOf}
-use Rattle.protocol.proofs.Laws.{octet-pid}
 use Rattle.content.specs.Spell.{hasInfo, front}
-use Rattle.lean.proofs.Laws.{front-two, front-pid, front-some, front-octets}
+use Rattle.content.specs.declared.FrameContent.{FrameContent}
+use Rattle.lean.proofs.Laws.{front-two, front-some}
 use Rattle.frame.specs.Spell.{spell, Plain}
 use Rattle.frame.specs.declared.Ax25Frame.{Ax25Frame}
 use Rattle.frame.proofs.Write.{spell-length}
@@ -36,10 +35,6 @@ module _ (f : Ax25Frame) (i : List ℕ) (p : Plain f i) where
     last = rw (spelled-end f i p) at (first-passes (bit 0) (spell f i) 0 (rw (spelled-end f i p) (omega (arith, spell-length f i, front-some (f .content) (p .content)))));
     marks = spelled-marks f i p;
     ones = spelled-reserved f i p;
-    class = λ e l.
-        let b : ℕ = getD (front (f .content)) 1 0 in
-        let same : getD (spell f i) (15 + 7 * n) 0 ≡ b = pid-at e in
-        let three : layer3 b ≡ true = rw same at l in
-        let ten : octetOf (pidOf b) ≡ 0x10 = octet-pid b (front-octets (f .content) (p .content) 1) ∙ rw three refl in
-        same ∙ sym (front-pid (f .content) (p .content) e) ∙ ten;
+    i-pid = λ k e. pid-at (ap hasInfo e) ∙ ap (λ (c : FrameContent). getD (front c) 1 0) e;
+    ui-pid = λ k e. pid-at (ap hasInfo e) ∙ ap (λ (c : FrameContent). getD (front c) 1 0) e;
   }

@@ -123,10 +123,10 @@ outcomes =
     }
     ∷ record {
       report = number 0;
-      frame = with (ui Layer3Impl);
+      frame = with (ui (Layer3Impl 0x20));
       info-start = 16;
       info-len = 0;
-      canonical = false;
-      again = addresses ++ (0x03 ∷ 0x10 ∷ []);
+      canonical = true;
+      again = addresses ++ (0x03 ∷ 0x20 ∷ []);
     }
     ∷ []

@@ -8,7 +8,7 @@ use Rattle.address.specs.Address.{encodable}
 use Rattle.text.specs.Text.{high, manyHyphens, badSsid, empty, long, strange, wide, callsignText, ssidValue}
 use Rattle.printing.specs.Print.{short}
 use Rattle.address.specs.declared.Address.{Address}
-use Rattle.content.specs.Encode.{strayInfo}
+use Rattle.content.specs.Encode.{strayInfo, strayPid}
 use Rattle.parse.specs.Numbers.{lacksPid, strangeS, strangeU, wrongFrmr}
 use Rattle.decode.specs.Read.{endOf}
 use Rattle.decode.specs.Numbers.{noStart, noEnd, shortField, noContent, manyRepeaters}
@@ -31,7 +31,7 @@ decodeTable s =
 abbrev pub writeTable : Ax25Frame → List ℕ → ℕ → Table
 writeTable f info room =
     (21, ltb 8 (f .«route_count»)) ∷ (22, not (frameEncodable f)) ∷ (23, strayInfo (f .content) (length info))
-    ∷ (24, ltb room (length (spell f info))) ∷ []
+    ∷ (25, strayPid (f .content)) ∷ (24, ltb room (length (spell f info))) ∷ []
 
 -- printing an address into so much room
 abbrev pub printTable : Address → ℕ → Table

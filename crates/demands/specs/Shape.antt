@@ -1,13 +1,15 @@
--- What document 01 says of the octets that a plain frame spells.
+-- What document 01 says of the octets that a plain frame spells, and document 02 of the PID's.
 use Prim.Native.Nat.{ℕ, _+_, _*_, _<_}
 use mathlib.Core.Path.{_≡_}
 use mathlib.Core.Bool.{true, false, not}
 use mathlib.Core.List.{List}
 use lib.ListN.{getD}
 use Rattle.octets.specs.Octet.{bit}
-use Rattle.protocol.specs.Pid.{layer3}
+use Rattle.protocol.specs.Pid.{octetOf}
 use Rattle.address.specs.Group.{markOf, reserved}
-use Rattle.content.specs.Spell.{hasInfo}
+use Rattle.content.specs.declared.Information.{Information}
+use Rattle.content.specs.declared.UnnumberedInformation.{UnnumberedInformation}
+use Rattle.content.specs.declared.FrameContent.the-variants as kind
 use Rattle.decode.specs.Read.{groupAt}
 use Rattle.frame.specs.Spell.{spell}
 use Rattle.frame.specs.declared.Ax25Frame.{Ax25Frame}
@@ -20,6 +22,7 @@ pub record Shape (f : Ax25Frame) (info : List ℕ) : Type 0 where
   pub marks : markOf (groupAt (spell f info) 7) ≡ not (markOf (groupAt (spell f info) 0))
   -- reserved bits are ones
   pub ones : (j : ℕ) → j < f .«route_count» + 2 → reserved (groupAt (spell f info) (7 * j)) ≡ true
-  -- the layer 3 class appears as 10 hex only
-  pub class : hasInfo (f .content) ≡ true → layer3 (getD (spell f info) (15 + 7 * f .«route_count») 0) ≡ true
-      → getD (spell f info) (15 + 7 * f .«route_count») 0 ≡ 0x10
+  -- the PID octet is the frame's own, of the layer 3 class too (document 02, M-105)
+  pub i-pid : (k : Information) → f .content ≡ kind.Information k → getD (spell f info) (15 + 7 * f .«route_count») 0 ≡ octetOf (k .pid)
+  pub ui-pid : (k : UnnumberedInformation) → f .content ≡ kind.UnnumberedInformation k
+      → getD (spell f info) (15 + 7 * f .«route_count») 0 ≡ octetOf (k .pid)

@@ -28,7 +28,7 @@ mark-past m h = List·getD-eq-default marks Absent (past m 2 h)
 
 pub pid-past : (case octet : ℕ) → Past case 15 → pidFrom case octet ≡ Unknown octet
 unfolding pidFrom
-pid-past case octet h = List·getD-eq-default pids (Unknown octet) (past case 15 h)
+pid-past case octet h = List·getD-eq-default (pids octet) (Unknown octet) (past case 15 h)
 
 pub content-past : (k : ℕ) (pid : ProtocolIdentifier) (f : FrameReject) → Past k 10 → contentWith k pid f ≡ UnknownContent
 unfolding contentWith

@@ -49,14 +49,14 @@ markFrom m = getD marks m Absent
 unfoldable pub responseFrom : ℕ → CommandResponse
 responseFrom r = cond (eqb r 0) frmr.Command frmr.Response
 
--- the cases in the order of the enum; 15 and more: `Unknown` with the octet
-abbrev pub pids : List ProtocolIdentifier
-pids =
-    Layer3Impl ∷ X25Plp ∷ CompressedTcpIp ∷ UncompressedTcpIp ∷ SegmentationFragment ∷ TexnetDatagram ∷ LinkQuality ∷ Appletalk
+-- the cases in the order of the enum, layer 3 with the octet; 15 and more: `Unknown` with it
+abbrev pub pids : ℕ → List ProtocolIdentifier
+pids octet =
+    Layer3Impl octet ∷ X25Plp ∷ CompressedTcpIp ∷ UncompressedTcpIp ∷ SegmentationFragment ∷ TexnetDatagram ∷ LinkQuality ∷ Appletalk
     ∷ AppletalkArp ∷ ArpaIp ∷ ArpaAddress ∷ Flexnet ∷ NetRom ∷ None ∷ Escape ∷ []
 
 unfoldable pub pidFrom : ℕ → ℕ → ProtocolIdentifier
-pidFrom case octet = getD pids case (Unknown octet)
+pidFrom case octet = getD (pids octet) case (Unknown octet)
 
 -- every field that some kind has, save the PID: those of FRMR. Content starts at `at`
 unfoldable pub fieldsAt : List ℕ → ℕ → FrameReject

@@ -47,9 +47,9 @@ abbrev pub responseFlat : CommandResponse → ℕ
 responseFlat frmr.Command = 0
 responseFlat frmr.Response = 1
 
--- a protocol identifier: its case, in the order of the enum, and the octet of `Unknown`
+-- a protocol identifier: its case, in the order of the enum, and the octet that layer 3 and `Unknown` carry
 abbrev pub pidCase : ProtocolIdentifier → ℕ
-pidCase Layer3Impl = 0
+pidCase (Layer3Impl b) = 0
 pidCase X25Plp = 1
 pidCase CompressedTcpIp = 2
 pidCase UncompressedTcpIp = 3
@@ -67,7 +67,7 @@ pidCase Escape = 14
 pidCase (Unknown b) = 15
 
 abbrev pub pidOctet : ProtocolIdentifier → ℕ
-pidOctet Layer3Impl = 0
+pidOctet (Layer3Impl b) = b
 pidOctet X25Plp = 0
 pidOctet CompressedTcpIp = 0
 pidOctet UncompressedTcpIp = 0

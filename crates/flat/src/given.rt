@@ -100,7 +100,7 @@ fn pid_from(case: u8, octet: u8) -> ProtocolIdentifier
     ensures { λ r. ⌜ r ≡ pidFrom case octet ⌝ }
 {
     match case {
-        0 => ProtocolIdentifier::Layer3Impl,
+        0 => ProtocolIdentifier::Layer3Impl(octet),
         1 => ProtocolIdentifier::X25Plp,
         2 => ProtocolIdentifier::CompressedTcpIp,
         3 => ProtocolIdentifier::UncompressedTcpIp,

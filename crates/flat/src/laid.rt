@@ -78,7 +78,7 @@ fn pid_case(pid: ProtocolIdentifier) -> u8
     ensures { λ r. ⌜ r ≡ pidCase pid ⌝ }
 {
     match pid {
-        ProtocolIdentifier::Layer3Impl => 0,
+        ProtocolIdentifier::Layer3Impl(_) => 0,
         ProtocolIdentifier::X25Plp => 1,
         ProtocolIdentifier::CompressedTcpIp => 2,
         ProtocolIdentifier::UncompressedTcpIp => 3,
@@ -97,12 +97,12 @@ fn pid_case(pid: ProtocolIdentifier) -> u8
     }
 }
 
-// The octet that `Unknown` holds.
+// The octet that layer 3 and `Unknown` carry.
 fn pid_octet(pid: ProtocolIdentifier) -> u8
     ensures { λ r. ⌜ r ≡ pidOctet pid ⌝ }
 {
     match pid {
-        ProtocolIdentifier::Layer3Impl => 0,
+        ProtocolIdentifier::Layer3Impl(octet) => octet,
         ProtocolIdentifier::X25Plp => 0,
         ProtocolIdentifier::CompressedTcpIp => 0,
         ProtocolIdentifier::UncompressedTcpIp => 0,

@@ -19,13 +19,13 @@ use Rattle.address.specs.Address.{encodable}
 use Rattle.address.specs.Group.{groupOf}
 use Rattle.address.proofs.Laws.{group-length}
 use Rattle.content.specs.Spell.{front}
-use Rattle.content.specs.Encode.{strayInfo, answerOf, encodeOf, encoded}
+use Rattle.content.specs.Encode.{strayInfo, strayPid, answerOf, encodeOf, encoded}
 use Rattle.content.specs.declared.EncodeAnswer.the-variants.{Written}
 use Rattle.content.proofs.Encode.{answer-written}
 use Rattle.frame.specs.Spell.{repeaterAt, groupsOf, destinationMark, sourceMark, addressField, spell}
 use Rattle.frame.specs.Write.{routeEncodable, frameEncodable, writeAnswer, Taken, octetsBy}
 use Rattle.frame.specs.declared.WriteAnswer.{WriteAnswer}
-use Rattle.frame.specs.declared.WriteAnswer.the-variants.{Accepted, RouteTooLong, NotEncodable, InfoNotAllowed, NoRoom}
+use Rattle.frame.specs.declared.WriteAnswer.the-variants.{Accepted, RouteTooLong, NotEncodable, InfoNotAllowed, PidOutsideClass, NoRoom}
 use Rattle.frame.proofs.WriteAnswer.{the-type}
 use Rattle.frame.specs.declared.Mark.{Mark}
 use Rattle.frame.specs.declared.Mark.the-variants.{Command, Response, Absent}
@@ -119,6 +119,7 @@ Says f info room Accepted = Taken f info room
 Says f info room RouteTooLong = Unit {0}
 Says f info room NotEncodable = Unit {0}
 Says f info room InfoNotAllowed = Unit {0}
+Says f info room PidOutsideClass = Unit {0}
 Says f info room NoRoom = Unit {0}
 
 says : (f : Ax25Frame) (info : List ℕ) (room : ℕ) → Says f info room (writeAnswer f info room)
@@ -128,8 +129,9 @@ says f info room =
     either P (ltb 8 (f .«route_count»)) (λ _. tt)
     (λ a. either P (not (frameEncodable f)) (λ _. tt)
     (λ b. either P (strayInfo (f .content) (length info)) (λ _. tt)
-    (λ c. either P (ltb room (length (spell f info))) (λ _. tt)
-    (λ d. record { count = ltb-false _ _ a; addresses = not-false _ b; info = c; room = ltb-false _ _ d }))))
+    (λ c. either P (strayPid (f .content)) (λ _. tt)
+    (λ d. either P (ltb room (length (spell f info))) (λ _. tt)
+    (λ e. record { count = ltb-false _ _ a; addresses = not-false _ b; info = c; pid = d; room = ltb-false _ _ e })))))
 
 pub accepted-taken : (f : Ax25Frame) (info : List ℕ) (room : ℕ) → writeAnswer f info room ≡ Accepted → Taken f info room
 unfolding Says
@@ -141,13 +143,15 @@ told-accepted Accepted h = refl
 told-accepted RouteTooLong h = absurd (miss (0 ∷ []) 1 tt h)
 told-accepted NotEncodable h = absurd (miss (0 ∷ []) 2 tt h)
 told-accepted InfoNotAllowed h = absurd (miss (0 ∷ []) 3 tt h)
-told-accepted NoRoom h = absurd (miss (0 ∷ []) 4 tt h)
+told-accepted PidOutsideClass h = absurd (miss (0 ∷ []) 4 tt h)
+told-accepted NoRoom h = absurd (miss (0 ∷ []) 5 tt h)
 
-pub told-refused : (a : WriteAnswer) (s : List ℕ) → OneOf (1 ∷ 2 ∷ 3 ∷ 4 ∷ []) (tagOf the-type a) → octetsBy a s ≡ []
-told-refused Accepted s h = absurd (miss (1 ∷ 2 ∷ 3 ∷ 4 ∷ []) 0 tt h)
+pub told-refused : (a : WriteAnswer) (s : List ℕ) → OneOf (1 ∷ 2 ∷ 3 ∷ 4 ∷ 5 ∷ []) (tagOf the-type a) → octetsBy a s ≡ []
+told-refused Accepted s h = absurd (miss (1 ∷ 2 ∷ 3 ∷ 4 ∷ 5 ∷ []) 0 tt h)
 told-refused RouteTooLong s h = refl
 told-refused NotEncodable s h = refl
 told-refused InfoNotAllowed s h = refl
+told-refused PidOutsideClass s h = refl
 told-refused NoRoom s h = refl
 
 -- the address field, then the content in the room that is left
@@ -171,7 +175,7 @@ module _ (f : Ax25Frame) (info l : List ℕ) (t : Taken f info (length l)) where
   content-written =
       let n : length after ≡ length l = splice-length l 0 (addressField f) in
       let m : length left ≡ length after - at = rw part-from (length-drop at after) in
-      answer-written (f .content) (length info) (length left) (t .info)
+      answer-written (f .content) (length info) (length left) (t .info) (t .pid)
       (le-ltb (length left) (length (front (f .content)) + length info) (omega (arith, fits)))
 
   pub content-length : encodeOf (f .content) (length info) (length left) .length ≡ length (front (f .content)) + length info

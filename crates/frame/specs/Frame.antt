@@ -40,4 +40,5 @@ writeNumber write.Accepted = 0
 writeNumber write.RouteTooLong = 21
 writeNumber write.NotEncodable = 22
 writeNumber write.InfoNotAllowed = 23
+writeNumber write.PidOutsideClass = 25
 writeNumber write.NoRoom = 24

@@ -1,4 +1,4 @@
--- Writing a frame: document 01's numbers 21 to 24 in their order, and the octets.
+-- Writing a frame: document 01's numbers 21 to 24 in their order, document 02's 25 (M-105) before 24, and the octets.
 use Prim.Native.Nat.{ℕ, zero, suc, _≤_}
 use mathlib.Core.Path.{_≡_}
 use mathlib.Core.Bool.{Bool, true, false, cond, not, _&&_}
@@ -6,13 +6,13 @@ use mathlib.Core.List.{List, []}
 use lib.Dec.{ltb}
 use lib.ListN.{length}
 use Rattle.address.specs.Address.{encodable}
-use Rattle.content.specs.Encode.{strayInfo}
+use Rattle.content.specs.Encode.{strayInfo, strayPid}
 use Rattle.frame.specs.Spell.{repeaterAt, spell}
 use Rattle.frame.specs.declared.RouteEntry.{RouteEntry}
 use Rattle.frame.specs.declared.Ax25Frame.{Ax25Frame}
 use Rattle.frame.specs.declared.Written.{Written}
 use Rattle.frame.specs.declared.WriteAnswer.{WriteAnswer}
-use Rattle.frame.specs.declared.WriteAnswer.the-variants.{Accepted, RouteTooLong, NotEncodable, InfoNotAllowed, NoRoom}
+use Rattle.frame.specs.declared.WriteAnswer.the-variants.{Accepted, RouteTooLong, NotEncodable, InfoNotAllowed, PidOutsideClass, NoRoom}
 
 -- the first n repeaters can be written
 unfoldable pub routeEncodable : List RouteEntry → ℕ → Bool
@@ -29,14 +29,16 @@ writeAnswer f info room =
     cond (ltb 8 (f .«route_count»)) RouteTooLong
     (cond (not (frameEncodable f)) NotEncodable
     (cond (strayInfo (f .content) (length info)) InfoNotAllowed
+    (cond (strayPid (f .content)) PidOutsideClass
     (cond (ltb room (length (spell f info))) NoRoom
-    Accepted)))
+    Accepted))))
 
--- what writing takes: none of the four refusals holds
+-- what writing takes: none of the five refusals holds
 pub record Taken (f : Ax25Frame) (i : List ℕ) (n : ℕ) : Type 0 where
   pub count : f .«route_count» ≤ 8
   pub addresses : frameEncodable f ≡ true
   pub info : strayInfo (f .content) (length i) ≡ false
+  pub pid : strayPid (f .content) ≡ false
   pub room : length (spell f i) ≤ n
 
 -- the octets that are written: what the frame spells, and none at a refusal
@@ -45,6 +47,7 @@ octetsBy Accepted s = s
 octetsBy RouteTooLong s = []
 octetsBy NotEncodable s = []
 octetsBy InfoNotAllowed s = []
+octetsBy PidOutsideClass s = []
 octetsBy NoRoom s = []
 
 unfoldable pub octetsWritten : Ax25Frame → List ℕ → ℕ → List ℕ

@@ -42,6 +42,7 @@ pub enum WriteAnswer {
     RouteTooLong,
     NotEncodable,
     InfoNotAllowed,
+    PidOutsideClass,
     NoRoom,
 }
 
@@ -60,6 +61,7 @@ impl WriteAnswer {
             WriteAnswer::RouteTooLong => 21,
             WriteAnswer::NotEncodable => 22,
             WriteAnswer::InfoNotAllowed => 23,
+            WriteAnswer::PidOutsideClass => 25,
             WriteAnswer::NoRoom => 24,
         }
     }

@@ -69,6 +69,9 @@ fn write_answer(frame: Ax25Frame, info: &[u8], room: usize) -> WriteAnswer
     if content.stray_info(info.len()) {
         return WriteAnswer::InfoNotAllowed;
     }
+    if content.stray_pid() {
+        return WriteAnswer::PidOutsideClass;
+    }
     let head = 14 + 7 * count + content.front_len();
     if room < head {
         return WriteAnswer::NoRoom;

@@ -11,7 +11,7 @@ use Rattle.octets.specs.Octet.{bit}
 use Rattle.octets.proofs.Choice.{by, either}
 use Rattle.octets.proofs.First.{first-all, first-le}
 use Rattle.parse.specs.Content as content
-use Rattle.content.specs.Encode.{strayInfo}
+use Rattle.content.specs.Encode.{strayInfo, strayPid}
 use Rattle.parse.specs.Numbers.{lacksPid, strangeS, strangeU, wrongFrmr}
 use Rattle.parse.proofs.Numbers.{numbers, rows-some}
 use Rattle.parse.specs.declared.ContentAnswer.{ContentAnswer}
@@ -70,10 +70,11 @@ decode-rows s =
 pub write-rows : (f : Ax25Frame) (info : List ℕ) (room : ℕ)
     → writeNumber (writeAnswer f info room)
     ≡ cond (ltb 8 (f .«route_count»)) 21 (cond (not (frameEncodable f)) 22 (cond (strayInfo (f .content) (length info)) 23
-    (cond (ltb room (length (spell f info))) 24 0)))
+    (cond (strayPid (f .content)) 25 (cond (ltb room (length (spell f info))) 24 0))))
 unfolding writeAnswer
 write-rows f info room =
     by (ltb 8 (f .«route_count»)) (λ a. simp a)
     (λ a. simp a (by (not (frameEncodable f)) (λ b. simp b)
     (λ b. simp b (by (strayInfo (f .content) (length info)) (λ c. simp c)
-    (λ c. simp c (by (ltb room (length (spell f info))) (λ d. simp d) (λ d. simp d)))))))
+    (λ c. simp c (by (strayPid (f .content)) (λ d. simp d)
+    (λ d. simp d (by (ltb room (length (spell f info))) (λ e. simp e) (λ e. simp e)))))))))

@@ -51,6 +51,7 @@ nothing write.Accepted s n = absurd (n refl)
 nothing write.RouteTooLong s n = refl
 nothing write.NotEncodable s n = refl
 nothing write.InfoNotAllowed s n = refl
+nothing write.PidOutsideClass s n = refl
 nothing write.NoRoom s n = refl
 
 pub refused-octets : (f : Ax25Frame) (info : List ℕ) (room : ℕ) → (writeNumber (writeAnswer f info room) ≡ 0 → ⊥) → octetsWritten f info room ≡ []
@@ -63,6 +64,7 @@ zero write.Accepted e = refl
 zero write.RouteTooLong e = absurd (omega (arith, e))
 zero write.NotEncodable e = absurd (omega (arith, e))
 zero write.InfoNotAllowed e = absurd (omega (arith, e))
+zero write.PidOutsideClass e = absurd (omega (arith, e))
 zero write.NoRoom e = absurd (omega (arith, e))
 
 pub accepted-octets : (f : Ax25Frame) (info : List ℕ) (room : ℕ) → writeNumber (writeAnswer f info room) ≡ 0

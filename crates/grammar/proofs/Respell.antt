@@ -12,6 +12,7 @@ use Rattle.octets.proofs.Choice.{by}
 use Rattle.address.specs.Address.{PlainAddress}
 use Rattle.content.specs.Spell.{hasInfo}
 use Rattle.content.specs.Encode.{strayInfo}
+use Rattle.content.proofs.Encode.{plain-pid}
 use Rattle.decode.specs.Answer.{isAccepted}
 use Rattle.decode.specs.Read.{acceptedWith, decode, infoIn}
 use Rattle.frame.specs.Write.{routeEncodable, frameEncodable, writeAnswer, octetsWritten, written}
@@ -84,7 +85,8 @@ plain-info f i p = by (hasInfo (f .content)) (λ e. rw e) (λ e. rw (e, p .bare 
 
 plain-written : (f : Ax25Frame) (i : List ℕ) (room : ℕ) → Plain f i → writeAnswer f i room ≡ cond (ltb room (length (spell f i))) NoRoom Accepted
 unfolding writeAnswer
-plain-written f i room p = simp (le-ltb 8 (f .«route_count») (p .count), plain-addresses f i p, plain-info f i p)
+plain-written f i room p =
+    simp (le-ltb 8 (f .«route_count») (p .count), plain-addresses f i p, plain-info f i p, plain-pid (f .content) (p .content))
 
 mark-written : (f : Ax25Frame) (i : List ℕ) (room : ℕ) → writeAnswer (withMark f) i room ≡ writeAnswer f i room
 unfolding writeAnswer frameEncodable withMark

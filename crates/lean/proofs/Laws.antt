@@ -1,14 +1,14 @@
 -- What upper layers rest on: plain content is read back from what it spells, and what reading accepts is plain and no longer when
 -- spelled again.
 use Prim.Native.Nat.{ℕ, _+_, _<_, _≤_}
-use mathlib.Core.Path.{_≡_, refl, ap, _∙_}
+use mathlib.Core.Path.{_≡_, refl, _∙_}
 use mathlib.Core.Bool.{Bool, true, false, false≢true}
 use mathlib.Core.List.{List, [], _++_}
 use native.Mathlib.Omega.{arith}
 use lib.ListN.{length, getD}
 use Rattle.octets.specs.Octet.{Octets}
 use Rattle.octets.proofs.Octet.{Each, octets-each}
-use Rattle.protocol.specs.Pid.{octetOf, pidOf}
+use Rattle.protocol.specs.Pid.{octetOf}
 use Rattle.protocol.proofs.Laws.{pid-plain, pid-octet, octet-below}
 use Rattle.content.specs.Control.{rr, rnr, rej, sabm, disc, dm, ua, frmr, ui}
 use Rattle.parse.specs.Content.{contentOf}
@@ -132,17 +132,3 @@ content-exact s o k e t = lean-exact s o t (accepted s k e)
 
 pub content-lean : (s : List ℕ) → Octets s → (k : FrameContent) → contentOf s ≡ Accepted k → spellContent k (infoOf k s) ≡ s → lean s ≡ true
 content-lean s o k e w = rw w at (lean-spelled k (infoOf k s) (content-plain s o k e) (λ h. rw h refl))
-
--- the PID octet of plain content with info is what writing gives of it
-pub front-pid : (k : FrameContent) → PlainContent k → hasInfo k ≡ true → octetOf (pidOf (getD (front k) 1 0)) ≡ getD (front k) 1 0
-front-pid (kind.Information k) h e = ap octetOf (pid-octet (k .pid) (h .2))
-front-pid (kind.ReceiveReady k) h e = absurd (false≢true e)
-front-pid (kind.ReceiveNotReady k) h e = absurd (false≢true e)
-front-pid (kind.Reject k) h e = absurd (false≢true e)
-front-pid (kind.SetAsynchronousBalancedMode k) h e = absurd (false≢true e)
-front-pid (kind.Disconnect k) h e = absurd (false≢true e)
-front-pid (kind.DisconnectedMode k) h e = absurd (false≢true e)
-front-pid (kind.UnnumberedAcknowledge k) h e = absurd (false≢true e)
-front-pid (kind.FrameReject k) h e = absurd (false≢true e)
-front-pid (kind.UnnumberedInformation k) h e = ap octetOf (pid-octet (k .pid) h)
-front-pid kind.UnknownContent h e = absurd h

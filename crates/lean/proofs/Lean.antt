@@ -10,13 +10,12 @@ use lib.ListN.{length, getD, drop}
 use Rattle.octets.specs.Octet.{Octets, field, bit, flag}
 use Rattle.octets.proofs.Choice.{both}
 use Rattle.octets.proofs.Octet.{octet-same, octet-where}
-use Rattle.protocol.specs.Pid.{octetOf}
-use Rattle.protocol.proofs.Laws.{pid-octet}
+use Rattle.protocol.proofs.Laws.{octet-pid}
 use Rattle.content.specs.Control.{rr, rnr, rej, sabm, disc, dm, ua, frmr, ui, receiveOf, sendOf, pollOf, sKind, uKind}
 use Rattle.parse.specs.Content.{responseOf}
 use Rattle.content.specs.Spell.{hasInfo, numbered, sent, unnumbered, flags, isResponse, front, spellContent, PlainContent}
 use Rattle.parse.specs.Numbers.{isI}
-use Rattle.lean.specs.Lean.{pidKept, frmrTidy, lean, infoOf}
+use Rattle.lean.specs.Lean.{frmrTidy, lean, infoOf}
 use Rattle.lean.proofs.Back.{flags-below, low-back}
 use Rattle.parse.proofs.Read.{Reads}
 use Rattle.parse.proofs.Read.Reads.{i-frame, rr-frame, rnr-frame, rej-frame, sabm-frame, disc-frame, dm-frame, ua-frame, frmr-frame, ui-frame}
@@ -72,11 +71,11 @@ module _ (s : List ℕ) where
   abbrev c : ℕ
   c = getD s 0 0
 
-  lean-i : isI c ≡ true → lean s ≡ pidKept (getD s 1 0)
+  lean-i : isI c ≡ true → lean s ≡ true
   unfolding lean
   lean-i e = simp e
 
-  lean-ui : uKind c ≡ ui → lean s ≡ pidKept (getD s 1 0)
+  lean-ui : uKind c ≡ ui → lean s ≡ true
   unfolding lean
   lean-ui e = simp (ne-eqb (field 0 1 c) 0 (λ z. omega arith), e)
 
@@ -110,8 +109,7 @@ module _ (s : List ℕ) (o : Octets s) (passed : lean s ≡ true) where
 
   pub lean-exact : {k : FrameContent} → Reads s k → spellContent k (infoOf k s) ≡ s
   lean-exact (i-frame n t) =
-      two-parts s _ _ n (sent-again (getD s 0 0) (o 0) t)
-      (eqb-true _ _ (sym (lean-i s (eq-eqb (field 0 1 (getD s 0 0)) 0 t)) ∙ passed))
+      two-parts s _ _ n (sent-again (getD s 0 0) (o 0) t) (octet-pid (getD s 1 0) (o 1))
   lean-exact (rr-frame n t) = s-exact rr refl t
   lean-exact (rnr-frame n t) = s-exact rnr refl t
   lean-exact (rej-frame n t) = s-exact rej refl t
@@ -125,7 +123,7 @@ module _ (s : List ℕ) (o : Octets s) (passed : lean s ≡ true) where
       (flags-again (getD s 1 0) (o 1) (eqb-true (field 4 4 (getD s 1 0)) 0 (tidy .0)))
       (copy-again (getD s 2 0) (o 2) (eqb-true (field 0 1 (getD s 2 0)) 0 (tidy .1))) refl
   lean-exact (ui-frame n t) =
-      two-parts s _ _ n (rw t at (unnumbered-again (getD s 0 0) (o 0))) (eqb-true _ _ (sym (lean-ui s t) ∙ passed))
+      two-parts s _ _ n (rw t at (unnumbered-again (getD s 0 0) (o 0))) (octet-pid (getD s 1 0) (o 1))
 
 low-none : (n : ℕ) (p : Bool) (m : ℕ) → field 0 1 (numbered n p (sent m)) ≡ 0
 low-none n p m = omega (arith, low-back n (sent m) (omega arith) p)
@@ -143,7 +141,6 @@ unnumbered-kind m false h e =
 pub lean-spelled : (k : FrameContent) (i : List ℕ) → PlainContent k → (hasInfo k ≡ false → i ≡ []) → lean (spellContent k i) ≡ true
 lean-spelled (kind.Information k) i h e =
     lean-i _ (eq-eqb _ 0 (low-none (k .«receive_sequence») (k .poll) (k .«send_sequence»)))
-    ∙ eq-eqb _ _ (ap octetOf (pid-octet (k .pid) (h .2)))
 lean-spelled (kind.ReceiveReady k) i h e =
     rw (e refl) (lean-s _ (low-two (k .«receive_sequence») (k .«poll_or_final») rr (omega arith) refl))
 lean-spelled (kind.ReceiveNotReady k) i h e =
@@ -160,5 +157,5 @@ lean-spelled (kind.FrameReject k) i h e =
     ∙ rw (eq-eqb (field 4 4 (flags k)) 0 (omega (arith, flags-below (k .z) (k .y) (k .x) (k .w))))
     (eq-eqb _ 0 (low-none (k .«receive_sequence») (isResponse (k .«command_response»)) (k .«send_sequence»))))
 lean-spelled (kind.UnnumberedInformation k) i h e =
-    lean-ui _ (unnumbered-kind ui (k .«poll_or_final») (omega arith) refl) ∙ eq-eqb _ _ (ap octetOf (pid-octet (k .pid) h))
+    lean-ui _ (unnumbered-kind ui (k .«poll_or_final») (omega arith) refl)
 lean-spelled kind.UnknownContent i h e = absurd h

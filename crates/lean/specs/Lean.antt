@@ -1,27 +1,22 @@
 -- Content octets that are just as writing gives them, tested octet by octet: what the canonical check asks of content.
 use Prim.Native.Nat.{ℕ}
-use mathlib.Core.Bool.{Bool, cond, _&&_, _||_}
+use mathlib.Core.Bool.{Bool, true, cond, _&&_, _||_}
 use mathlib.Core.List.{List, []}
 use lib.Dec.{eqb}
 use lib.ListN.{length, getD, drop}
 use Rattle.octets.specs.Octet.{field}
-use Rattle.protocol.specs.Pid.{octetOf, pidOf}
 use Rattle.content.specs.Spell.{hasInfo}
 use Rattle.parse.specs.Numbers.{isI, isUi, isFrmr}
 use Rattle.content.specs.declared.FrameContent.{FrameContent}
-
--- the PID octet is what writing gives of it
-abbrev pub pidKept : ℕ → Bool
-pidKept b = eqb (octetOf (pidOf b)) b
 
 -- FRMR's unnamed bits are zero: the high four of its flags, the low one of its sequence numbers
 abbrev pub frmrTidy : ℕ → ℕ → Bool
 frmrTidy flags n = eqb (field 4 4 flags) 0 && eqb (field 0 1 n) 0
 
--- the PID kept in I and UI; FRMR tidy; no tail in any other kind. For content that reading accepts
+-- I and UI as they are, since reading keeps every bit of theirs; FRMR tidy; no tail in any other kind. For content that reading accepts
 unfoldable pub lean : List ℕ → Bool
 lean s =
-    cond (isI (getD s 0 0) || isUi (getD s 0 0)) (pidKept (getD s 1 0))
+    cond (isI (getD s 0 0) || isUi (getD s 0 0)) true
     (cond (isFrmr (getD s 0 0)) (frmrTidy (getD s 1 0) (getD s 2 0))
     (eqb (length s) 1))
 

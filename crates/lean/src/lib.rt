@@ -1,22 +1,14 @@
 // Whether content is just as writing gives it.
-use protocol::ProtocolIdentifier;
 ghost use mathlib.Core.Path.{_≡_};
 ghost use lib.ListN.{getD};
 ghost use Rattle.parse.specs.Numbers.{isI};
-ghost use Rattle.lean.specs.Lean.{pidKept, frmrTidy, lean};
+ghost use Rattle.lean.specs.Lean.{frmrTidy, lean};
 
 // An octet, or 0 past the end.
 fn octet(bytes: &[u8], at: usize) -> u8
     ensures { λ r. ⌜ r ≡ getD (now (bytes .entry)) at 0 ⌝ }
 {
     if at < bytes.len() { bytes[at] } else { 0 }
-}
-
-fn pid_kept(octet: u8) -> bool
-    ensures { λ r. ⌜ r ≡ pidKept octet ⌝ }
-{
-    let pid = ProtocolIdentifier::from_byte(octet);
-    pid.to_byte() == octet
 }
 
 fn frmr_tidy(flags: u8, sequences: u8) -> bool
@@ -37,18 +29,18 @@ fn is_i(control: u8) -> bool
     low == 0
 }
 
-// Content from its control octet on: the PID as it is written, FRMR's unnamed bits zero, no tail. The answer means something only of
-// content that reading accepts: what is missing counts as 0 here, and nothing is refused.
+// Content from its control octet on: FRMR's unnamed bits zero, no tail; of I and UI every octet is written as it was read. The answer
+// means something only of content that reading accepts: what is missing counts as 0 here, and nothing is refused.
 pub fn is_lean(bytes: &[u8]) -> bool
     ensures { λ r. ⌜ r ≡ lean (now (bytes .entry)) ⌝ }
 {
     let control = octet(bytes, 0);
     if is_i(control) {
-        return pid_kept(octet(bytes, 1));
+        return true;
     }
     let kind = control & 0b1110_1111;
     if kind == 0b0000_0011 {
-        return pid_kept(octet(bytes, 1));
+        return true;
     }
     if kind == 0b1000_0111 {
         return frmr_tidy(octet(bytes, 1), octet(bytes, 2));

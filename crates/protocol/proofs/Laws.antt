@@ -1,21 +1,21 @@
 -- What reading an octet and writing it back gives, and the other way round. Upper crates rest on these and open no identifier.
 use Prim.Native.Nat.{ℕ, _<_}
 use mathlib.Core.Path.{_≡_, refl}
-use mathlib.Core.Bool.{true, false, cond, not, _&&_}
+use mathlib.Core.Bool.{true, false, not, _&&_}
 use mathlib.Core.List.{List, [], _∷_}
 use native.Mathlib.Omega.{arith}
 use borrow.Author.Tests.{ltb-true, not-true}
 use lib.Dec.{eqb, ltb}
 use Rattle.octets.proofs.Choice.{so, both, neither}
 use Rattle.octets.proofs.Octet.{octet-test, octet-same}
-use Rattle.protocol.specs.Pid.{layer3, octetOf, named, among, pidOf, hasOctet, plainPid}
+use Rattle.protocol.specs.Pid.{layer3, octetOf, named, among, pidOf, hasOctet, outsideClass, plainPid}
 use Rattle.protocol.specs.declared.ProtocolIdentifier.{ProtocolIdentifier}
 use Rattle.protocol.specs.declared.ProtocolIdentifier.the-variants.{Layer3Impl, X25Plp, CompressedTcpIp, UncompressedTcpIp, SegmentationFragment, TexnetDatagram, LinkQuality, Appletalk, AppletalkArp, ArpaIp, ArpaAddress, Flexnet, NetRom, None, Escape, Unknown}
 
--- an octet that is read and written back is itself, save that the layer 3 class is written 10 hex
-pub octet-pid : (b : ℕ) → b < 256 → octetOf (pidOf b) ≡ cond (layer3 b) 0x10 b
+-- an octet that is read and written back is itself
+pub octet-pid : (b : ℕ) → b < 256 → octetOf (pidOf b) ≡ b
 unfolding pidOf among
-octet-pid b h = octet-same (λ n. octetOf (pidOf n)) (λ n. cond (layer3 n) 0x10 n) tt b h
+octet-pid b h = octet-same (λ n. octetOf (pidOf n)) (λ n. n) tt b h
 
 -- what is read is plain
 pub pid-plain : (b : ℕ) → b < 256 → plainPid (pidOf b) ≡ true
@@ -33,7 +33,7 @@ among-none (p ∷ ps) b e =
 -- a plain identifier that is written and read back is itself
 pub pid-octet : (p : ProtocolIdentifier) → plainPid p ≡ true → pidOf (octetOf p) ≡ p
 unfolding pidOf among
-pid-octet Layer3Impl t = refl
+pid-octet (Layer3Impl b) t = rw (both (ltb b 256) (layer3 b) t .1) refl
 pid-octet X25Plp t = refl
 pid-octet CompressedTcpIp t = refl
 pid-octet UncompressedTcpIp t = refl
@@ -55,7 +55,7 @@ pid-octet (Unknown b) t =
 
 -- what is written of a plain identifier is an octet
 pub octet-below : (p : ProtocolIdentifier) → plainPid p ≡ true → octetOf p < 256
-octet-below Layer3Impl t = omega arith
+octet-below (Layer3Impl b) t = ltb-true b 256 (both (ltb b 256) (layer3 b) t .0)
 octet-below X25Plp t = omega arith
 octet-below CompressedTcpIp t = omega arith
 octet-below UncompressedTcpIp t = omega arith
@@ -72,3 +72,22 @@ octet-below None t = omega arith
 octet-below Escape t = omega arith
 octet-below (Unknown b) t =
     ltb-true b 256 (both (ltb b 256) (not (layer3 b)) (both (ltb b 256 && not (layer3 b)) _ t .0) .0)
+
+-- a plain layer 3 identifier has an octet of the class
+pub plain-inside : (p : ProtocolIdentifier) → plainPid p ≡ true → outsideClass p ≡ false
+plain-inside (Layer3Impl b) t = rw (both (ltb b 256) (layer3 b) t .1) refl
+plain-inside X25Plp t = refl
+plain-inside CompressedTcpIp t = refl
+plain-inside UncompressedTcpIp t = refl
+plain-inside SegmentationFragment t = refl
+plain-inside TexnetDatagram t = refl
+plain-inside LinkQuality t = refl
+plain-inside Appletalk t = refl
+plain-inside AppletalkArp t = refl
+plain-inside ArpaIp t = refl
+plain-inside ArpaAddress t = refl
+plain-inside Flexnet t = refl
+plain-inside NetRom t = refl
+plain-inside None t = refl
+plain-inside Escape t = refl
+plain-inside (Unknown b) t = refl

@@ -11,10 +11,10 @@ use Rattle.protocol.specs.declared.ProtocolIdentifier.the-variants.{Laye
 abbrev pub layer3 : ℕ → Bool
 layer3 b = eqb (field 4 2 b) 1 || eqb (field 4 2 b) 2
 
--- the octet that is written. Of the layer 3 class it is 10 hex (docs/DIFFERENCES.md, A6); FF hex stands alone, without a second octet of
--- the identifier (A11)
+-- the octet that is written. A layer 3 identifier carries its own (docs/DIFFERENCES.md, B6); FF hex stands alone, without a second octet
+-- of the identifier (A11)
 abbrev pub octetOf : ProtocolIdentifier → ℕ
-octetOf Layer3Impl = 0x10
+octetOf (Layer3Impl b) = b
 octetOf X25Plp = 0x01
 octetOf CompressedTcpIp = 0x06
 octetOf UncompressedTcpIp = 0x07
@@ -44,16 +44,35 @@ among (p ∷ ps) b = cond (eqb b (octetOf p)) p (among ps b)
 
 -- the identifier of an octet: the class first, then the names
 unfoldable pub pidOf : ℕ → ProtocolIdentifier
-pidOf b = cond (layer3 b) Layer3Impl (among named b)
+pidOf b = cond (layer3 b) (Layer3Impl b) (among named b)
 
 -- whether an octet is one of a list's
 unfoldable pub hasOctet : List ProtocolIdentifier → ℕ → Bool
 hasOctet [] b = false
 hasOctet (p ∷ ps) b = eqb b (octetOf p) || hasOctet ps b
 
--- plain: `Unknown` only with an octet of neither the layer 3 class nor the named list
+-- a layer 3 identifier with an octet outside the class: no octet is read as one
+abbrev pub outsideClass : ProtocolIdentifier → Bool
+outsideClass (Layer3Impl b) = not (layer3 b)
+outsideClass X25Plp = false
+outsideClass CompressedTcpIp = false
+outsideClass UncompressedTcpIp = false
+outsideClass SegmentationFragment = false
+outsideClass TexnetDatagram = false
+outsideClass LinkQuality = false
+outsideClass Appletalk = false
+outsideClass AppletalkArp = false
+outsideClass ArpaIp = false
+outsideClass ArpaAddress = false
+outsideClass Flexnet = false
+outsideClass NetRom = false
+outsideClass None = false
+outsideClass Escape = false
+outsideClass (Unknown b) = false
+
+-- plain: layer 3 only with an octet of the class, `Unknown` only with one of neither the class nor the named list
 abbrev pub plainPid : ProtocolIdentifier → Bool
-plainPid Layer3Impl = true
+plainPid (Layer3Impl b) = ltb b 256 && layer3 b
 plainPid X25Plp = true
 plainPid CompressedTcpIp = true
 plainPid UncompressedTcpIp = true

@@ -1,10 +1,11 @@
 // The protocol identifier (PID) of I and UI frames: from its octet, and back.
 ghost use mathlib.Core.Path.{_≡_};
-ghost use Rattle.protocol.specs.Pid.{pidOf, octetOf};
+ghost use Rattle.protocol.specs.Pid.{layer3, pidOf, octetOf, outsideClass};
 
 // Human-readable protocol identifiers, mostly from the AX.25 2.2 spec.
 pub enum ProtocolIdentifier {
-    Layer3Impl,
+    // The class has many octets: this is the one that was read, and writing returns it.
+    Layer3Impl(u8),
     X25Plp,
     CompressedTcpIp,
     UncompressedTcpIp,
@@ -22,14 +23,20 @@ pub enum ProtocolIdentifier {
     Unknown(u8),
 }
 
+// The layer 3 class is told by two bits alone, whatever the others are.
+fn is_layer3(byte: u8) -> bool
+    ensures { λ r. ⌜ r ≡ layer3 byte ⌝ }
+{
+    let class = byte & 0b0011_0000;
+    class == 0b0001_0000 || class == 0b0010_0000
+}
+
 impl ProtocolIdentifier {
     pub fn from_byte(byte: u8) -> ProtocolIdentifier
         ensures { λ r. ⌜ r ≡ pidOf byte ⌝ }
     {
-        // The layer 3 class is told by two bits alone, whatever the others are.
-        let class = byte & 0b0011_0000;
-        if class == 0b0001_0000 || class == 0b0010_0000 {
-            return ProtocolIdentifier::Layer3Impl;
+        if is_layer3(byte) {
+            return ProtocolIdentifier::Layer3Impl(byte);
         }
         match byte {
             0x01 => ProtocolIdentifier::X25Plp,
@@ -54,8 +61,7 @@ impl ProtocolIdentifier {
         ensures { λ r. ⌜ r ≡ octetOf self ⌝ }
     {
         match self {
-            // One octet stands for the whole class: docs/DIFFERENCES.md, A6.
-            ProtocolIdentifier::Layer3Impl => 0b0001_0000,
+            ProtocolIdentifier::Layer3Impl(octet) => octet,
             ProtocolIdentifier::X25Plp => 0x01,
             ProtocolIdentifier::CompressedTcpIp => 0x06,
             ProtocolIdentifier::UncompressedTcpIp => 0x07,
@@ -72,5 +78,15 @@ impl ProtocolIdentifier {
             ProtocolIdentifier::Escape => 0xFF,
             ProtocolIdentifier::Unknown(pid) => pid,
         }
+    }
+
+    // A layer 3 identifier with an octet that is not of the class. Reading never gives one; a frame that has one is not written.
+    pub fn outside_class(self) -> bool
+        ensures { λ r. ⌜ r ≡ outsideClass self ⌝ }
+    {
+        let ProtocolIdentifier::Layer3Impl(octet) = self else {
+            return false;
+        };
+        !is_layer3(octet)
     }
 }

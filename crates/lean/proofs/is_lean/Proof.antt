@@ -23,36 +23,21 @@ octet-requires c κs = search needs
 is-i-requires : tie.Need-is-i-requires
 is-i-requires c κs = search needs
 
-octet-requires-2 : tie.Need-octet-requires-2
-octet-requires-2 c κs = search needs
-
-pid-kept-requires : tie.Need-pid-kept-requires
-pid-kept-requires c κs = search needs
-
 returns : tie.Need-returns
 unfolding lean
-returns c =
-    let t = c .before .before in
-    simp (i-test (t .before), t .if1 .taken, c .pid-kept .ensures, c .before .octet2 .ensures)
-
-octet-requires-3 : tie.Need-octet-requires-3
-octet-requires-3 c κs = search needs
-
-pid-kept-requires-2 : tie.Need-pid-kept-requires-2
-pid-kept-requires-2 c κs = search needs
+returns c = simp (i-test (c .before), c .if1 .taken)
 
 returns-2 : tie.Need-returns-2
 unfolding lean
 returns-2 c =
-    let t = c .before .before in
-    let e = t .before in
-    simp (i-test (e .before), e .if1 .left, eq-eqb _ _ (sym (kind e) ∙ t .if2 .taken), c .pid-kept2 .ensures, c .before .octet3 .ensures)
+    let e = c .before in
+    simp (i-test (e .before), e .if1 .left, eq-eqb _ _ (sym (kind e) ∙ c .if2 .taken))
 
-octet-requires-4 : tie.Need-octet-requires-4
-octet-requires-4 c κs = search needs
+octet-requires-2 : tie.Need-octet-requires-2
+octet-requires-2 c κs = search needs
 
-octet-requires-5 : tie.Need-octet-requires-5
-octet-requires-5 c κs = search needs
+octet-requires-3 : tie.Need-octet-requires-3
+octet-requires-3 c κs = search needs
 
 frmr-tidy-requires : tie.Need-frmr-tidy-requires
 frmr-tidy-requires c κs = search needs
@@ -69,8 +54,8 @@ returns-3 c =
       ne-eqb _ _ (λ q. u .if2 .left (kind e ∙ q)),
       eq-eqb _ _ (sym (kind e) ∙ t .if3 .taken),
       c .frmr-tidy .ensures,
-      c .before .octet5 .ensures,
-      c .before .before .octet4 .ensures,
+      c .before .octet3 .ensures,
+      c .before .before .octet2 .ensures,
     )
 
 returns-4 : tie.Need-returns-4
@@ -86,14 +71,10 @@ is-lean-spec =
     (tie.spec
     octet-requires
     is-i-requires
-    octet-requires-2
-    pid-kept-requires
     returns
-    octet-requires-3
-    pid-kept-requires-2
     returns-2
-    octet-requires-4
-    octet-requires-5
+    octet-requires-2
+    octet-requires-3
     frmr-tidy-requires
     returns-3
     returns-4)

@@ -6,9 +6,10 @@ use borrow.Author.Tests.{lt-ltb, le-ltb, not-true, not-false}
 use lib.Dec.{ltb}
 use lib.ListN.{length}
 use Rattle.content.proofs.Encode.{front-short}
+use Rattle.content.specs.Encode.{strayPid}
 use Rattle.frame.specs.Spell.{spell}
 use Rattle.frame.specs.Write.{writeAnswer}
-use Rattle.frame.specs.declared.WriteAnswer.the-variants.{Accepted, NoRoom}
+use Rattle.frame.specs.declared.WriteAnswer.the-variants.{Accepted, PidOutsideClass, NoRoom}
 use Rattle.frame.proofs.Write.{spell-length}
 use borrow.Author.Needs.{needs}
 use Rattle.frame.proofs.writing.write_answer.Statement.{statement}
@@ -38,6 +39,26 @@ returns-3 c =
       sym (c .before .stray-info .ensures) ∙ c .if3 .taken,
     )
 
+stray-pid-requires : tie.Need-stray-pid-requires
+stray-pid-requires c κs = search needs
+
+-- past the first three tests, the identifier and the room decide
+fitting : (c : tie.Else3) →
+    let a = c .before .before .before .before .before .before .args in
+    writeAnswer (a .frame) (a .info .now) (a .room)
+    ≡ cond (strayPid (a .frame .content)) PidOutsideClass (cond (ltb (a .room) (length (spell (a .frame) (a .info .now)))) NoRoom Accepted)
+unfolding writeAnswer
+fitting c =
+    let e = c .before .before in
+    simp (
+      le-ltb _ _ (e .before .before .if1 .left),
+      sym (e .before .frame-encodable .ensures) ∙ not-false _ (e .if2 .left),
+      sym (c .before .stray-info .ensures) ∙ c .if3 .left,
+    )
+
+returns-4 : tie.Need-returns-4
+returns-4 c = simp (fitting (c .before .before), sym (c .before .stray-pid .ensures) ∙ c .if4 .taken)
+
 mul-head : tie.Need-mul-head
 mul-head c = search needs
 
@@ -49,42 +70,35 @@ front-len-requires c κs = search needs
 
 add-head-2 : tie.Need-add-head-2
 add-head-2 c =
-    let a = c .before .before .before .before .before .before .before .args in
+    let a = c .before .before .before .before .before .before .before .before .before .args in
     omega (arith, c .front-len .ensures, front-short (a .frame .content))
 
--- past the first three tests, the room decides
-fitting : (c : tie.Else3) →
-    let a = c .before .before .before .before .before .before .args in
+-- past the first four, the room
+roomy : (c : tie.Else4) →
+    let a = c .before .before .before .before .before .before .before .before .args in
     writeAnswer (a .frame) (a .info .now) (a .room) ≡ cond (ltb (a .room) (length (spell (a .frame) (a .info .now)))) NoRoom Accepted
-unfolding writeAnswer
-fitting c =
-    let e = c .before .before in
-    simp (
-      le-ltb _ _ (e .before .before .if1 .left),
-      sym (e .before .frame-encodable .ensures) ∙ not-false _ (e .if2 .left),
-      sym (c .before .stray-info .ensures) ∙ c .if3 .left,
-    )
-
-returns-4 : tie.Need-returns-4
-returns-4 c =
-    let l = c .before in
-    let a = l .before .before .before .before .before .before .before .args in
-    let n = spell-length (a .frame) (a .info .now) in
-    simp (fitting (l .before), lt-ltb (a .room) (length (spell (a .frame) (a .info .now))) (omega (arith, l .front-len .ensures)))
+roomy c = simp (fitting (c .before .before), sym (c .before .stray-pid .ensures) ∙ c .if4 .left)
 
 returns-5 : tie.Need-returns-5
 returns-5 c =
-    let l = c .before .before in
-    let a = l .before .before .before .before .before .before .before .args in
+    let l = c .before in
+    let a = l .before .before .before .before .before .before .before .before .before .args in
     let n = spell-length (a .frame) (a .info .now) in
-    simp (fitting (l .before), lt-ltb (a .room) (length (spell (a .frame) (a .info .now))) (omega (arith, l .front-len .ensures)))
+    simp (roomy (l .before), lt-ltb (a .room) (length (spell (a .frame) (a .info .now))) (omega (arith, l .front-len .ensures)))
 
 returns-6 : tie.Need-returns-6
 returns-6 c =
     let l = c .before .before in
-    let a = l .before .before .before .before .before .before .before .args in
+    let a = l .before .before .before .before .before .before .before .before .before .args in
     let n = spell-length (a .frame) (a .info .now) in
-    simp (fitting (l .before), le-ltb (a .room) (length (spell (a .frame) (a .info .now))) (omega (arith, l .front-len .ensures)))
+    simp (roomy (l .before), lt-ltb (a .room) (length (spell (a .frame) (a .info .now))) (omega (arith, l .front-len .ensures)))
+
+returns-7 : tie.Need-returns-7
+returns-7 c =
+    let l = c .before .before in
+    let a = l .before .before .before .before .before .before .before .before .before .args in
+    let n = spell-length (a .frame) (a .info .now) in
+    simp (roomy (l .before), le-ltb (a .room) (length (spell (a .frame) (a .info .now))) (omega (arith, l .front-len .ensures)))
 
 pub write-answer-spec : {M : Type 1} → statement M
 write-answer-spec =
@@ -95,10 +109,12 @@ write-answer-spec =
     returns-2
     stray-info-requires
     returns-3
+    stray-pid-requires
+    returns-4
     mul-head
     add-head
     front-len-requires
     add-head-2
-    returns-4
     returns-5
-    returns-6)
+    returns-6
+    returns-7)

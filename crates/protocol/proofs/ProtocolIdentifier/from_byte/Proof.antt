@@ -1,27 +1,17 @@
--- `from_byte` gives the identifier of the octet: the class by its two bits, a name by its octet, else `Unknown`.
-use Prim.Native.Nat.{ℕ, _*_}
-use mathlib.Core.Path.{_≡_, ap, sym}
-use mathlib.Core.Logic.{⊎-elim}
-use native.Mathlib.Omega.{arith}
-use borrow.Author.Tests.{ne-eqb, eqb-true, eqb-false}
-use lib.Bits.{bitAnd, and-high}
-use Rattle.octets.specs.Octet.{field}
+-- `from_byte` gives the identifier of the octet: the class first, a name by its octet, else `Unknown`.
+use mathlib.Core.Path.{_≡_, ap, sym, _∙_}
+use borrow.Author.Needs.{needs}
+use borrow.Author.Tests.{ne-eqb}
 use Rattle.protocol.specs.Pid.{pidOf, among}
 use Rattle.protocol.proofs.ProtocolIdentifier.from_byte.Statement.{statement}
 use Rattle.protocol.proofs.ProtocolIdentifier.from_byte.Tie as tie
 
--- the code's mask and the field of the definition
-class : (b : ℕ) → bitAnd b 0x30 ≡ field 4 2 b * 16
-class b = and-high b 2 4
+is-layer3-requires : tie.Need-is-layer3-requires
+is-layer3-requires c κs = search needs
 
 returns : tie.Need-returns
 unfolding pidOf
-returns c =
-    let b : ℕ = c .before .args .byte in
-    ⊎-elim
-    (λ w. let e : field 4 2 b ≡ 1 = omega (arith, class b, w .taken) in rw e)
-    (λ w. let e : field 4 2 b ≡ 2 = omega (arith, class b, eqb-true (bitAnd b 0x30) 0x20 (w .1 .taken)) in rw e)
-    (c .if1 .came)
+returns c = simp (sym (c .before .is-layer3 .ensures), c .if1 .taken)
 
 returns-2 : tie.Need-returns-2
 unfolding pidOf among
@@ -81,16 +71,13 @@ returns-15 c = ap pidOf (sym (c .match .keys14))
 
 returns-16 : tie.Need-returns-16
 unfolding pidOf among
-returns-16 c =
-    let b : ℕ = c .before .before .before .args .byte in
-    let one : (field 4 2 b ≡ 1 → ⊥) = λ e. c .before .before .if1 .left (omega (arith, class b)) in
-    let two : (field 4 2 b ≡ 2 → ⊥) = λ e. eqb-false (bitAnd b 0x30) 0x20 (c .before .if2 .left) (omega (arith, class b)) in
-    search (ne-eqb, c .match .rest)
+returns-16 c = search (ne-eqb, c .match .rest, sym (c .before .before .is-layer3 .ensures) ∙ c .before .if1 .left)
 
 pub from-byte-spec : {M : Type 1} → statement M
 from-byte-spec =
     tie.close
     (tie.spec
+    is-layer3-requires
     returns
     returns-2
     returns-3
