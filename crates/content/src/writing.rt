@@ -179,7 +179,7 @@ impl FrameContent {
         carried != 0
     }
 
-    // A layer 3 identifier with an octet outside the class.
+    // A layer 3 identifier with an octet outside the class: only I and UI have one.
     pub fn stray_pid(self) -> bool
         ensures { λ r. ⌜ r ≡ strayPid self ⌝ }
     {
@@ -188,19 +188,11 @@ impl FrameContent {
                 let pid = i.pid;
                 pid.outside_class()
             }
-            FrameContent::ReceiveReady(_) => false,
-            FrameContent::ReceiveNotReady(_) => false,
-            FrameContent::Reject(_) => false,
-            FrameContent::SetAsynchronousBalancedMode(_) => false,
-            FrameContent::Disconnect(_) => false,
-            FrameContent::DisconnectedMode(_) => false,
-            FrameContent::UnnumberedAcknowledge(_) => false,
-            FrameContent::FrameReject(_) => false,
             FrameContent::UnnumberedInformation(ui) => {
                 let pid = ui.pid;
                 pid.outside_class()
             }
-            FrameContent::UnknownContent => false,
+            _ => false,
         }
     }
 

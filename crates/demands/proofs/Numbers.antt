@@ -1,7 +1,8 @@
 -- Demand 1, proved: each number is given exactly when its row is the first of its table that holds; nothing decodes to
 -- `UnknownContent`.
 use Prim.Native.Nat.{ℕ}
-use mathlib.Core.Path.{_≡_, refl, ap, _∙_}
+use mathlib.Core.Path.{_≡_, refl, ap, sym, _∙_}
+use mathlib.Core.Bool.{true, false≢true}
 use mathlib.Core.List.{List, []}
 use mathlib.Core.Logic.{_↔_}
 use lib.ListN.{length}
@@ -12,6 +13,8 @@ use Rattle.printing.specs.Print.{printNumberOf, printed}
 use Rattle.address.specs.declared.Address.{Address}
 use Rattle.text.proofs.Laws.{text-numbers, parts-numbers}
 use Rattle.printing.proofs.Laws.{print-numbers}
+use Rattle.content.specs.Encode.{strayInfo, strayPid}
+use Rattle.content.proofs.Encode.{stray-one}
 use Rattle.decode.specs.Answer.{numberOf}
 use Rattle.frame.specs.Frame.{writeNumber}
 use Rattle.decode.specs.Read.{decode}
@@ -51,6 +54,10 @@ parts c ssid n = by-table _ (partsTable c ssid) (parts-numbers c ssid) n
 pub text : (t : List ℕ) (n : ℕ) → (addressNumberOf (readText t .answer) ≡ n) ↔ FirstRow (textTable t) n
 unfolding given
 text t n = by-table _ (textTable t) (text-numbers t) n
+
+-- 23 and 25 never hold of the same frame
+pub info-or-pid : (f : Ax25Frame) (n : ℕ) → strayInfo (f .content) n ≡ true → strayPid (f .content) ≡ true → ⊥
+info-or-pid f n i p = false≢true (sym (stray-one (f .content) n i) ∙ p)
 
 -- a refused write has length 0, and what it leaves in a buffer is what was there
 pub refused-write : (f : Ax25Frame) (info : List ℕ) (room : ℕ) → (writeNumber (writeAnswer f info room) ≡ 0 → ⊥)

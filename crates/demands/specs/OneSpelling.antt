@@ -1,12 +1,13 @@
 -- Demand 3: one spelling.
-use Prim.Native.Nat.{ℕ, _≤_}
+use Prim.Native.Nat.{ℕ, _+_, _*_, _≤_}
 use mathlib.Core.Path.{_≡_}
 use mathlib.Core.Bool.{true}
 use mathlib.Core.List.{List}
 use mathlib.Core.Logic.{_↔_}
-use lib.ListN.{length}
+use lib.ListN.{length, drop}
+use Rattle.content.specs.Spell.{hasInfo}
 use Rattle.decode.specs.Answer.{isAccepted}
-use Rattle.decode.specs.Read.{decode, infoIn}
+use Rattle.decode.specs.Read.{endOf, decode, infoIn}
 use Rattle.frame.specs.Spell.{spell, Plain, withMark, inUse}
 use Rattle.frame.specs.declared.Ax25Frame.{Ax25Frame}
 use Rattle.spelling.specs.Canonical.{again, canonical}
@@ -29,6 +30,8 @@ pub record Respelled (s t : List ℕ) : Type 0 where
   pub frame : decode t .frame ≡ withMark (decode s .frame)
   -- the same info octets
   pub info : infoIn t (decode t) ≡ infoIn s (decode s)
+  -- of a kind with info, I or UI, the same octets after the address field: control, PID and info (document 02, M-105)
+  pub content : hasInfo (decode s .frame .content) ≡ true → drop (14 + 7 * decode s .frame .«route_count») t ≡ drop (endOf s + 1) s
 
 pub record OneSpelling (s : List ℕ) : Type 0 where
   -- exact: the canonical check says yes exactly when some plain frame spells those octets

@@ -21,7 +21,7 @@ use Rattle.address.proofs.Laws.{group-reserved, mark-written, written-exact, re
 use Rattle.content.specs.Spell.{hasInfo, front}
 use Rattle.lean.specs.Lean.{lean, infoOf}
 use Rattle.content.specs.declared.FrameContent.{FrameContent}
-use Rattle.lean.proofs.Laws.{content-exact, front-some}
+use Rattle.lean.proofs.Laws.{content-kept, content-exact, front-some}
 use Rattle.lean.proofs.Lean.{lean-spelled}
 use Rattle.decode.specs.Read.{nonzero, startOf, endOf, groupAt, parsedAt, entryAt, placeAt, routeAt, commandOf, frameAt, acceptedWith, decode, infoIn}
 use Rattle.frame.specs.Spell.{past, repeaterAt, groupsOf, destinationMark, sourceMark, addressField, spell, marked, Plain, inUse}
@@ -176,6 +176,13 @@ module _ (s : List ℕ) (o : Octets s) (a : Accepts s (decode s)) where
   made-frame : decode s .frame ≡ frameAt s (startOf s) (a .count) (a .kind)
   unfolding acceptedWith
   made-frame = ap (λ (d : Decoded). d .frame) (a .made)
+
+  -- of a kind with info, the octets before it and the info are all that follows the address field
+  pub info-kept : hasInfo (decode s .frame .content) ≡ true → front (decode s .frame .content) ++ infoIn s (decode s) ≡ drop (endOf s + 1) s
+  unfolding frameAt
+  info-kept e =
+      let k : decode s .frame .content ≡ a .kind = ap (λ (f : Ax25Frame). f .content) made-frame in
+      rw (k, info-tail) (content-kept (drop (endOf s + 1) s) (octets-drop s (endOf s + 1) o) (a .kind) (a .read) (rw k at e))
 
   pub direct-again : direct s (decode s .frame .«route_count») ≡ true → spell (decode s .frame) (infoIn s (decode s)) ≡ s
   unfolding direct frameAt

@@ -14,7 +14,7 @@ use Rattle.content.specs.Control.{rr, rnr, rej, sabm, disc, dm, ua, frmr, ui}
 use Rattle.parse.specs.Content.{contentOf}
 use Rattle.content.specs.Spell.{hasInfo, numbered, sent, unnumbered, isResponse, front, spellContent, PlainContent}
 use Rattle.lean.specs.Lean.{lean, infoOf}
-use Rattle.lean.proofs.Lean.{lean-exact, lean-spelled}
+use Rattle.lean.proofs.Lean.{info-exact, lean-exact, lean-spelled}
 use Rattle.lean.proofs.Back.{flags-below, i-back, rr-back, rnr-back, rej-back, sabm-back, disc-back, dm-back, ua-back, frmr-way, frmr-back, ui-back}
 use Rattle.parse.proofs.Read.{Reads, accepted, sized}
 use Rattle.parse.proofs.Read.Reads.{i-frame, rr-frame, rnr-frame, rej-frame, sabm-frame, disc-frame, dm-frame, ua-frame, frmr-frame, ui-frame}
@@ -125,6 +125,10 @@ front-octets k h = octets-each (front k) (each k h)
     )
     each (kind.UnnumberedInformation k) h = (unnumbered-below ui (k .«poll_or_final») (omega arith), (octet-below (k .pid) h, tt))
     each kind.UnknownContent h = absurd h
+
+-- of content with info every octet is written as it was read, the PID's too
+pub content-kept : (s : List ℕ) → Octets s → (k : FrameContent) → contentOf s ≡ Accepted k → hasInfo k ≡ true → spellContent k (infoOf k s) ≡ s
+content-kept s o k e i = info-exact s o (accepted s k e) i
 
 -- content that is accepted is just as writing gives it exactly when the direct test passes
 pub content-exact : (s : List ℕ) → Octets s → (k : FrameContent) → contentOf s ≡ Accepted k → lean s ≡ true → spellContent k (infoOf k s) ≡ s

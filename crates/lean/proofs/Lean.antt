@@ -1,7 +1,7 @@
 -- The direct test and spelling: what is spelled passes, and what passes is what its reading spells.
 use Prim.Native.Nat.{ℕ, _+_, _*_, _/_, _%_, _<_, _≤_}
 use mathlib.Core.Path.{_≡_, refl, ap, sym, _∙_}
-use mathlib.Core.Bool.{Bool, true, false, cond}
+use mathlib.Core.Bool.{Bool, true, false, false≢true, cond}
 use mathlib.Core.List.{List, [], _∷_}
 use native.Mathlib.Omega.{arith}
 use borrow.Author.Tests.{eq-eqb, ne-eqb, eqb-true}
@@ -96,6 +96,20 @@ module _ (s : List ℕ) where
   unfolding lean
   lean-u m w a b e = simp (ne-eqb (field 0 1 c) 0 (λ z. omega arith), e, a, b)
 
+-- content with info is what its reading spells, whatever its octets are
+pub info-exact : (s : List ℕ) → Octets s → {k : FrameContent} → Reads s k → hasInfo k ≡ true → spellContent k (infoOf k s) ≡ s
+info-exact s o (i-frame n t) e = two-parts s _ _ n (sent-again (getD s 0 0) (o 0) t) (octet-pid (getD s 1 0) (o 1))
+info-exact s o (rr-frame n t) e = absurd (false≢true e)
+info-exact s o (rnr-frame n t) e = absurd (false≢true e)
+info-exact s o (rej-frame n t) e = absurd (false≢true e)
+info-exact s o (sabm-frame n t) e = absurd (false≢true e)
+info-exact s o (disc-frame n t) e = absurd (false≢true e)
+info-exact s o (dm-frame n t) e = absurd (false≢true e)
+info-exact s o (ua-frame n t) e = absurd (false≢true e)
+info-exact s o (frmr-frame n t) e = absurd (false≢true e)
+info-exact s o (ui-frame n t) e =
+    two-parts s _ _ n (rw t at (unnumbered-again (getD s 0 0) (o 0))) (octet-pid (getD s 1 0) (o 1))
+
 -- what passes is what its reading spells
 module _ (s : List ℕ) (o : Octets s) (passed : lean s ≡ true) where
   s-exact : (m : ℕ) → m % 4 ≡ 1 → sKind (getD s 0 0) ≡ m → numbered (receiveOf (getD s 0 0)) (pollOf (getD s 0 0)) m ∷ [] ≡ s
@@ -108,8 +122,7 @@ module _ (s : List ℕ) (o : Octets s) (passed : lean s ≡ true) where
       one-part s _ (eqb-true (length s) 1 (sym (lean-u s m w a b e) ∙ passed)) (rw e at (unnumbered-again (getD s 0 0) (o 0)))
 
   pub lean-exact : {k : FrameContent} → Reads s k → spellContent k (infoOf k s) ≡ s
-  lean-exact (i-frame n t) =
-      two-parts s _ _ n (sent-again (getD s 0 0) (o 0) t) (octet-pid (getD s 1 0) (o 1))
+  lean-exact (i-frame n t) = info-exact s o (i-frame n t) refl
   lean-exact (rr-frame n t) = s-exact rr refl t
   lean-exact (rnr-frame n t) = s-exact rnr refl t
   lean-exact (rej-frame n t) = s-exact rej refl t
@@ -122,8 +135,7 @@ module _ (s : List ℕ) (o : Octets s) (passed : lean s ≡ true) where
       four-parts s _ _ _ _ n (rw t at (unnumbered-again (getD s 0 0) (o 0)))
       (flags-again (getD s 1 0) (o 1) (eqb-true (field 4 4 (getD s 1 0)) 0 (tidy .0)))
       (copy-again (getD s 2 0) (o 2) (eqb-true (field 0 1 (getD s 2 0)) 0 (tidy .1))) refl
-  lean-exact (ui-frame n t) =
-      two-parts s _ _ n (rw t at (unnumbered-again (getD s 0 0) (o 0))) (octet-pid (getD s 1 0) (o 1))
+  lean-exact (ui-frame n t) = info-exact s o (ui-frame n t) refl
 
 low-none : (n : ℕ) (p : Bool) (m : ℕ) → field 0 1 (numbered n p (sent m)) ≡ 0
 low-none n p m = omega (arith, low-back n (sent m) (omega arith) p)

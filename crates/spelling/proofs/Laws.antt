@@ -1,22 +1,23 @@
 -- The canonical check is exact, and an accepted input spelled again is canonical: the facts that the demands state.
-use Prim.Native.Nat.{ℕ, _≤_}
+use Prim.Native.Nat.{ℕ, _+_, _*_, _≤_}
 use mathlib.Core.Path.{_≡_, _∙_}
 use mathlib.Core.Bool.{true, false}
 use mathlib.Core.List.{List}
-use lib.ListN.{length}
+use lib.ListN.{length, drop}
 use Rattle.octets.specs.Octet.{Octets}
 use Rattle.octets.proofs.Choice.{both, equal}
 use Rattle.octets.proofs.Same.{same-refl, same-eq}
+use Rattle.content.specs.Spell.{hasInfo}
 use Rattle.decode.specs.Answer.{isAccepted}
-use Rattle.decode.specs.Read.{decode, infoIn}
+use Rattle.decode.specs.Read.{endOf, decode, infoIn}
 use Rattle.frame.specs.Spell.{withMark, spell, Plain}
 use Rattle.frame.specs.declared.Ax25Frame.{Ax25Frame}
 use Rattle.grammar.specs.Direct.{direct}
 use Rattle.decode.proofs.Accepts.{accepts}
-use Rattle.grammar.proofs.Back.{info-spell, frame-spell}
+use Rattle.grammar.proofs.Back.{after-field, info-spell, frame-spell}
 use Rattle.grammar.proofs.Plain.{read}
 use Rattle.grammar.proofs.Respell.{mark-spell, use-spell, use-mark, accepted-spell}
-use Rattle.grammar.proofs.Direct.{direct-spelled, direct-again}
+use Rattle.grammar.proofs.Direct.{info-kept, direct-spelled, direct-again}
 use Rattle.spelling.specs.Canonical.{again, canonical}
 
 -- a canonical input is what some plain frame spells
@@ -48,6 +49,14 @@ module _ (s : List ℕ) (o : Octets s) where
       equal (canonical s) _
       (λ e. let w = canonical-plain s o e in rw (w .1) at (direct-spelled _ _ (w .0)))
       (λ e. again-canonical a (direct-again s o (accepts s a) e))
+
+  -- of a kind with info re-encoding keeps every octet after the address field
+  pub again-content : isAccepted (decode s .answer) ≡ true → hasInfo (decode s .frame .content) ≡ true
+      → drop (14 + 7 * decode s .frame .«route_count») (again s) ≡ drop (endOf s + 1) s
+  unfolding again withMark
+  again-content a e =
+      let i = infoIn s (decode s) in
+      rw (← mark-spell (decode s .frame) i) (after-field (withMark (decode s .frame)) i (read s o a .plain) ∙ info-kept s o (accepts s a) e)
 
 pub refused-not-canonical : (s : List ℕ) → isAccepted (decode s .answer) ≡ false → canonical s ≡ false
 unfolding canonical
