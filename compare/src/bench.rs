@@ -4,6 +4,7 @@
 use crate::domain;
 use crate::flat;
 use crate::inputs;
+use crate::oracle;
 use crate::port::{bare, PLACES};
 use crate::relays::{self, Own};
 use crate::report::{self, Report};
@@ -215,15 +216,15 @@ impl OnItsWay {
 /// calls read records, and the compiler leaves that a function of its own, which is done before the refusal. The row has the
 /// first less the second.
 fn encode(inputs: &[Vec<u8>]) -> Option<[f64; 3]> {
-    let frames: Vec<Ax25Frame> = inputs.iter().filter_map(|input| Ax25Frame::from_bytes(input).ok()).collect();
-    if frames.is_empty() {
+    let read: Vec<_> = inputs.iter().filter_map(|input| Some((input, Ax25Frame::from_bytes(input).ok()?))).collect();
+    if read.is_empty() {
         return None;
     }
-    let records: Vec<_> = frames.iter().map(|frame| (flat::of_frame(frame), flat::info_of(frame).unwrap_or(&[]))).collect();
+    let records: Vec<_> = read.iter().map(|(input, frame)| (oracle::accepted(input, frame).record, flat::info_of(frame).unwrap_or(&[]))).collect();
     let mut refused = records.clone();
     refused.iter_mut().for_each(|(record, _)| record[flat::COUNT] = 9);
-    let rust = || frames.iter().for_each(|frame| keep(&frame.to_bytes()));
-    let times = race(frames.len(), [&mut writing(&records, 0), &mut writing(&refused, 21), &mut timed(rust)]);
+    let rust = || read.iter().for_each(|(_, frame)| keep(&frame.to_bytes()));
+    let times = race(read.len(), [&mut writing(&records, 0), &mut writing(&refused, 21), &mut timed(rust)]);
     Some(times)
 }
 

@@ -1,7 +1,7 @@
 //! One comparison for each kind of input. Each gives what differs, empty where the port answers as it owes: as the Rust
 //! does on document 01's domain of equality, and as docs/DIFFERENCES.md lists outside it.
 
-use crate::domain::{self, Listed};
+use crate::domain::{self, Listed, RUST_LAYER_3};
 use crate::flat::{self, Flat, FlatAddress, ADDRESS, FLAT, KIND};
 use crate::inputs::{self, FIELD};
 use crate::kiss::{self, FEND, LONGEST};
@@ -113,7 +113,7 @@ impl Checker {
 
     fn accepted(&mut self, input: &[u8], frame: &Ax25Frame) {
         let owed = oracle::accepted(input, frame);
-        let octets = frame.to_bytes();
+        let octets = self.owed_octets(frame, &owed.record);
         let info = &input[owed.info_start..owed.info_start + owed.info_len];
         // That the flat record loses nothing of the Rust's frame, and is read as meant, is about the comparison and not the
         // product: a sample will do.
@@ -135,6 +135,16 @@ impl Checker {
             self.seen.written(Writer::Read, &owed.record, Room::of(room, octets.len()));
             self.write_in(Writer::Read, &owed.record, info, 0, &octets, room);
         }
+    }
+
+    /// What is owed to be written of a record that is read as this frame; where one octet is not the Rust's, it is held to 10 hex.
+    fn owed_octets(&mut self, frame: &Ax25Frame, record: &Flat) -> Vec<u8> {
+        let written = oracle::written(frame, record);
+        if let Some(octet) = written.masked.filter(|&octet| octet != RUST_LAYER_3) {
+            let owed = || format!("the Rust writes {:02X} for a layer 3 identifier", RUST_LAYER_3);
+            self.differ("B6", owed, |_| format!("the Rust: {:02X}", octet));
+        }
+        written.octets
     }
 
     fn refused(&mut self, input: &[u8], refusal: Refusal) {
@@ -265,11 +275,12 @@ impl Checker {
     }
 
     fn accepted_beside(&mut self, input: &[u8], frame: &Ax25Frame, beside: &Beside) {
-        let octets = frame.to_bytes();
-        let (record, info) = (flat::of_frame(frame), flat::info_of(frame).unwrap_or(&[]));
+        let (record, info) = (oracle::accepted(input, frame).record, flat::info_of(frame).unwrap_or(&[]));
+        let octets = self.owed_octets(frame, &record);
         for room in self.rooms(Tried::Some, octets.len()) {
             let (number, owed) = self.owed_in(Writer::Beside, room, 0, &octets);
             self.seen.beside(number);
+            self.seen.layer_3(Writer::Beside, &record, Room::of(room, octets.len()));
             let port = self.port.reencode_beside(input, room, owed, beside);
             self.placed("re-encoding beside the input", port, number, owed);
             let port = self.port.encode_beside(&record, info, room, owed, beside);
@@ -308,13 +319,13 @@ impl Checker {
         let whole = padded::<FLAT>(record);
         match domain::record_number(&whole, info) {
             0 => self.holdable(record, &whole, info),
-            number => self.unholdable(record, info, number),
+            number => self.unholdable(record, &whole, info, number),
         }
     }
 
     fn holdable(&mut self, record: &[u8], whole: &Flat, info: &[u8]) -> Vec<Difference> {
         let frame = flat::to_frame(whole, info);
-        let octets = frame.to_bytes();
+        let octets = self.owed_octets(&frame, whole);
         let settled = flat::settled(whole, &frame);
         self.again(record, &settled);
         self.write(record, &settled, info, &octets);
@@ -323,10 +334,16 @@ impl Checker {
         found
     }
 
-    fn unholdable(&mut self, record: &[u8], info: &[u8], number: u32) -> Vec<Difference> {
+    /// Into no room, some, almost and just as much as it would take with a PID, and more.
+    fn unholdable(&mut self, record: &[u8], whole: &Flat, info: &[u8], number: u32) -> Vec<Difference> {
         self.seen.listed(Listed::B3);
-        self.seen.write_refusal(number);
-        for room in [0, 14, FLAT + info.len() + LONGER] {
+        if number == 25 {
+            // The Rust can hold all of it but one octet, so how it is read can be asked.
+            self.again(record, &flat::settled(whole, &flat::to_frame(whole, info)));
+        }
+        let needed = domain::length_with_pid(whole, info);
+        for room in [0, 14, needed - 1, needed, FLAT + info.len() + LONGER] {
+            self.seen.write_refusal(number, whole, room >= needed);
             self.write_in(Writer::MadeUp, record, info, number, &[], room);
         }
         self.finish()
@@ -451,12 +468,13 @@ impl Checker {
     /// Content alone, from its control octet on: read, and written again. The Rust's reader of content can be asked only by way of
     /// a frame.
     pub fn content(&mut self, content: &[u8]) -> Vec<Difference> {
-        match oracle::read(&inputs::with_content(content)) {
+        let input = inputs::with_content(content);
+        match oracle::read(&input) {
             Ok(frame) => {
-                let record = flat::of_frame(&frame);
+                let record = oracle::accepted(&input, &frame).record;
                 self.read_content(content, 0, &record[KIND..]);
                 self.seen.writes += 1;
-                let octets = &frame.to_bytes()[FIELD..];
+                let octets = &self.owed_octets(&frame, &record)[FIELD..];
                 for room in self.rooms(Tried::Some, octets.len()) {
                     self.seen.written(Writer::Content, &record, Room::of(room, octets.len()));
                     self.write_content(&record[KIND..], flat::info_of(&frame).unwrap_or(&[]), 0, octets, room);
@@ -483,22 +501,22 @@ impl Checker {
 
     /// Content that was made up, octets past its end being 0, and info: written alone.
     pub fn content_record(&mut self, content: &[u8], info: &[u8]) -> Vec<Difference> {
-        let mut whole = records::base(flat::I);
-        whole[KIND..].copy_from_slice(&padded::<CONTENT>(content));
+        let whole = with_plain_addresses(content);
         match domain::record_number(&whole, info) {
             0 => {
                 let frame = flat::to_frame(&whole, info);
-                let octets = &frame.to_bytes()[FIELD..];
+                let octets = &self.owed_octets(&frame, &whole)[FIELD..];
                 self.seen.writes += 1;
                 for room in self.rooms(Tried::Each, octets.len()) {
-                    self.seen.written(Writer::Content, &flat::of_frame(&frame), Room::of(room, octets.len()));
+                    self.seen.written(Writer::Content, &flat::settled(&whole, &frame), Room::of(room, octets.len()));
                     self.write_content(content, info, 0, octets, room);
                 }
             }
             number => {
                 self.seen.listed(Listed::B3);
-                self.seen.content(number);
-                for room in [0, 1, info.len() + LONGER] {
+                let needed = domain::length_with_pid(&whole, info) - FIELD;
+                for room in [0, 1, needed - 1, needed, info.len() + LONGER] {
+                    self.seen.content_refusal(number, &whole, room >= needed);
                     self.write_content(content, info, number, &[], room);
                 }
             }
@@ -835,6 +853,13 @@ pub fn owed_of_relay(own: &Own, read: &Result<Ax25Frame, u32>) -> Result<usize, 
     let address = domain::own_address(&own.callsign, own.ssid).ok_or(22_u32)?;
     let frame = read.as_ref().map_err(|&number| number)?;
     domain::relay(&flat::of_frame(frame), &address)
+}
+
+/// The record of this flat content, octets past its end being 0, behind plain addresses.
+pub fn with_plain_addresses(content: &[u8]) -> Flat {
+    let mut record = records::base(flat::I);
+    record[KIND..].copy_from_slice(&padded::<CONTENT>(content));
+    record
 }
 
 /// The octets, and 0 past their end.

@@ -231,7 +231,7 @@ pub fn test(scale: usize, seed: u64, only: Option<String>) -> Report {
     kiss_packets(&mut checker, &mut report, scale, &mut seeds);
     kiss_streams(&mut checker, &mut report, scale, &mut seeds);
     let missing = checker.seen.missing();
-    class(&mut checker, &mut report, "met: every number, kind, mark, PID, route length, room, search, due place, KISS port, cut and listed difference", |c| c.missing(missing));
+    class(&mut checker, &mut report, "met: every number, kind, mark, PID, layer 3 octet, route length, room, search, due place, KISS port, cut and listed difference", |c| c.missing(missing));
     report::totals(&mut report, &checker.seen);
     report.extra("seed", seed.to_string());
     report.extra("scale", scale.to_string());
@@ -261,7 +261,8 @@ fn octets(checker: &mut Checker, report: &mut Report, scale: usize, seeds: &mut 
     run("octets: long inputs, to 131,074", &mut |each| inputs::long(f, each));
 }
 
-/// Every length of info to 100 with every gap to 40; then seeded frames, damaged ones, and inputs that each search refuses.
+/// Every length of info to 100 with every gap to 40; then every PID of I and UI, seeded frames, damaged ones, and inputs that each
+/// search refuses.
 fn side_by_side(checker: &mut Checker, report: &mut Report, scale: usize, seed: u64) {
     class(checker, report, "octets: input and output side by side", |class| {
         for length in 0..=100 {
@@ -275,6 +276,9 @@ fn side_by_side(checker: &mut Checker, report: &mut Report, scale: usize, seed: 
         }
         let mut gaps = Rng::new(seed);
         let mut each = |input: &[u8]| class.beside(input, &Beside { gap: gaps.within(0, 40), output_first: gaps.chance(2) });
+        for pid in 0..=255 {
+            [0x00, 0x03].iter().for_each(|&control| each(&inputs::with_content(&[control, pid, 0x41])));
+        }
         inputs::frames(seed, 20_000 * scale, &mut each);
         inputs::damaged(seed, 10_000 * scale, &mut each);
         inputs::prefixes(&mut each);
@@ -294,7 +298,7 @@ fn frame_records(checker: &mut Checker, report: &mut Report, scale: usize, seeds
         class(checker, report, name, |c| body(&mut |record, info| c.record(record, info)));
     };
     run("records: every kind, mark, P/F, sequence numbers 0 to 255", &mut |each| records::sequence_numbers(each));
-    run("records: every PID", &mut |each| records::pids(each));
+    run("records: every PID, layer 3 and unknown ones with every octet", &mut |each| records::pids(each));
     run("records: FRMR's fields", &mut |each| records::frmr_fields(each));
     run("records: every way to mark 0 to 8 repeaters, each kind", &mut |each| records::routes(each));
     run("records: every seven-bit character at every place", &mut |each| records::characters(each));

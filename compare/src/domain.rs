@@ -1,7 +1,7 @@
 //! Document 01's domain of equality, and what the port owes outside it (docs/DIFFERENCES.md, B); and what the hops and the
 //! relay owe, which the Rust lacks. Written from the words of documents 01 and 02; neither the Rust nor the port is asked.
 
-use crate::flat::{self, Flat, FlatAddress, ADDRESS, COUNT, ENTRY, FRMR, KIND, REPEATERS, ROUTE, RR};
+use crate::flat::{self, Flat, FlatAddress, ADDRESS, COUNT, ENTRY, FRMR, KIND, PID_OCTET, REPEATERS, ROUTE, RR};
 
 /// A difference that docs/DIFFERENCES.md lists.
 #[derive(Clone, Copy, PartialEq, Debug)]
@@ -16,15 +16,21 @@ pub enum Listed {
     B4,
     /// Content alone, empty.
     B5,
+    /// The octet of a layer 3 identifier.
+    B6,
 }
 
-pub const LISTED: [(Listed, &str); 5] = [
+pub const LISTED: [(Listed, &str); 6] = [
     (Listed::B1, "nine or more repeaters"),
     (Listed::B2, "text with an octet of 128 or more"),
     (Listed::B3, "a record that the Rust can't hold"),
     (Listed::B4, "too little room, lent on purpose"),
     (Listed::B5, "content alone, empty"),
+    (Listed::B6, "a layer 3 identifier written as the octet it carries, where the Rust writes 10 hex"),
 ];
+
+/// What the Rust writes for every octet of the layer 3 class.
+pub const RUST_LAYER_3: u8 = 0x10;
 
 /// Where the address field starts and ends.
 pub fn field(input: &[u8]) -> Option<(usize, usize)> {
@@ -45,6 +51,32 @@ pub fn repeaters_of(field: Option<(usize, usize)>, length: usize) -> usize {
     }
 }
 
+/// Where the PID of a frame that has one stands: it is the second octet after the address field.
+pub fn pid_at(octets: &[u8]) -> usize {
+    let (_, end) = field(octets).expect("an address field");
+    end + 2
+}
+
+/// The octet there; 0 where there is none, as in a record.
+pub fn pid_of(input: &[u8]) -> u8 {
+    input.get(pid_at(input)).copied().unwrap_or(0)
+}
+
+/// Whether an octet is of the layer 3 class: its bits 5 and 4 are 01 or 10.
+pub fn is_of_class(octet: u8) -> bool {
+    matches!(octet >> 4 & 3, 1 | 2)
+}
+
+/// Whether a record's identifier is layer 3 with an octet outside the class (document 02, M-105).
+pub fn is_outside(record: &Flat) -> bool {
+    flat::is_layer_3(record) && !is_of_class(record[PID_OCTET])
+}
+
+/// How many octets a record of I or UI takes with this info: its groups, control, PID and info.
+pub fn length_with_pid(record: &Flat, info: &[u8]) -> usize {
+    ADDRESS * flat::in_use(record).len() + 2 + info.len()
+}
+
 pub fn is_wide(text: &[u8]) -> bool {
     text.iter().any(|&octet| octet >= 128)
 }
@@ -62,6 +94,8 @@ pub fn record_number(record: &Flat, info: &[u8]) -> u32 {
         22
     } else if (RR..=FRMR).contains(&record[KIND]) && !info.is_empty() {
         23
+    } else if is_outside(record) {
+        25
     } else {
         0
     }

@@ -1,14 +1,18 @@
 //! Deliberate faults, for `compare/faults` alone: each call of the port is wrapped, and spoils what the proved code answered by the
 //! fault that COMPARE_FAULT names. The linker puts these in the calls' places (`--wrap`) and leaves the port's own under `__real_`.
+//! One fault is the Rust's: it is held to an octet that the port does not owe.
 
-use crate::flat::{ABSENT, COUNT, KIND, MARK, RECEIVE, RNR, RR, UNKNOWN_CONTENT};
+use crate::check::{padded, with_plain_addresses};
+use crate::domain::{self, RUST_LAYER_3};
+use crate::flat::{self, Flat, ABSENT, COUNT, KIND, MARK, RECEIVE, RNR, RR, UNKNOWN_CONTENT};
+use crate::flat::{PID, PID_LAYER_3, PID_OCTET, PID_UNKNOWN};
 use crate::kiss::{FEND, FESC, LONGEST, PORTS, TFEND, TFESC};
 use crate::port::{Packet, State};
 use std::slice::{from_raw_parts, from_raw_parts_mut};
 use std::sync::atomic::{AtomicUsize, Ordering};
 
 /// What each fault does, from 1 on, and words in the name of a class that has to find it.
-const FAULTS: [(&str, &str); 84] = [
+const FAULTS: [(&str, &str); 112] = [
     ("re-encoding writes the address field, then answers 24", "every prefix"),
     ("re-encoding writes the address field, then refuses the content", "every prefix"),
     ("re-encoding into no room at all answers 0", "every prefix"),
@@ -93,6 +97,34 @@ const FAULTS: [(&str, &str); 84] = [
     ("a KISS stream writes into the piece", "KISS streams: every string"),
     ("a KISS state that no call made is read as it is", "KISS streams: from states"),
     ("a KISS state that no call made loses its count", "KISS streams: from states"),
+    ("the Rust writes 12 for every octet of the layer 3 class", "example's addresses"),
+    ("re-encoding writes 10 for every octet of the layer 3 class", "example's addresses"),
+    ("re-encoding into an output close by writes 10 for every octet of the layer 3 class", "input and output side by side"),
+    ("re-encoding a layer 3 frame changes the octet before its control", "example's addresses"),
+    ("re-encoding a layer 3 frame changes its control", "example's addresses"),
+    ("re-encoding a layer 3 frame changes its first info octet", "octets: every control octet"),
+    ("layer 3 is canonical as 10 alone", "example's addresses"),
+    ("layer 3 is canonical whatever else", "leading nulls"),
+    ("a decoded layer 3 identifier carries 10", "example's addresses"),
+    ("a record read again forgets its layer 3 octet", "records: every PID"),
+    ("writing a record writes 10 for every octet of the layer 3 class", "records: every PID"),
+    ("writing a layer 3 record changes the octet before its control", "records: every PID"),
+    ("writing a layer 3 record changes its control", "records: every PID"),
+    ("writing a layer 3 record changes its first info octet", "records: every PID"),
+    ("24 comes before 25", "records: every PID"),
+    ("25 comes before 21", "records: those that the Rust can't hold"),
+    ("25 comes before 22", "records: those that the Rust can't hold"),
+    ("the layer 3 octet EF is refused by 25", "records: every PID"),
+    ("the layer 3 octet F0 is written", "records: every PID"),
+    ("an unknown PID of the layer 3 class is refused by 25", "records: every PID"),
+    ("25 refuses RR by an octet that is not in use", "records: seeded"),
+    ("25 touches the output", "records: every PID"),
+    ("25 touches an output close by", "records: those that the Rust can't hold, info"),
+    ("25 gives a length", "records: every PID"),
+    ("layer 3 content carries 10", "content alone: every content"),
+    ("writing layer 3 content writes 10", "content written alone"),
+    ("24 comes before 25 for content", "content written alone"),
+    ("layer 3 content is written with the octet 30", "content written alone"),
 ];
 
 /// A line for each fault: its number, the words, and what it does.
@@ -115,6 +147,8 @@ fn is(what: &str) -> bool {
 
 extern "C" {
     fn __real_ax25_decode(input: *const u8, input_len: usize) -> u32;
+    fn __real_ax25_canonical(input: *const u8, input_len: usize) -> u32;
+    fn ax25_reencoded_length(input: *const u8, input_len: usize) -> usize;
     fn __real_ax25_reencode(input: *const u8, input_len: usize, out: *mut u8, out_len: usize) -> u32;
     fn __real_ax25_relay(callsign: *const u8, callsign_len: usize, ssid: u8, frame: *mut u8, frame_len: usize) -> u32;
     fn __real_ax25_kiss_read(input: *const u8, input_len: usize, out: *mut u8, out_len: usize, port: *mut u8, length: *mut usize) -> u32;
@@ -122,6 +156,7 @@ extern "C" {
     fn __real_ax25_kiss_feed(stream: *mut State, piece: *const u8, piece_len: usize, packet: *mut Packet) -> usize;
     fn __real_probe_decode(input: *const u8, input_len: usize, record: *mut u8, record_len: usize, places: *mut usize, places_len: usize) -> u32;
     fn __real_probe_encode(record: *const u8, record_len: usize, info: *const u8, info_len: usize, out: *mut u8, out_len: usize, length: *mut usize, length_len: usize) -> u32;
+    fn __real_probe_again(given: *const u8, given_len: usize, record: *mut u8, record_len: usize) -> u32;
     fn __real_probe_from_parts(callsign: *const u8, callsign_len: usize, ssid: u8, address: *mut u8, address_len: usize) -> u32;
     fn __real_probe_from_str(text: *const u8, text_len: usize, address: *mut u8, address_len: usize) -> u32;
     fn __real_probe_print(address: *const u8, address_len: usize, out: *mut u8, out_len: usize, length: *mut usize, length_len: usize) -> u32;
@@ -148,6 +183,36 @@ fn octet(record: &[u8], at: usize) -> u8 {
     record.get(at).copied().unwrap_or(0)
 }
 
+/// Where a PID of the layer 3 class stands in a frame.
+fn layer_3_at(frame: &[u8]) -> Option<usize> {
+    let control = frame.iter().position(|&octet| octet % 2 == 1)? + 1;
+    let has_pid = octet(frame, control) % 2 == 0 || octet(frame, control) & 0xEF == 0x03;
+    Some(control + 1).filter(|&at| has_pid && domain::is_of_class(octet(frame, at)))
+}
+
+/// The faults of writing a layer 3 frame, by their names: 10 for its PID, and a bit changed in the octet before its control, in its
+/// control and in its first info octet.
+fn misspell(frame: &mut [u8], [ten, before, control, info]: [&str; 4]) {
+    let Some(at) = layer_3_at(frame) else {
+        return;
+    };
+    if is(ten) {
+        frame[at] = RUST_LAYER_3;
+    }
+    for (fault, place) in [(before, at - 2), (control, at - 1), (info, at + 1)] {
+        if is(fault) {
+            frame.get_mut(place).into_iter().for_each(|octet| *octet ^= 0x40);
+        }
+    }
+}
+
+/// What the Rust wrote for a layer 3 identifier, otherwise than it does.
+pub fn misspell_rust(pid: &mut u8) {
+    if is("the Rust writes 12 for every octet of the layer 3 class") {
+        *pid = 0x12;
+    }
+}
+
 #[no_mangle]
 unsafe extern "C" fn __wrap_ax25_decode(input: *const u8, input_len: usize) -> u32 {
     let octets = from_raw_parts(input, input_len);
@@ -164,6 +229,16 @@ unsafe extern "C" fn __wrap_ax25_decode(input: *const u8, input_len: usize) -> u
 }
 
 #[no_mangle]
+unsafe extern "C" fn __wrap_ax25_canonical(input: *const u8, input_len: usize) -> u32 {
+    let octets = from_raw_parts(input, input_len);
+    match layer_3_at(octets) {
+        Some(at) if is("layer 3 is canonical as 10 alone") && octets[at] != RUST_LAYER_3 => 0,
+        Some(_) if is("layer 3 is canonical whatever else") => u32::from(__real_ax25_decode(input, input_len) == 0),
+        _ => __real_ax25_canonical(input, input_len),
+    }
+}
+
+#[no_mangle]
 unsafe extern "C" fn __wrap_ax25_reencode(input: *const u8, input_len: usize, out: *mut u8, out_len: usize) -> u32 {
     let number = __real_ax25_reencode(input, input_len, out, out_len);
     let (input, out) = (from_raw_parts(input, input_len), from_raw_parts_mut(out, out_len));
@@ -177,6 +252,20 @@ unsafe extern "C" fn __wrap_ax25_reencode(input: *const u8, input_len: usize, ou
         || is("too little room: writes into an output close by") && number == 24;
     if beside && close(input, out) {
         spoil(out);
+    }
+    if number == 0 {
+        let ten = if close(input, out) {
+            "re-encoding into an output close by writes 10 for every octet of the layer 3 class"
+        } else {
+            "re-encoding writes 10 for every octet of the layer 3 class"
+        };
+        let length = ax25_reencoded_length(input.as_ptr(), input_len);
+        misspell(&mut out[..length], [
+            ten,
+            "re-encoding a layer 3 frame changes the octet before its control",
+            "re-encoding a layer 3 frame changes its control",
+            "re-encoding a layer 3 frame changes its first info octet",
+        ]);
     }
     if is("re-encoding into no room at all answers 0") && number == 24 && out_len == 0 {
         return 0;
@@ -432,16 +521,55 @@ unsafe extern "C" fn __wrap_ax25_kiss_feed(stream: *mut State, piece: *const u8,
 #[no_mangle]
 unsafe extern "C" fn __wrap_probe_decode(input: *const u8, input_len: usize, record: *mut u8, record_len: usize, places: *mut usize, places_len: usize) -> u32 {
     let number = __real_probe_decode(input, input_len, record, record_len, places, places_len);
+    let record = from_raw_parts_mut(record, record_len);
     if is("a refused decode leaves a record") && (1..=9).contains(&number) {
-        spoil(from_raw_parts_mut(record, record_len));
+        spoil(record);
+    }
+    if is("a decoded layer 3 identifier carries 10") && number == 0 && flat::is_layer_3(&padded(record)) {
+        record[PID_OCTET] = RUST_LAYER_3;
     }
     number
 }
 
 #[no_mangle]
+unsafe extern "C" fn __wrap_probe_again(given: *const u8, given_len: usize, record: *mut u8, record_len: usize) -> u32 {
+    let number = __real_probe_again(given, given_len, record, record_len);
+    let record = from_raw_parts_mut(record, record_len);
+    if is("a record read again forgets its layer 3 octet") && number == 0 && flat::is_layer_3(&padded(record)) {
+        record[PID_OCTET] = 0;
+    }
+    number
+}
+
+/// A record as a faulty writer might take it: an octet outside the layer 3 class as an unknown PID, which has any octet.
+fn mistaken(record: &[u8], pid: usize, fault: &str, outside: u8) -> Vec<u8> {
+    let mut taken = record.to_vec();
+    if is(fault) && octet(record, pid) == PID_LAYER_3 && octet(record, pid + 1) == outside {
+        taken[pid] = PID_UNKNOWN;
+    }
+    taken
+}
+
+/// The number that a faulty writer of this record might give in place of this one; the room may be short besides.
+fn miswritten(record: &Flat, number: u32, is_short: bool) -> u32 {
+    let (pid, is_of_class) = (record[PID], domain::is_of_class(record[PID_OCTET]));
+    match number {
+        25 if is("24 comes before 25") && is_short => 24,
+        21 if is("25 comes before 21") && domain::is_outside(record) => 25,
+        22 if is("25 comes before 22") && domain::is_outside(record) => 25,
+        0 if is("the layer 3 octet EF is refused by 25") && flat::is_layer_3(record) && record[PID_OCTET] == 0xEF => 25,
+        0 if is("an unknown PID of the layer 3 class is refused by 25") && flat::has_pid(record) && pid == PID_UNKNOWN && is_of_class => 25,
+        0 if is("25 refuses RR by an octet that is not in use") && record[KIND] == RR && pid == PID_LAYER_3 && !is_of_class => 25,
+        _ => number,
+    }
+}
+
+#[no_mangle]
 unsafe extern "C" fn __wrap_probe_encode(record: *const u8, record_len: usize, info: *const u8, info_len: usize, out: *mut u8, out_len: usize, length: *mut usize, length_len: usize) -> u32 {
-    let number = __real_probe_encode(record, record_len, info, info_len, out, out_len, length, length_len);
-    let (record, info, out) = (from_raw_parts(record, record_len), from_raw_parts(info, info_len), from_raw_parts_mut(out, out_len));
+    let record = from_raw_parts(record, record_len);
+    let taken = mistaken(record, PID, "the layer 3 octet F0 is written", 0xF0);
+    let number = __real_probe_encode(taken.as_ptr(), record_len, info, info_len, out, out_len, length, length_len);
+    let (info, out) = (from_raw_parts(info, info_len), from_raw_parts_mut(out, out_len));
     let (kind, large) = (octet(record, KIND), octet(record, RECEIVE) > 7);
     let short = is("writing UnknownContent touches room that is short") && kind == UNKNOWN_CONTENT
         || is("writing RR with N(R) over 7 touches room that is short") && kind == RR && large
@@ -452,7 +580,23 @@ unsafe extern "C" fn __wrap_probe_encode(record: *const u8, record_len: usize, i
     if number == 0 && is("writing RR with N(R) over 7 goes on after its end") && kind == RR && large {
         spoil(&mut out[*length..]);
     }
-    number
+    let whole = padded(record);
+    if number == 0 && flat::is_layer_3(&whole) {
+        misspell(&mut out[..*length], [
+            "writing a record writes 10 for every octet of the layer 3 class",
+            "writing a layer 3 record changes the octet before its control",
+            "writing a layer 3 record changes its control",
+            "writing a layer 3 record changes its first info octet",
+        ]);
+    }
+    if number == 25 && (is("25 touches the output") || is("25 touches an output close by") && close(info, out)) {
+        spoil(out);
+    }
+    let needed = domain::length_with_pid(&whole, info);
+    if number == 25 && is("25 gives a length") {
+        *length = needed;
+    }
+    miswritten(&whole, number, out_len < needed)
 }
 
 #[no_mangle]
@@ -514,22 +658,34 @@ unsafe extern "C" fn __wrap_probe_content(input: *const u8, input_len: usize, co
     if is("empty content is 5") && number == 4 {
         return 5;
     }
+    let content = from_raw_parts_mut(content, content_len);
     if is("refused content leaves its kind") && number == 8 {
-        spoil(from_raw_parts_mut(content, content_len));
+        spoil(content);
+    }
+    if is("layer 3 content carries 10") && number == 0 && flat::is_layer_3(&with_plain_addresses(content)) {
+        content[PID_OCTET - KIND] = RUST_LAYER_3;
     }
     number
 }
 
 #[no_mangle]
 unsafe extern "C" fn __wrap_probe_content_encode(content: *const u8, content_len: usize, info: *const u8, info_len: usize, out: *mut u8, out_len: usize, length: *mut usize, length_len: usize) -> u32 {
-    let number = __real_probe_content_encode(content, content_len, info, info_len, out, out_len, length, length_len);
-    let (content, out) = (from_raw_parts(content, content_len), from_raw_parts_mut(out, out_len));
+    let content = from_raw_parts(content, content_len);
+    let taken = mistaken(content, PID - KIND, "layer 3 content is written with the octet 30", 0x30);
+    let number = __real_probe_content_encode(taken.as_ptr(), content_len, info, info_len, out, out_len, length, length_len);
+    let out = from_raw_parts_mut(out, out_len);
     if is("writing content touches room that is short") && number == 24 && length_len > 0 {
         spoil(out);
     }
     let large = octet(content, 0) == RNR && octet(content, RECEIVE - KIND) > 7;
     if number == 0 && is("writing RNR's content with N(R) over 7 goes on after its end") && large {
         spoil(&mut out[*length..]);
+    }
+    if number == 0 && is("writing layer 3 content writes 10") && flat::is_layer_3(&with_plain_addresses(content)) {
+        out[1] = RUST_LAYER_3;
+    }
+    if number == 25 && is("24 comes before 25 for content") && out_len < 2 + info_len {
+        return 24;
     }
     number
 }

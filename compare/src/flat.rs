@@ -51,7 +51,8 @@ pub const RESPONSE: u8 = 1;
 pub const ABSENT: u8 = 2;
 pub const MARKS: [&str; 3] = ["Command", "Response", "absent"];
 
-/// The cases of the protocol identifier in their order; `Unknown`, the last, has its octet beside it.
+/// The cases of the protocol identifier in their order; `Unknown`, the last, has its octet beside it. So has `Layer3Impl` in the port,
+/// and not in the Rust (document 02, M-105).
 pub const PIDS: [ProtocolIdentifier; 15] = [
     ProtocolIdentifier::Layer3Impl,
     ProtocolIdentifier::X25Plp,
@@ -69,6 +70,7 @@ pub const PIDS: [ProtocolIdentifier; 15] = [
     ProtocolIdentifier::None,
     ProtocolIdentifier::Escape,
 ];
+pub const PID_LAYER_3: u8 = 0;
 pub const PID_UNKNOWN: u8 = 15;
 
 /// All that decoding gives.
@@ -89,6 +91,23 @@ pub fn of_address(address: &Address) -> FlatAddress {
     flat[..callsign.len()].copy_from_slice(callsign);
     flat[6] = address.ssid();
     flat
+}
+
+pub fn has_pid(record: &Flat) -> bool {
+    record[KIND] == I || record[KIND] == UI
+}
+
+/// Whether the identifier of a record is `Layer3Impl`.
+pub fn is_layer_3(record: &Flat) -> bool {
+    has_pid(record) && record[PID] == PID_LAYER_3
+}
+
+/// The record of a frame of the Rust, with the octet that `Layer3Impl` carries in the port.
+pub fn carrying(mut record: Flat, octet: u8) -> Flat {
+    if is_layer_3(&record) {
+        record[PID_OCTET] = octet;
+    }
+    record
 }
 
 /// The record of a frame with at most eight repeaters. Info is no part of it.
@@ -223,8 +242,8 @@ pub fn to_frame(flat: &Flat, info: &[u8]) -> Ax25Frame {
     Ax25Frame { source, destination, route, command_or_response, content: to_content(flat, info) }
 }
 
-/// The one form of a record that is read as this frame of the Rust: the frame's record, but for the places not in use, which only
-/// the port's frame has. A flag is 0 or 1 there too.
+/// The one form of a record that is read as this frame of the Rust: the frame's record, but for the places not in use and the octet
+/// of a layer 3 identifier, which only the port's frame has. A flag is 0 or 1 in those places too.
 pub fn settled(flat: &Flat, frame: &Ax25Frame) -> Flat {
     let mut settled = of_frame(frame);
     for i in frame.route.len()..REPEATERS {
@@ -232,7 +251,7 @@ pub fn settled(flat: &Flat, frame: &Ax25Frame) -> Flat {
         settled[at..mark].copy_from_slice(&flat[at..mark]);
         settled[mark] = u8::from(flat[mark] != 0);
     }
-    settled
+    carrying(settled, flat[PID_OCTET])
 }
 
 fn to_content(flat: &Flat, info: &[u8]) -> FrameContent {

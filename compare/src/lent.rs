@@ -37,6 +37,10 @@ impl Room {
             }
         }
     }
+
+    pub fn is_enough(self) -> bool {
+        matches!(self, Room::Full | Room::Longer)
+    }
 }
 
 /// Which rooms a writer is tried in.

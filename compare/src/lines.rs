@@ -6,7 +6,6 @@ use crate::domain;
 use crate::flat::{self, Flat, FlatAddress, ADDRESS, COUNT, FLAT, KIND, REPEATERS, ROUTE};
 use crate::inputs;
 use crate::oracle::{self, Refusal};
-use crate::records;
 use crate::relays::Own;
 use crate::show;
 use ax25::frame::Ax25Frame;
@@ -15,11 +14,15 @@ pub const HEADING: &str = "\
 # Inputs and the answers that are owed to them, by the Rust crate ax25 0.4.0, unchanged. Made by 'compare/build' and
 # 'target/compare/compare replay-list'; never edited by hand. Where a heading says 'document 01', the Rust has no such answer, and
 # the lines under it were worked out from that paper's rules. So is what is left in lent octets, everywhere. Where it says
-# 'document 02', they were worked out from what the Rust decodes and that paper's rules (M-100 and M-102).
+# 'document 02', they were worked out from what the Rust decodes and that paper's rules (M-100, M-102 and M-105).
+# One octet is nowhere the Rust's: for every PID of the layer 3 class (bits 5 and 4 are 01 or 10) the Rust writes 10 hex, and its
+# identifier holds no octet. By document 02 (M-105) the octet that was read, or that stands in the record, is the one that is written,
+# on every line, and canonical is 1 where what is so written is the input.
 # Words are separated by one space; octets are hex digits, and - is none of them; numbers are decimal. A record is 92 octets:
 # destination and source of 7 each (six characters and the SSID); eight places of 8 (an address and its mark); the route count; the
 # mark (0 Command, 1 Response, 2 absent); then the content's 12: kind (0 I, 1 RR, 2 RNR, 3 REJ, 4 SABM, 5 DISC, 6 DM, 7 UA, 8 FRMR,
-# 9 UI, 10 unknown), PID case and octet, P/F, N(R), N(S), Z, Y, X, W, FRMR's response, the rejected control octet.
+# 9 UI, 10 unknown), PID case (0 layer 3, 15 unknown) and octet (of these two, else 0), P/F, N(R), N(S), Z, Y, X, W, FRMR's response,
+# the rejected control octet.
 # Octets that are lent are EE before the call. Behind a number stands what it left there: a dot where it touched none, else all of
 # them, and three more after them, which have to stay. A frame to be relayed is lent itself, and stands there untouched too; a dot
 # where it is empty.
@@ -66,7 +69,11 @@ impl List {
     pub fn decode(&mut self, input: &[u8]) {
         let (owed, octets) = match oracle::read(input) {
             _ if domain::repeaters(input) > REPEATERS => (oracle::refused(nine()), Vec::new()),
-            Ok(frame) => (oracle::accepted(input, &frame), frame.to_bytes()),
+            Ok(frame) => {
+                let owed = oracle::accepted(input, &frame);
+                let octets = oracle::written(&frame, &owed.record).octets;
+                (owed, octets)
+            }
             Err(refusal) => (oracle::refused(refusal), Vec::new()),
         };
         let number = owed.number;
@@ -79,22 +86,21 @@ impl List {
 
     /// Content alone, and what was read of it written again.
     pub fn content(&mut self, content: &[u8]) {
-        let read = oracle::read(&inputs::with_content(content));
-        let record = read.as_ref().map(flat::of_frame);
+        let input = inputs::with_content(content);
+        let read = oracle::read(&input);
+        let record = read.as_ref().map(|frame| oracle::accepted(&input, frame).record);
         let number = read.as_ref().map_or_else(|refusal| refusal.number, |_| 0);
         let flat = record.as_ref().map_or(&[][..], |record| &record[KIND..]);
         self.line(format!("K {} {} {}", hex(content), number, lent(flat, FLAT - KIND)));
-        if let Ok(frame) = read {
-            let info = flat::info_of(&frame).unwrap_or(&[]);
-            self.write_content(&flat::of_frame(&frame), info, frame.to_bytes().len() - inputs::FIELD);
+        if let (Ok(frame), Ok(record)) = (&read, &record) {
+            let info = flat::info_of(frame).unwrap_or(&[]);
+            self.write_content(record, info, frame.to_bytes().len() - inputs::FIELD);
         }
     }
 
     /// The content of a record alone.
     pub fn write_content(&mut self, record: &Flat, info: &[u8], room: usize) {
-        let mut with_plain_addresses = records::base(0);
-        with_plain_addresses[KIND..].copy_from_slice(&record[KIND..]);
-        let (number, octets) = written(&with_plain_addresses, info);
+        let (number, octets) = written(&check::with_plain_addresses(&record[KIND..]), info);
         let content = octets.get(inputs::FIELD..).unwrap_or(&[]).to_vec();
         self.written(format!("E {} {}", hex(&record[KIND..]), hex(info)), (number, content), room);
     }
@@ -149,7 +155,7 @@ impl List {
         self.line(format!("P {} - {} {} {}", hex(callsign), ssid, number, lent(&address, ADDRESS)));
     }
 
-    /// A record that the Rust can hold.
+    /// A record that the Rust can hold, or could but for the octet of a layer 3 identifier.
     pub fn again(&mut self, record: &Flat) {
         let settled = flat::settled(record, &flat::to_frame(record, &[]));
         self.line(format!("A {} 0 {}", hex(record), lent(&settled, FLAT)));
@@ -215,7 +221,7 @@ fn nine() -> Refusal {
 /// A record written where there is room.
 fn written(record: &Flat, info: &[u8]) -> Answer {
     match domain::record_number(record, info) {
-        0 => (0, flat::to_frame(record, info).to_bytes()),
+        0 => (0, oracle::written(&flat::to_frame(record, info), record).octets),
         refused => (refused, Vec::new()),
     }
 }

@@ -1,6 +1,7 @@
 //! The Rust's answers, by document 01's numbers.
 
-use crate::flat::{self, Decode};
+use crate::domain;
+use crate::flat::{self, Decode, Flat, PID_OCTET};
 use ax25::frame::{Address, AddressParseError, Ax25Frame, FrameParseError};
 use std::panic::catch_unwind;
 use std::str::FromStr;
@@ -56,7 +57,8 @@ fn refusal(error: &FrameParseError) -> Refusal {
     }
 }
 
-/// What the port owes where the Rust accepts: info is the input's end, wherever the Rust copied it to.
+/// What the port owes where the Rust accepts: info is the input's end, wherever the Rust copied it to, and a layer 3 identifier
+/// carries the input's octet.
 pub fn accepted(input: &[u8], frame: &Ax25Frame) -> Decode {
     let info_len = flat::info_of(frame).map(<[u8]>::len);
     Decode {
@@ -66,8 +68,30 @@ pub fn accepted(input: &[u8], frame: &Ax25Frame) -> Decode {
         length: 0,
         info_start: info_len.map_or(0, |len| input.len() - len),
         info_len: info_len.unwrap_or(0),
-        record: flat::of_frame(frame),
+        record: flat::carrying(flat::of_frame(frame), domain::pid_of(input)),
     }
+}
+
+/// What the port owes to write.
+pub struct Written {
+    pub octets: Vec<u8>,
+    /// What the Rust wrote in the place of the one octet that is not the Rust's, where there is one (B6).
+    pub masked: Option<u8>,
+}
+
+/// What the port owes to write of a record that is read as this frame: the Rust's octets, with the record's own in the place of a
+/// layer 3 identifier, and no other changed.
+pub fn written(frame: &Ax25Frame, record: &Flat) -> Written {
+    let mut octets = frame.to_bytes();
+    let mut masked = None;
+    if flat::is_layer_3(record) {
+        let at = domain::pid_at(&octets);
+        let pid = &mut octets[at];
+        #[cfg(feature = "faults")]
+        crate::faults::misspell_rust(pid);
+        masked = Some(std::mem::replace(pid, record[PID_OCTET]));
+    }
+    Written { octets, masked }
 }
 
 /// What the port owes beside a refusal: the default frame.

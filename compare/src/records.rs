@@ -1,5 +1,6 @@
 //! Frame records: those that the Rust can hold, and those that it can't.
 
+use crate::domain;
 use crate::flat::*;
 use crate::rng::Rng;
 
@@ -46,21 +47,27 @@ pub fn sequence_numbers(each: Each) {
     }
 }
 
-/// Every case of the PID, `Unknown` with every octet, in I and UI, with no info and some.
+/// Every case of the PID, `Layer3Impl` and `Unknown` with every octet, in I and UI, with no info and some.
 pub fn pids(each: Each) {
     for kind in [I, UI] {
         for info in [&b""[..], b"x", b"info"] {
-            let mut record = base(kind);
             for case in 0..=PID_UNKNOWN {
-                record[PID] = case;
-                each(&record, info);
+                each(&with_pid(kind, case, 0), info);
             }
             for octet in 0..=255 {
-                record[PID_OCTET] = octet;
-                each(&record, info);
+                each(&with_pid(kind, PID_LAYER_3, octet), info);
+                each(&with_pid(kind, PID_UNKNOWN, octet), info);
             }
         }
     }
+}
+
+/// The record of a plain frame of this kind, but for its PID.
+pub fn with_pid(kind: u8, case: u8, octet: u8) -> Flat {
+    let mut record = base(kind);
+    record[PID] = case;
+    record[PID_OCTET] = octet;
+    record
 }
 
 /// FRMR with each combination of its flags, and every rejected control octet.
@@ -211,7 +218,12 @@ pub fn seeded_unholdable(seed: u64, count: usize, each: Each) {
     for _ in 0..count {
         let mut record = seeded(&mut rng);
         let mut info = seeded_info(&mut rng, record[KIND]);
-        let rules = rng.within(1, 7);
+        let rules = rng.within(1, 15);
+        if rules & 8 != 0 {
+            record[KIND] = *rng.pick(&[I, UI]);
+            record[PID] = PID_LAYER_3;
+            record[PID_OCTET] = record[PID_OCTET] & 0xCF | *rng.pick(&[0x00, 0x30]);
+        }
         if rules & 1 != 0 {
             record[COUNT] = rng.within(REPEATERS + 1, 255) as u8;
         }
@@ -259,6 +271,10 @@ fn seeded(rng: &mut Rng) -> Flat {
     }
     for i in 0..REPEATERS {
         record[ROUTE + ENTRY * i + ADDRESS] = *rng.pick(&[0, 0, 1, 1, 2, 0x80, 0xFF]);
+    }
+    if domain::is_outside(&record) {
+        // Bits 5 and 4 are equal outside the class.
+        record[PID_OCTET] ^= 0x10;
     }
     record
 }

@@ -2,7 +2,7 @@
 
 use crate::check::padded;
 use crate::domain;
-use crate::flat::{self, Flat, FlatAddress, ADDRESS, COUNT, ENTRY, KIND, MARK, NOCALL, PID, POLL, RECEIVE, ROUTE, SEND};
+use crate::flat::{self, Flat, FlatAddress, ADDRESS, COUNT, ENTRY, KIND, MARK, NOCALL, PID, PID_OCTET, POLL, RECEIVE, ROUTE, SEND};
 use crate::inputs;
 use crate::lines::{List, HEADING};
 use crate::records;
@@ -13,8 +13,8 @@ use crate::texts;
 /// Seeded inputs, info and texts are shorter than this, to keep the lines short.
 pub const LONGEST: usize = 120;
 
-/// Prints about this many lines: what is always there, and seeded inputs up to the number. The lines of relaying and of single groups
-/// come on top of these, so that no other line hangs on how many they are.
+/// Prints about this many lines: what is always there, and seeded inputs up to the number. The lines of relaying, of single groups and
+/// of the layer 3 octet come on top of these, so that no other line hangs on how many they are.
 pub fn list(lines: usize) {
     println!("{}", HEADING);
     let mut list = List { lines: 0 };
@@ -39,6 +39,7 @@ pub fn list(lines: usize) {
     inputs::damaged(2, left / 2, &mut keep);
     relay_list::relaying(&mut list);
     groups(&mut list);
+    layer_3(&mut list);
 }
 
 /// Document 01's examples, each under its name there.
@@ -48,7 +49,8 @@ fn examples(list: &mut List) {
     let frames = [&[][..], &[0x8E, 0x82], &short, &field, &inputs::FRAME, &nulled].map(<[u8]>::to_vec);
     let contents = [&[0x03][..], &[0x0D], &[0x6F], &[0x87, 1, 2], &[0x87, 0xF1, 3, 0x44], &[0x01, 0xAA], &[0x03, 0x20]];
     for (i, input) in frames.into_iter().chain(contents.map(inputs::with_content)).enumerate() {
-        list.heading(&format!("Example P{}.", i + 1));
+        let by = if i + 1 == 13 { ", by document 02 (M-105): the Rust writes 03 10" } else { "" };
+        list.heading(&format!("Example P{}{}.", i + 1, by));
         list.decode(&input);
     }
     list.heading("Example span 76: eight repeaters.");
@@ -99,7 +101,8 @@ fn slips(list: &mut List) {
 }
 
 fn decoding(list: &mut List) {
-    list.heading("The smallest inputs of docs/DIFFERENCES.md, A1 to A15 without A13, which is a record and stands among those.");
+    list.heading("The smallest inputs of docs/DIFFERENCES.md, A1 to A15: without A13, which is a record and stands among those, and for A6 that");
+    list.heading("of B6, by document 02 (M-105).");
     for input in departures() {
         list.decode(&input);
     }
@@ -114,13 +117,13 @@ fn decoding(list: &mut List) {
         list.decode(&[&vec![0; nulls], &inputs::FRAME[..]].concat());
         list.decode(&vec![0x82; nulls]);
     }
-    list.heading("Every control octet, with content of 1 and 4 octets.");
+    list.heading("Every control octet, with content of 1 and 4 octets; the PID 5A by document 02 (M-105).");
     for control in 0..=255 {
         for content in [&[control][..], &[control, 0x5A, 0xB6, control]] {
             list.decode(&inputs::with_content(content));
         }
     }
-    list.heading("Every PID.");
+    list.heading("Every PID; those of the layer 3 class by document 02 (M-105).");
     for pid in 0..=255 {
         list.decode(&inputs::with_content(&[0x03, pid, 0x41]));
     }
@@ -150,7 +153,8 @@ fn decoding(list: &mut List) {
             list.decode(&inputs::with_repeaters(count, content));
         }
     }
-    list.heading("Spans of a field of twelve stations, odd ones among them, behind nulls, with content and without.");
+    list.heading("Spans of a field of twelve stations, odd ones among them, behind nulls, with content and without; the PID 20 by document 02");
+    list.heading("(M-105).");
     for span in [13, 14, 15, 18, 20, 21, 28, 69, 70, 71, 75, 76] {
         for nulls in [0, 1, 3] {
             for content in [&[0x13, 0x20, 0x41, 0x42, 0x43][..], &[]] {
@@ -177,7 +181,7 @@ fn with_ssids(first: u8, second: u8, content: &[u8]) -> Vec<u8> {
     input
 }
 
-/// One input for each place where the Rust departs from AX.25 (docs/DIFFERENCES.md, A).
+/// One input for each place where the Rust departs from AX.25 (docs/DIFFERENCES.md, A; the sixth is B6 since M-105).
 fn departures() -> Vec<Vec<u8>> {
     let mut empty_callsign = inputs::with_content(&[0x01]);
     empty_callsign[..6].fill(b' ' << 1);
@@ -218,7 +222,7 @@ pub const STATIONS: &[u8; 76] = b"\x8E\x82\xAA\x8E\x8A\x40\xE0\x84\x9E\xB0\x62\x
 
 fn content(list: &mut List) {
     list.heading("Content alone, by document 01 where there is none (4); the Rust's behind an address field: every control octet with");
-    list.heading("content of 0 to 5 octets, and what was read written again.");
+    list.heading("content of 0 to 5 octets, and what was read written again; the PID A5 by document 02 (M-105).");
     list.content(&[]);
     for control in 0..=255 {
         for length in 1..=5 {
@@ -326,7 +330,8 @@ fn refused_records(list: &mut List) {
             list.write_rooms(&record, b"");
         }
     }
-    list.heading("Writing, by document 01: a route count over 8 (21), a character or SSID too high (22), info where there is none (23).");
+    list.heading("Writing, by document 01: a route count over 8 (21), a character or SSID too high (22), info where there is none (23); by");
+    list.heading("document 02 (M-105) a layer 3 octet outside the class (25).");
     let mut every = 0;
     records::unholdable(&mut |record, info| {
         every += 1;
@@ -437,6 +442,51 @@ fn groups(list: &mut List) {
     for known in [b"BOX12 \x10", b"BOX12 \xff", b"\x80OX12 \x00", b"BOX12\xff\x00"] {
         [0, 2, 3].iter().for_each(|&at| list.group(known, true, false, at));
     }
+}
+
+/// The first and the last octet of each row of the layer 3 class, and of each row outside it.
+const OF_CLASS: [u8; 8] = [0x10, 0x2F, 0x50, 0x6F, 0x90, 0xAF, 0xD0, 0xEF];
+const OUTSIDE: [u8; 10] = [0x00, 0x0F, 0x30, 0x4F, 0x70, 0x8F, 0xB0, 0xCF, 0xF0, 0xFF];
+
+fn layer_3(list: &mut List) {
+    list.heading("Writing, by document 02 (M-105): a layer 3 identifier as the octet that it carries; refused where that is outside the class");
+    list.heading("(25); and the frame of each record.");
+    for octet in OF_CLASS.into_iter().chain(OUTSIDE) {
+        let (i, ui) = (layer_3_record(flat::I, octet), layer_3_record(flat::UI, octet));
+        list.write(&i, b"OK");
+        list.write(&ui, b"");
+        list.again(&ui);
+    }
+    list.heading("Writing, by document 02 (M-105): each refusal with those after it, into no room too: 21, 22, 25, 24, and 0.");
+    let mut odd = layer_3_record(flat::UI, 0x30);
+    records::put(&mut odd, ROUTE + ENTRY, *b"\xFFOX   \xFF");
+    for (count, octet) in [(9, 0x30), (2, 0x30), (1, 0x30), (1, 0x20)] {
+        odd[COUNT] = count;
+        odd[PID_OCTET] = octet;
+        list.write_rooms(&odd, b"OK");
+    }
+    list.heading("Writing, by document 02 (M-105): 25 into room just as long as the frame would be, and one octet short.");
+    for room in [18, 17] {
+        list.write_in(&layer_3_record(flat::UI, 0xF0), b"OK", room);
+        list.write_in(&layer_3_record(flat::I, 0x0F), b"OK", room);
+    }
+    list.heading("Writing: 25 is not for kinds without a PID, one of which info refuses by document 01 (23), nor for an unknown PID of the class.");
+    list.write(&layer_3_record(flat::RR, 0x30), b"");
+    list.write(&layer_3_record(flat::RR, 0x30), b"OK");
+    list.write(&layer_3_record(flat::UNKNOWN_CONTENT, 0x30), b"OK");
+    list.write(&records::with_pid(flat::UI, flat::PID_UNKNOWN, 0x20), b"OK");
+    list.heading("Content written alone, by document 02 (M-105): the octet of the class, into short rooms (24) and longer; others (25).");
+    let (i, ui) = ([(0xEF, [0, 4, 6]), (0xF0, [0, 4, 6])], [(0x20, [3, 4, 6]), (0x30, [0, 3, 4])]);
+    for (kind, octets) in [(flat::I, i), (flat::UI, ui)] {
+        for (octet, rooms) in octets {
+            rooms.iter().for_each(|&room| list.write_content(&layer_3_record(kind, octet), b"OK", room));
+        }
+    }
+}
+
+/// A plain record whose PID, where the kind has one, is layer 3 with this octet.
+fn layer_3_record(kind: u8, octet: u8) -> Flat {
+    records::with_pid(kind, flat::PID_LAYER_3, octet)
 }
 
 fn beyond(list: &mut List) {

@@ -1,20 +1,21 @@
 //! What a run has met, so that a run that never met a case says so.
 
-use crate::domain::{self, Listed, LISTED};
+use crate::domain::{self, Listed, LISTED, RUST_LAYER_3};
 use crate::flat::*;
 use crate::kiss::{self, FEND, FESC, LONGEST, PORTS, TFEND, TFESC};
 use crate::lent::{Room, ROOMS};
 use crate::port::State;
 use crate::relays::Own;
+use crate::show;
 use ax25::frame::Ax25Frame;
 
 /// The numbers of document 01 that each kind of input can give.
 const DECODE_NUMBERS: [u32; 10] = [0, 1, 2, 3, 4, 5, 6, 7, 8, 9];
-const WRITE_NUMBERS: [u32; 3] = [21, 22, 23];
+const WRITE_NUMBERS: [u32; 4] = [21, 22, 23, 25];
 const TEXT_NUMBERS: [u32; 6] = [0, 31, 32, 33, 34, 35];
 const PRINT_NUMBERS: [u32; 2] = [0, 22];
 /// The numbers of content alone, read and written.
-const CONTENT_NUMBERS: [u32; 7] = [0, 4, 5, 6, 7, 8, 23];
+const CONTENT_NUMBERS: [u32; 8] = [0, 4, 5, 6, 7, 8, 23, 25];
 /// The numbers that writing an input again, side by side with it, can give.
 const BESIDE_NUMBERS: [u32; 11] = [0, 1, 2, 3, 4, 5, 6, 7, 8, 9, 24];
 /// Those of the relay: the refusals in their order.
@@ -31,6 +32,12 @@ const ROOMS_OF_ONE: &[(Room, &str)] = &[ROOMS[0], ROOMS[1], ROOMS[3]];
 
 /// A count for each kind of room.
 type Rooms = [u64; ROOMS.len()];
+
+/// A count for each octet of a layer 3 identifier, in I and in UI.
+type Octets = [[u64; 256]; 2];
+
+/// The writers that write such an octet, the first ones.
+const OCTET_WRITERS: usize = 5;
 
 /// What writes.
 #[derive(Clone, Copy)]
@@ -240,6 +247,13 @@ pub struct Seen {
     routes: [u64; REPEATERS + 1],
     /// By writer; those of records, and of content, are counted.
     written: [Written; 4],
+    /// By writer, layer 3 octets that were written, each compared by the record's own; and those of inputs that are canonical.
+    layer_3: [Octets; OCTET_WRITERS],
+    canonical_layer_3: Octets,
+    /// Of a frame and of content alone, octets outside the class, refused by 25 with too little room and with enough.
+    outside: [[Octets; 2]; 2],
+    /// By kind, I and UI, records with such an octet that 21 and 22 refuse, which come first.
+    outside_before: [[u64; 2]; 2],
     /// Each class with the rooms that each writer was lent in it.
     classes: Vec<(String, [Rooms; WRITERS.len()])>,
     /// By place, a first nonzero octet 01; and the first odd octet. Both apart for a place in a whole eight and one in the rest.
@@ -286,8 +300,13 @@ fn refused_case(room: usize, length: usize) -> usize {
     if room == 0 { 0 } else { 1 + usize::from(room > length) }
 }
 
-fn has_pid(record: &Flat) -> bool {
-    record[KIND] == I || record[KIND] == UI
+/// The case of a kind that has a PID.
+fn pid_kind(record: &Flat) -> usize {
+    usize::from(record[KIND] == UI)
+}
+
+fn count_octet(table: &mut Octets, record: &Flat) {
+    table[pid_kind(record)][usize::from(record[PID_OCTET])] += 1;
 }
 
 /// Whether a sequence number that the kind has is 8 or more. A record as the port lays it out has 0 where the kind lacks it.
@@ -333,6 +352,10 @@ impl Seen {
             pids: [0; 16],
             routes: [0; REPEATERS + 1],
             written: Default::default(),
+            layer_3: [[[0; 256]; 2]; OCTET_WRITERS],
+            canonical_layer_3: [[0; 256]; 2],
+            outside: [[[[0; 256]; 2]; 2]; 2],
+            outside_before: [[0; 2]; 2],
             classes: Vec::new(),
             first_ones: [[0; 2]; SEARCHED],
             ends: [[0; 2]; SEARCHED],
@@ -366,6 +389,10 @@ impl Seen {
         count(&mut self.routes, record[COUNT].into());
         if has_pid(record) {
             count(&mut self.pids, record[PID].into());
+        }
+        if canonical && is_layer_3(record) {
+            count_octet(&mut self.canonical_layer_3, record);
+            self.own_octet(record);
         }
     }
 
@@ -401,6 +428,22 @@ impl Seen {
     /// The record that it was; fields that its kind lacks are 0.
     pub fn written(&mut self, writer: Writer, record: &Flat, room: Room) {
         self.written[writer as usize].count(record, room);
+        self.layer_3(writer, record, room);
+    }
+
+    /// The octet of a layer 3 identifier, where there is room for it.
+    pub fn layer_3(&mut self, writer: Writer, record: &Flat, room: Room) {
+        if is_layer_3(record) && room.is_enough() {
+            count_octet(&mut self.layer_3[writer as usize], record);
+            self.own_octet(record);
+        }
+    }
+
+    /// An answer was compared by the record's own layer 3 octet, which may be the one that the Rust writes.
+    fn own_octet(&mut self, record: &Flat) {
+        if record[PID_OCTET] != RUST_LAYER_3 {
+            self.listed(Listed::B6);
+        }
     }
 
     /// A refused input of this length was to be re-encoded.
@@ -424,8 +467,22 @@ impl Seen {
         count(&mut self.beside_numbers, number as usize);
     }
 
-    pub fn write_refusal(&mut self, number: u32) {
+    /// A record was to be written that is refused by this number, whether or not the room is enough.
+    pub fn write_refusal(&mut self, number: u32, record: &Flat, enough: bool) {
         count(&mut self.write_numbers, number as usize);
+        match number {
+            25 => count_octet(&mut self.outside[0][usize::from(enough)], record),
+            21 | 22 if domain::is_outside(record) => self.outside_before[pid_kind(record)][number as usize - 21] += 1,
+            _ => {}
+        }
+    }
+
+    /// The same of content alone.
+    pub fn content_refusal(&mut self, number: u32, record: &Flat, enough: bool) {
+        self.content(number);
+        if number == 25 {
+            count_octet(&mut self.outside[1][usize::from(enough)], record);
+        }
     }
 
     pub fn text(&mut self, number: u32) {
@@ -587,6 +644,7 @@ impl Seen {
             missing.cases(&format!("start even at {} modulo 8, end modulo 8 at", start), &self.fields[start]);
         }
         self.missing_writes(&mut missing);
+        self.missing_octets(&mut missing);
         missing.0
     }
 
@@ -633,6 +691,21 @@ impl Seen {
             }
         }
     }
+
+    /// No octet of the layer 3 class lacks a writer or a canonical input, and none outside it a refusal.
+    fn missing_octets(&self, missing: &mut Missing) {
+        for ((_, who), written) in WRITERS.iter().zip(&self.layer_3) {
+            missing.octets(who, written, domain::is_of_class);
+        }
+        missing.octets("canonical", &self.canonical_layer_3, domain::is_of_class);
+        for (what, refused) in ["a frame", "content alone"].iter().zip(&self.outside) {
+            for (room, octets) in ["too little", "enough"].iter().zip(refused) {
+                missing.octets(&format!("{} refused by 25 with {} room", what, room), octets, |octet| !domain::is_of_class(octet));
+            }
+        }
+        missing.cases("a frame of I with a layer 3 octet outside the class, refused by 21, 22: case", &self.outside_before[0]);
+        missing.cases("a frame of UI with a layer 3 octet outside the class, refused by 21, 22: case", &self.outside_before[1]);
+    }
 }
 
 /// The names of what was never met.
@@ -647,6 +720,15 @@ impl Missing {
     fn cases(&mut self, what: &str, table: &[u64]) {
         let absent = table.iter().enumerate().filter(|(_, &count)| count == 0);
         self.0.extend(absent.map(|(case, _)| format!("{} {}", what, case)));
+    }
+
+    fn octets(&mut self, what: &str, table: &Octets, needed: impl Fn(u8) -> bool) {
+        for (kind, octets) in ["I", "UI"].iter().zip(table) {
+            let absent: Vec<u8> = (0..=255).filter(|&octet| needed(octet) && octets[usize::from(octet)] == 0).collect();
+            if !absent.is_empty() {
+                self.0.push(format!("{}, {} with the layer 3 octets {}", what, kind, show::hex(&absent)));
+            }
+        }
     }
 
     fn rooms(&mut self, what: &str, needed: &[(Room, &str)], rooms: Rooms) {

@@ -2,7 +2,7 @@
 
 use crate::check::{self, padded, Checker, Difference};
 use crate::domain;
-use crate::flat::{self, ADDRESS, FLAT};
+use crate::flat::{self, Flat, ADDRESS, FLAT, PID_OCTET};
 use crate::inputs;
 use crate::kiss;
 use crate::oracle;
@@ -47,15 +47,24 @@ fn show_rust(input: &[u8]) {
     match oracle::read(input) {
         Ok(frame) => {
             println!("Rust: {:?}", frame);
+            let octets = frame.to_bytes();
+            println!("Rust: re-encoded {} octets {}, canonical {}", octets.len(), show::hex(&octets), u8::from(octets == input));
             if frame.route.len() <= flat::REPEATERS {
                 let owed = oracle::accepted(input, &frame);
                 let places = [owed.start, owed.end, owed.length, owed.info_start, owed.info_len];
-                println!("Rust: {}", show::decode(0, &places, &show::record(&owed.record)));
+                println!("Rust: {}", show::decode(0, &places, &show::record(&flat::of_frame(&frame))));
+                show_masked(&owed.record, "input");
             }
-            let octets = frame.to_bytes();
-            println!("Rust: re-encoded {} octets {}, canonical {}", octets.len(), show::hex(&octets), u8::from(octets == input));
         }
         Err(refusal) => println!("Rust: refused {}: {:?}", show::number(refusal.number), refusal),
+    }
+}
+
+/// Says where one octet is not compared by the Rust's, but by that of the input, the record or the content.
+fn show_masked(record: &Flat, whose: &str) {
+    if flat::is_layer_3(record) {
+        let own = format!("the {}'s own, {:02X}", whose, record[PID_OCTET]);
+        println!("the PID octet is compared by {}: the Rust's identifier holds none, and it writes 10 (B6)", own);
     }
 }
 
@@ -134,15 +143,23 @@ pub fn record(record: &[u8], info: &[u8]) -> bool {
     let whole = padded::<FLAT>(record);
     println!("record: {} info {}", show::record(&whole), show::hex(info));
     let mut checker = Checker::thorough();
-    match domain::record_number(&whole, info) {
-        0 => println!("Rust: writes {}", show::hex(&flat::to_frame(&whole, info).to_bytes())),
-        number => println!("outside the domain of equality (B3): the port owes {}", number),
-    }
+    show_rust_writes(&whole, info, 0);
     let room = FLAT + info.len();
     let (number, length) = checker.port.encode(record, info, room);
     let octets = show::hex(&checker.port.output()[..length.min(room)]);
     println!("port: number {} length {} octets {}", number, length, octets);
     verdict(checker.record(record, info))
+}
+
+/// What the Rust writes of a record, from this octet on.
+fn show_rust_writes(record: &Flat, info: &[u8], from: usize) {
+    match domain::record_number(record, info) {
+        0 => {
+            println!("Rust: writes {}", show::hex(&flat::to_frame(record, info).to_bytes()[from..]));
+            show_masked(record, "record");
+        }
+        number => println!("outside the domain of equality (B3): the port owes {}", number),
+    }
 }
 
 pub fn simple_ui(source: &[u8], destination: &[u8], info: &[u8]) -> bool {
@@ -165,8 +182,12 @@ pub fn content(content: &[u8]) -> bool {
     if content.is_empty() {
         println!("outside the domain of equality (B5): the port owes 4");
     } else {
-        match oracle::read(&inputs::with_content(content)) {
-            Ok(frame) => println!("Rust: {:?}", frame.content),
+        let input = inputs::with_content(content);
+        match oracle::read(&input) {
+            Ok(frame) => {
+                println!("Rust: {:?}", frame.content);
+                show_masked(&oracle::accepted(&input, &frame).record, "content");
+            }
             Err(refusal) => println!("Rust: refused {}", show::number(refusal.number)),
         }
     }
@@ -178,6 +199,7 @@ pub fn content(content: &[u8]) -> bool {
 
 pub fn content_record(content: &[u8], info: &[u8]) -> bool {
     println!("flat content: {} info {}", show::hex(content), show::hex(info));
+    show_rust_writes(&check::with_plain_addresses(content), info, inputs::FIELD);
     let mut checker = Checker::thorough();
     let (number, length) = checker.port.encode_content(content, info, info.len() + FLAT);
     println!("port: number {} length {} octets {}", number, length, show::hex(&checker.port.output()[..length.min(info.len() + FLAT)]));
