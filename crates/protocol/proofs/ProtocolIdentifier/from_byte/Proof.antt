@@ -1,5 +1,5 @@
 -- `from_byte` gives the identifier of the octet: the class first, a name by its octet, else `Unknown`.
-use mathlib.Core.Path.{_≡_, ap, sym, _∙_}
+use mathlib.Core.Path.{ap, sym, _∙_}
 use borrow.Author.Needs.{needs}
 use borrow.Author.Tests.{ne-eqb}
 use Rattle.protocol.specs.Pid.{pidOf, among}
