@@ -1,12 +1,12 @@
 -- What spelling does not look at: an absent mark is spelled as Command, and unused places are not spelled.
-use Prim.Native.Nat.{ℕ, zero, suc, _≤_, _<_}
+use Prim.Native.Nat.{ℕ, zero, suc, _+_, _*_, _≤_, _<_}
 use mathlib.Core.Path.{_≡_, refl, ap, sym, _∙_}
 use mathlib.Core.Bool.{true, false, cond}
 use mathlib.Core.List.{List}
 use native.Mathlib.Omega.{arith}
 use borrow.Author.Tests.{lt-ltb, le-ltb}
 use lib.Dec.{ltb}
-use lib.ListN.{length}
+use lib.ListN.{length, drop}
 use Rattle.octets.specs.Octet.{Octets}
 use Rattle.octets.proofs.Choice.{by}
 use Rattle.address.specs.Address.{PlainAddress}
@@ -14,7 +14,7 @@ use Rattle.content.specs.Spell.{hasInfo}
 use Rattle.content.specs.Encode.{strayInfo}
 use Rattle.content.proofs.Encode.{plain-pid}
 use Rattle.decode.specs.Answer.{isAccepted}
-use Rattle.decode.specs.Read.{acceptedWith, decode, infoIn}
+use Rattle.decode.specs.Read.{endOf, acceptedWith, decode, infoIn}
 use Rattle.frame.specs.Write.{routeEncodable, frameEncodable, writeAnswer, octetsWritten, written}
 use Rattle.frame.specs.declared.WriteAnswer.the-variants.{Accepted, NoRoom}
 use Rattle.frame.specs.Spell.{repeaterAt, groupsOf, destinationMark, sourceMark, addressField, spell, madeCommand, withMark, Plain, placeInUse, routeInUse, inUse}
@@ -23,8 +23,10 @@ use Rattle.frame.specs.declared.Mark.the-variants.{Command, Response, Absent}
 use Rattle.frame.specs.declared.RouteEntry.{RouteEntry}
 use Rattle.frame.specs.declared.Ax25Frame.{Ax25Frame}
 use Rattle.decode.specs.declared.Decoded.{Decoded}
-use Rattle.grammar.proofs.Back.{decode-spell}
+use Rattle.decode.proofs.Accepts.{accepts}
+use Rattle.grammar.proofs.Back.{after-field, decode-spell}
 use Rattle.grammar.proofs.Plain.{read}
+use Rattle.grammar.proofs.Direct.{info-kept}
 
 destination-same : (m : Mark) → destinationMark (madeCommand m) ≡ destinationMark m
 destination-same Command = refl
@@ -100,6 +102,15 @@ decoded-written s room o e =
     let f : Ax25Frame = decode s .frame in
     let i : List ℕ = infoIn s (decode s) in
     sym (mark-written f i room) ∙ plain-written (withMark f) i room (read s o e .plain) ∙ rw mark-spell refl
+
+-- of a kind with info, what was decoded spells every octet after the address field again
+pub content-spell : (s : List ℕ) → Octets s → isAccepted (decode s .answer) ≡ true → hasInfo (decode s .frame .content) ≡ true
+    → drop (14 + 7 * decode s .frame .«route_count») (spell (decode s .frame) (infoIn s (decode s))) ≡ drop (endOf s + 1) s
+unfolding withMark
+content-spell s o e h =
+    let i : List ℕ = infoIn s (decode s) in
+    rw (← mark-spell (decode s .frame) i)
+    (after-field (withMark (decode s .frame)) i (read s o e .plain) ∙ info-kept s o (accepts s e) h)
 
 -- writing's answer and length go with these
 pub written-is : (f : Ax25Frame) (i : List ℕ) (room : ℕ)

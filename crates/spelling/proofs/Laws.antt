@@ -14,10 +14,10 @@ use Rattle.frame.specs.Spell.{withMark, spell, Plain}
 use Rattle.frame.specs.declared.Ax25Frame.{Ax25Frame}
 use Rattle.grammar.specs.Direct.{direct}
 use Rattle.decode.proofs.Accepts.{accepts}
-use Rattle.grammar.proofs.Back.{after-field, info-spell, frame-spell}
+use Rattle.grammar.proofs.Back.{info-spell, frame-spell}
 use Rattle.grammar.proofs.Plain.{read}
-use Rattle.grammar.proofs.Respell.{mark-spell, use-spell, use-mark, accepted-spell}
-use Rattle.grammar.proofs.Direct.{info-kept, direct-spelled, direct-again}
+use Rattle.grammar.proofs.Respell.{mark-spell, use-spell, use-mark, accepted-spell, content-spell}
+use Rattle.grammar.proofs.Direct.{direct-spelled, direct-again}
 use Rattle.spelling.specs.Canonical.{again, canonical}
 
 -- a canonical input is what some plain frame spells
@@ -53,10 +53,8 @@ module _ (s : List ℕ) (o : Octets s) where
   -- of a kind with info re-encoding keeps every octet after the address field
   pub again-content : isAccepted (decode s .answer) ≡ true → hasInfo (decode s .frame .content) ≡ true
       → drop (14 + 7 * decode s .frame .«route_count») (again s) ≡ drop (endOf s + 1) s
-  unfolding again withMark
-  again-content a e =
-      let i = infoIn s (decode s) in
-      rw (← mark-spell (decode s .frame) i) (after-field (withMark (decode s .frame)) i (read s o a .plain) ∙ info-kept s o (accepts s a) e)
+  unfolding again
+  again-content a e = content-spell s o a e
 
 pub refused-not-canonical : (s : List ℕ) → isAccepted (decode s .answer) ≡ false → canonical s ≡ false
 unfolding canonical
