@@ -400,10 +400,10 @@ BOTH = [
 TSHARK = BOTH + [
     (REFUSAL, ['accepted'], lambda frame, field: len(frame.groups) > 10,
      'nine repeaters: tshark shows eight and passes over the rest (B1)'),
-    (SILENCE, ['pid', 'info_length'], lambda frame, field: frame.kind() == 'UI' and frame.p_f(),
+    (SILENCE, ['pid', 'layer_3', 'info_length'], lambda frame, field: frame.kind() == 'UI' and frame.p_f(),
      'UI with P/F set: tshark looks for no PID'),
     (SILENCE, ['layer_3'], of_kind('I', 'UI'),
-     'whether a PID is of the layer 3 class: tshark does not say; its octet is compared'),
+     'whether a PID is of the layer 3 class: tshark gives its octet alone, which is compared'),
     (SILENCE, ['mark'], of_kind('I'),
      'I: tshark does not say whether Command or Response, since an I frame is a Command (A15)'),
     (SILENCE, ['mark'], lambda frame, field: frame.kind() in ('RR', 'RNR', 'REJ') and not frame.p_f(),
