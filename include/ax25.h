@@ -56,7 +56,7 @@ enum ax25_number {
                                           also where its callsign has more than six octets */
     AX25_INFO_NOT_ALLOWED = 23,        /* info for a kind that has none */
     AX25_NO_ROOM = 24,                 /* the output is shorter than needed */
-    AX25_NOT_LAYER_3 = 25,             /* a layer 3 identifier with an octet outside its class: bits 5 and 4 are not 01 or 10 */
+    AX25_PID_OUTSIDE_CLASS = 25,       /* a layer 3 identifier with an octet outside its class: bits 5 and 4 are not 01 or 10 */
 
     /* Reading an address from text, or from a callsign and an SSID. */
     AX25_CALLSIGN_TOO_LONG = 31,       /* more than six characters */
