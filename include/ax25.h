@@ -56,6 +56,7 @@ enum ax25_number {
                                           also where its callsign has more than six octets */
     AX25_INFO_NOT_ALLOWED = 23,        /* info for a kind that has none */
     AX25_NO_ROOM = 24,                 /* the output is shorter than needed */
+    AX25_PID_OUTSIDE_CLASS = 25,       /* a layer 3 identifier with an octet outside its class: bits 5 and 4 are not 01 or 10 */
 
     /* Reading an address from text, or from a callsign and an SSID. */
     AX25_CALLSIGN_TOO_LONG = 31,       /* more than six characters */
@@ -118,10 +119,9 @@ size_t ax25_reencoded_length(const uint8_t *in, size_t in_len);
    - drops octets left over between the last whole address and the end of the address field,
    - writes an absent command/response mark (both bits equal) as Command,
    - sets the two reserved bits of every address,
-   - writes every PID of the layer 3 class (bits 5 and 4 are 01 or 10) as 10 hex, so that 20 hex becomes 10 hex,
    - drops the octets after the control octet of RR, RNR, REJ, SABM, DISC, DM and UA frames,
    - clears FRMR's unnamed bits.
-   A canonical frame has none of these and re-encodes as itself. */
+   All else is kept, every PID too. A canonical frame has none of these and re-encodes as itself. */
 uint32_t ax25_reencode(const uint8_t *in, size_t in_len, uint8_t *out, size_t out_len);
 
 /* KISS packets: how a modem is given a frame, and how it gives one. A packet is C0; a type octet with the port, 0 to 11, in its

@@ -78,7 +78,7 @@ def made_callsign(dice):
 
 
 def made_frames():
-    """Frames with 0 to 8 repeaters in turn, in each place every SSID in turn. All are plain but for the octet of the layer 3 class."""
+    """Frames with 0 to 8 repeaters in turn, in each place every SSID in turn. All are plain."""
     dice = Dice(25)
     frames = []
     for number, content in enumerate(made_contents(dice)):
@@ -188,9 +188,10 @@ class Layout:
 # Readings: a field is text; '-' where a frame of that kind has no such field, None where the reader does not say. Where the frame is
 # not accepted, `accepted` is the only one.
 
-FIELDS = ['accepted', 'destination', 'source', 'repeaters', 'marks', 'mark', 'kind', 'control', 'nr', 'ns', 'pf', 'pid', 'layer3_octet',
-          'frmr', 'info_length', 'canonical']
+FIELDS = ['accepted', 'destination', 'source', 'repeaters', 'marks', 'mark', 'kind', 'control', 'nr', 'ns', 'pf', 'pid', 'layer_3', 'frmr',
+          'info_length', 'canonical']
 REFUSED = {'accepted': 'no'}
+NO_PID = {'pid': '-', 'layer_3': '-'}
 NOT_UNDERSTOOD = {'accepted': 'something not understood'}
 Group = collections.namedtuple('Group', 'address mark reserved last')
 
@@ -214,6 +215,11 @@ def unescaped(text):
     return re.sub('%(..)', lambda found: chr(int(found[1], 16)), text)
 
 
+def dumper_pid(octet):
+    """It has no word for the layer 3 class, but the octet tells."""
+    return NO_PID if octet == '-' else {'pid': octet, 'layer_3': 'yes' if is_layer_3(int(octet, 16)) else 'no'}
+
+
 def by_dumper(text):
     said = dict(line.partition('=')[::2] for line in text.splitlines())
     if int(said['answer']) != 0:
@@ -227,44 +233,28 @@ def by_dumper(text):
         'marks': listed('1' if entry.endswith('*') else '0' for entry in route),
         'mark': said['mark'], 'kind': kind, 'control': said['control'],
         'nr': str(control >> 5) if numbered else '-', 'ns': str(control >> 1 & 7) if kind == 'I' else '-', 'pf': str(control >> 4 & 1),
-        'pid': pid,
-        # The whole class is printed as 10, so that only a canonical frame tells its octet.
-        'layer3_octet': '-' if pid != '10' else '10' if said['canonical'] == 'yes' else None,
-        'frmr': None if kind == 'FRMR' else '-',
+        **dumper_pid(pid), 'frmr': None if kind == 'FRMR' else '-',
         'info_length': said['info_length'] if pid != '-' else '-', 'canonical': said['canonical']}
 
 
-def pid_fields(octet):
-    """Of a PID's octet, or direwolf's words for the layer 3 class, or '-': which PID, and which octet of the class."""
-    if octet == DIREWOLF_LAYER_3:
-        return {'pid': '10', 'layer3_octet': None}
-    if octet is None:
-        return {'pid': None, 'layer3_octet': None}
-    if octet == '-' or not is_layer_3(int(octet, 16)):
-        return {'pid': octet, 'layer3_octet': '-'}
-    return {'pid': '10', 'layer3_octet': octet}
-
-
-def canonical(groups, kind, pid, stray):
+def canonical(groups, kind, stray):
     """What a report says of the spelling: None where it leaves out what decides. `stray`: octets follow where no info may."""
     marks = groups[0].mark != groups[1].mark
     ends = [group.last for group in groups] == [0] * (len(groups) - 1) + [1]
     if not (marks and ends and all(group.reserved == 3 for group in groups)) or stray:
         return 'no'
-    if kind == 'FRMR' or pid['layer3_octet'] is None:
-        return None
-    return 'yes' if pid['layer3_octet'] in ('-', '10') else 'no'
+    return None if kind == 'FRMR' else 'yes'
 
 
-def common(groups, kind, octet, after):
-    """What is made alike of both programs' reports. `after` is how many octets follow the control octet, and the PID if there is one."""
+def common(groups, kind, pid, after):
+    """What is made alike of both programs' reports. `after` is how many octets follow the control octet, and the PID if there is one; None
+    where a program looks for no PID."""
     has_info = kind in ('I', 'UI')
-    pid = pid_fields(octet)
     return {
         'accepted': 'yes', 'destination': groups[0].address, 'source': groups[1].address, 'kind': kind,
         'repeaters': listed(group.address for group in groups[2:]), 'marks': listed(str(group.mark) for group in groups[2:]), **pid,
-        'frmr': None if kind == 'FRMR' else '-', 'info_length': '-' if not has_info else None if octet is None else str(after),
-        'canonical': canonical(groups, kind, pid, stray=not has_info and kind != 'FRMR' and after)}
+        'frmr': None if kind == 'FRMR' else '-', 'info_length': '-' if not has_info else None if after is None else str(after),
+        'canonical': canonical(groups, kind, stray=not has_info and kind != 'FRMR' and after)}
 
 
 # tshark
@@ -302,6 +292,12 @@ def tshark_mark(elements, kind):
     return None
 
 
+def tshark_pid(elements, kind):
+    """It has no word for the layer 3 class either, and gives the octet; or it looks for no PID."""
+    unsaid = None if kind in ('I', 'UI') else '-'
+    return {'pid': elements['ax25.pid']['value'] if 'ax25.pid' in elements else unsaid, 'layer_3': unsaid}
+
+
 def by_tshark(packet):
     if '"[Malformed Packet: AX.25]"' in packet:
         return REFUSED
@@ -311,10 +307,11 @@ def by_tshark(packet):
     kind = summary[3] or summary[1]
     names = ['dst', 'src'] + [f'via{place}' for place in range(1, 9)]
     groups = [tshark_group(elements['ax25.' + name]) for name in names if 'ax25.' + name in elements]
-    pid = elements['ax25.pid']['value'] if 'ax25.pid' in elements else None if kind in ('I', 'UI') else '-'
+    pid = tshark_pid(elements, kind)
+    after = None if pid['pid'] is None else int(elements['len']['show']) - int(elements['ax25']['size'])
     number = lambda name: elements[name]['show'] if name in elements else '-'
     return {
-        **common(groups, kind, pid, int(elements['len']['show']) - int(elements['ax25']['size'])),
+        **common(groups, kind, pid, after),
         'mark': tshark_mark(elements, kind), 'control': control['value'], 'nr': number('ax25.ctl.n_r'), 'ns': number('ax25.ctl.n_s'),
         'pf': '1' if summary[2] else '0'}
 
@@ -332,11 +329,11 @@ def direwolf_groups(report):
 
 def direwolf_pid(words):
     if words is None:
-        return '-'
+        return NO_PID
+    if words == DIREWOLF_LAYER_3:
+        return {'pid': None, 'layer_3': 'yes'}
     unknown = re.fullmatch('Unknown protocol id = 0x(..)', words)
-    if unknown:
-        return unknown[1]
-    return words if words == DIREWOLF_LAYER_3 else f'{DIREWOLF_PIDS[words]:02x}'
+    return {'pid': unknown[1] if unknown else f'{DIREWOLF_PIDS[words]:02x}', 'layer_3': 'no'}
 
 
 def by_direwolf(report):
@@ -348,7 +345,7 @@ def by_direwolf(report):
     groups = direwolf_groups(report)
     marks = (groups[0].mark, groups[1].mark)
     pid = direwolf_pid(words)
-    after = int(length) - 7 * len(groups) - (1 if pid == '-' else 2)
+    after = int(length) - 7 * len(groups) - (1 if pid == NO_PID else 2)
     return {
         **common(groups, information or kind, pid, after),
         'mark': {(1, 0): 'command', (0, 1): 'response'}.get(marks, 'none'), 'control': None, 'nr': nr or '-', 'ns': ns or '-', 'pf': pf}
@@ -399,14 +396,14 @@ BOTH = [
      "FRMR's three octets: neither the dumper nor the program prints them (A9, A10)"),
     (SILENCE, ['canonical'], of_kind('FRMR'),
      "whether FRMR's bits without a name are zero: the program does not say (A10)"),
-    (SILENCE, ['layer3_octet'], lambda frame, field: frame.layer_3(),
-     'which octet of the layer 3 class it is: the dumper prints 10 for each, and decode_aprs none (A6); the class is compared'),
 ]
 TSHARK = BOTH + [
     (REFUSAL, ['accepted'], lambda frame, field: len(frame.groups) > 10,
      'nine repeaters: tshark shows eight and passes over the rest (B1)'),
-    (SILENCE, ['pid', 'layer3_octet', 'info_length', 'canonical'], lambda frame, field: frame.kind() == 'UI' and frame.p_f(),
+    (SILENCE, ['pid', 'layer_3', 'info_length'], lambda frame, field: frame.kind() == 'UI' and frame.p_f(),
      'UI with P/F set: tshark looks for no PID'),
+    (SILENCE, ['layer_3'], of_kind('I', 'UI'),
+     'whether a PID is of the layer 3 class: tshark gives its octet alone, which is compared'),
     (SILENCE, ['mark'], of_kind('I'),
      'I: tshark does not say whether Command or Response, since an I frame is a Command (A15)'),
     (SILENCE, ['mark'], lambda frame, field: frame.kind() in ('RR', 'RNR', 'REJ') and not frame.p_f(),
@@ -421,8 +418,8 @@ DIREWOLF = BOTH + [
      'I and UI without a PID: decode_aprs reads a PID of 00'),
     (SILENCE, ['control'], lambda frame, field: True,
      'the control octet: decode_aprs gives its parts, which are compared one by one'),
-    (SILENCE, ['canonical'], lambda frame, field: frame.layer_3(),
-     'whether a layer 3 PID is 10: decode_aprs does not say'),
+    (SILENCE, ['pid'], lambda frame, field: frame.layer_3(),
+     'which octet of the layer 3 class a PID is: decode_aprs does not say; that it is of the class is compared'),
     (ANOTHER, ADDRESSES, odd_character(0x20),
      'decode_aprs prints a dot for a character that is not printable (A3)'),
 ]
@@ -537,10 +534,8 @@ def made(folder):
     """What is known of the frames made here without any other program."""
     count, every = Count(), all_frames()
     readings = dict(zip(every, dumper_readings(folder, every)))
-    plain = lambda frame: not Layout(frame).layer_3() or Layout(frame).content[1] == 0x10
     for frames, wanted, what in (
-            ([frame for frame in made_frames() if plain(frame)], 'yes', 'plain frames'),
-            ([frame for frame in made_frames() if not plain(frame)], 'no', 'frames that are plain but for their layer 3 PID'),
+            (made_frames(), 'yes', 'plain frames'),
             (spoilt_frames(), 'no', 'frames with equal marks, a reserved bit clear or a tail')):
         wrong = [frame for frame in frames if readings[frame].get('canonical') != wanted]
         count.fail_all([f'the dumper should accept this and say canonical={wanted}: {hex_line(frame)}' for frame in wrong])

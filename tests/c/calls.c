@@ -20,7 +20,7 @@
 /* The address octets with the repeater HILL1-2. */
 #define ROUTED "8E 82 AA 8E 8A 40 E0 84 9E B0 62 64 40 66 90 92 98 98 62 40 65 "
 
-/* P1 to P13: what document 01 says of each, worked out by hand. */
+/* P1 to P13: what document 01 says of each, and document 02 (M-105) of P13, worked out by hand. */
 static const struct {
     const char *name, *input;
     unsigned number, canonical;
@@ -38,7 +38,7 @@ static const struct {
     {"P10", ADDRESS "87 01 02", 8, 0, ""},
     {"P11", ADDRESS "87 F1 03 44", 0, 0, ADDRESS "87 01 02 44"},
     {"P12", ADDRESS "01 AA", 0, 0, ADDRESS "01"},
-    {"P13", ADDRESS "03 20", 0, 0, ADDRESS "03 10"},
+    {"P13", ADDRESS "03 20", 0, 1, ADDRESS "03 20"},
 };
 
 static int same_answer(const struct answer *a, const struct answer *b) {
@@ -120,6 +120,23 @@ static void run_short(void) {
             in[1] = (uint8_t)b;
             want = model(in, 2);
             examine(in, 2, &want, b % 3);
+        }
+    }
+    set_end();
+}
+
+/* Whatever the PID is, of the layer 3 class too (M-105), this frame is canonical: it is re-encoded, as it is relayed, with that PID. */
+static void run_pids(void) {
+    static const uint8_t controls[] = {0x00, 0x10, 0x03, 0x13};
+    uint8_t in[64];
+    size_t control = from_hex(ROUTED, in), len = control + from_hex("00 00 4F 4B", in + control);
+    struct answer want = {0, 1, len, in};
+    set_begin("every PID in I and UI, P/F clear and set");
+    for (size_t i = 0; i < sizeof controls; i++) {
+        in[control] = controls[i];
+        for (unsigned pid = 0; pid < 256; pid++) {
+            in[control + 1] = (uint8_t)pid;
+            examine_everywhere(in, len, &want);
         }
     }
     set_end();
@@ -294,6 +311,7 @@ int main(int argc, char **argv) {
     run_spans();
     run_empty();
     run_short();
+    run_pids();
     run_contents();
     run_long();
     run_relays();

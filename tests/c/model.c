@@ -19,7 +19,7 @@ struct fields {
     unsigned receive, send, poll;           /* N(R), N(S), P/F */
     unsigned z, y, x, w;                    /* FRMR's flags */
     unsigned rejected_receive, rejected_send, rejected_response, rejected_control;
-    unsigned pid;                           /* as it is written */
+    unsigned pid;
     const uint8_t *info;
     size_t info_len;
 };
@@ -32,12 +32,6 @@ static struct station read_station(const uint8_t *group) {
     s.ssid = group[6] >> 1 & 15;
     s.mark = bit(group[6], 7);
     return s;
-}
-
-/* Rule 7, and what writing makes of it: the layer 3 class is one case. */
-static unsigned read_pid(unsigned octet) {
-    unsigned class_bits = octet >> 4 & 3;
-    return class_bits == 1 || class_bits == 2 ? 0x10 : octet;
 }
 
 static unsigned read_frmr(struct fields *f, const uint8_t *content, size_t len) {
@@ -53,9 +47,10 @@ static unsigned read_frmr(struct fields *f, const uint8_t *content, size_t len) 
     return 0;
 }
 
+/* By rule 7 and M-105 every identifier, the layer 3 class too, holds or names its one octet: the octet stands for it here. */
 static unsigned read_info(struct fields *f, const uint8_t *content, size_t len) {
     if (len < 2) return 5;
-    f->pid = read_pid(content[1]);
+    f->pid = content[1];
     f->info = content + 2;
     f->info_len = len - 2;
     return 0;

@@ -183,11 +183,11 @@ static void run_marks(void) {
     set_end();
 }
 
-/* All that re-encoding changes: nulls, leftover octets, reserved bits, a layer 3 PID, tails, FRMR's unnamed bits. */
+/* Nulls, leftover octets, reserved bits, tails and FRMR's unnamed bits, which re-encoding changes; and layer 3 PIDs, which it keeps. */
 static void run_kept(void) {
     static const char *const contents[] = {"03 20 67", "00 9A", "21", "09 AA 55", "63 00", "3F FF", "87 F1 03 44"};
     struct frame f;
-    set_begin("what re-encoding changes");
+    set_begin("what re-encoding changes, and layer 3 PIDs");
     for (f.repeaters = 1; f.repeaters <= 8; f.repeaters += 7)
         for (f.nulls = 0; f.nulls <= 9; f.nulls += 3)
             for (f.leftover = 0; f.leftover <= 6; f.leftover++)

@@ -1,5 +1,5 @@
 // The dumper's text of one input after the other, and into buffers of several sizes. The stored output was typed out from
-// document 01's rules.
+// document 01's rules, and of the layer 3 class from document 02's (M-105).
 use libc::STDOUT_FILENO;
 
 mod sizes; // sizes.rt: long inputs, and buffers that are short, exactly full and longer
@@ -84,12 +84,19 @@ fn kinds() {
     );
 }
 
-// Not canonical: leading null, leftover octet, absent marks, reserved bits, layer 3 octet, tail, FRMR bits; and a response.
+// The layer 3 class: 10, 20, 1F and 2F in UI, EF and 90 in I; and on both sides of it 0F and 30.
+fn layer3() {
+    contents(
+        b"\x02\x03\x10\x02\x03\x20\x02\x03\x1F\x02\x13\x2F\x02\x00\xEF\x02\xBA\x90\x02\x03\x0F\x02\x03\x30",
+    );
+}
+
+// Not canonical: leading null, leftover octet, absent marks, reserved bits, tail, FRMR bits; and a response.
 fn spellings() {
     frames(
         b"\x13\x00\x8E\x82\xAA\x8E\x8A\x40\xE0\x84\x9E\xB0\x62\x64\x40\x67\x03\xF0\x4F\x4B\x11\x8E\x82\xAA\x8E\x8A\x40\xE0\x84\x9E\xB0\x62\x64\x40\x66\x41\x03\xF0\x10\x8E\x82\xAA\x8E\x8A\x40\x60\x84\x9E\xB0\x62\x64\x40\x67\x03\xF0\x10\x8E\x82\xAA\x8E\x8A\x40\xE0\x84\x9E\xB0\x62\x64\x40\xE7\x03\xF0\x10\x8E\x82\xAA\x8E\x8A\x40\x60\x84\x9E\xB0\x62\x64\x40\xE7\x03\xF0\x10\x8E\x82\xAA\x8E\x8A\x40\x80\x84\x9E\xB0\x62\x64\x40\x67\x03\xF0",
     );
-    contents(b"\x02\x03\x20\x02\x03\x10\x02\x01\xAA\x04\x87\xF1\x03\x44");
+    contents(b"\x02\x01\xAA\x04\x87\xF1\x03\x44");
 }
 
 // Letters of both cases and digits as they are, all others in hex; padding and the empty callsign.
@@ -103,6 +110,7 @@ fn main() {
     refusals();
     repeaters();
     kinds();
+    layer3();
     spellings();
     characters();
     sizes::all();
