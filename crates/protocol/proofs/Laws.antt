@@ -6,7 +6,7 @@ use mathlib.Core.List.{List, [], _∷_}
 use native.Mathlib.Omega.{arith}
 use borrow.Author.Tests.{ltb-true, not-true}
 use lib.Dec.{eqb, ltb}
-use Rattle.octets.proofs.Choice.{so, both, neither}
+use Rattle.octets.proofs.Choice.{so, both, and-false, neither}
 use Rattle.octets.proofs.Octet.{octet-test, octet-same}
 use Rattle.protocol.specs.Pid.{layer3, octetOf, named, among, pidOf, hasOctet, outsideClass, plainPid}
 use Rattle.protocol.specs.declared.ProtocolIdentifier.{ProtocolIdentifier}
@@ -16,6 +16,15 @@ use Rattle.protocol.specs.declared.ProtocolIdentifier.the-variants.{Laye
 pub octet-pid : (b : ℕ) → b < 256 → octetOf (pidOf b) ≡ b
 unfolding pidOf among
 octet-pid b h = octet-same (λ n. octetOf (pidOf n)) (λ n. n) tt b h
+
+-- every octet of the layer 3 class is read as an identifier that carries it
+pub class-read : (b : ℕ) → layer3 b ≡ true → pidOf b ≡ Layer3Impl b
+unfolding pidOf
+class-read b e = rw e refl
+
+-- an unknown identifier with such an octet is written too, but is not plain
+pub class-unknown : (b : ℕ) → layer3 b ≡ true → (outsideClass (Unknown b) ≡ false) × (plainPid (Unknown b) ≡ false)
+class-unknown b e = (refl, rw (e, and-false (ltb b 256)) refl)
 
 -- what is read is plain
 pub pid-plain : (b : ℕ) → b < 256 → plainPid (pidOf b) ≡ true
