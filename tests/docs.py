@@ -118,6 +118,7 @@ def statements():
         'Relaying (document 02, M-100 and M-102)',
         'KISS packets (document 02, M-103)',
         'A serial line (document 02, M-104)',
+        'The layer 3 octet (document 02, M-105)',
         'Smaller statements that stand for themselves',
     )
     for title in titles:
