@@ -1,38 +1,45 @@
 -- What writing a group and reading it gives, and the other way round. Upper crates rest on these and look into no group.
-use Prim.Native.Nat.{ℕ, zero, suc, _+_, _*_, _/_, _%_, _<_, _≤_}
-use mathlib.Core.Path.{_≡_, refl, _∙_}
+use Prim.Native.Nat.{ℕ, zero, suc, _*_, _/_, _%_, _<_, _≤_}
+use mathlib.Core.Path.{_≡_, refl}
 use mathlib.Core.Bool.{Bool, true, false, cond, _&&_}
 use mathlib.Core.List.{List, [], _∷_}
 use native.Mathlib.Omega.{arith}
-use borrow.Author.Tests.{ltb-true, leb-true, lt-ltb, le-leb, eq-eqb, ne-eqb, eqb-true, eqb-false}
-use lib.Dec.{leb, eqb}
+use borrow.Author.Tests.{ltb-true, leb-true, lt-ltb, le-leb, eq-eqb, ne-eqb, eqb-false}
+use lib.Dec.{leb}
 use lib.ListN.{length, getD, set}
-use lib.Seq.{set-getD, getD-set-same, getD-set-other}
-use Rattle.octets.specs.Octet.{Octets, flag, field, bit}
+use lib.Seq.{getD-set-same, getD-set-other}
+use Rattle.octets.specs.Octet.{Octets, field, bit}
 use Rattle.octets.specs.All.{all}
 use Rattle.octets.proofs.All.{all-nil, all-cons, all-at}
 use Rattle.octets.proofs.Choice.{by, both}
-use Rattle.octets.proofs.Octet.{octet-same, octet-where}
+use Rattle.octets.proofs.Octet.{octet-same}
 use Rattle.address.specs.declared.Address.{Address}
 use Rattle.address.specs.declared.group.GroupAnswer.the-variants.{NotEncodable}
-use Rattle.address.specs.Address.{low, noCall, encodable, PlainAddress}
-use Rattle.address.specs.Group.{addressOf, markOf, markSet, reserved, octetAt, ssidOctet, groupOf, groupNumberOf, writeGroup, reservedSet}
+use Rattle.address.specs.Address.{low, reservedOnes, noCall, encodable, PlainAddress}
+use Rattle.address.specs.Group.{addressOf, markOf, markSet, octetAt, ssidOctet, groupOf, groupNumberOf, writeGroup}
 
--- what can be written, as two tests
-pub encodable-is : (a : Address) → encodable a ≡ (leb (a .ssid) 15 && all low (a .callsign))
+-- what can be written, as three tests
+pub encodable-is : (a : Address) → encodable a ≡ (leb (a .ssid) 15 && (leb (a .reserved) 3 && all low (a .callsign)))
 unfolding encodable
 encodable-is a = refl
 
--- what can be written: characters below 128
-pub plain-character : (a : Address) → PlainAddress a → (k : ℕ) → k < 6 → getD (a .callsign) k 0 < 128
-unfolding encodable
-plain-character a p k h =
-    ltb-true _ 128 (all-at low (a .callsign) 0 k (omega (arith, p .six)) (both (leb (a .ssid) 15) _ (p .writable) .1))
-
--- and an SSID up to 15
+-- what can be written: an SSID up to 15
 pub plain-ssid : (a : Address) → PlainAddress a → a .ssid ≤ 15
 unfolding encodable
 plain-ssid a p = leb-true _ 15 (both (leb (a .ssid) 15) _ (p .writable) .0)
+
+after-ssid : (a : Address) → PlainAddress a → (leb (a .reserved) 3 && all low (a .callsign)) ≡ true
+unfolding encodable
+after-ssid a p = both (leb (a .ssid) 15) _ (p .writable) .1
+
+-- reserved bits up to 3
+pub plain-reserved : (a : Address) → PlainAddress a → a .reserved ≤ 3
+plain-reserved a p = leb-true _ 3 (both (leb (a .reserved) 3) _ (after-ssid a p) .0)
+
+-- and characters below 128
+pub plain-character : (a : Address) → PlainAddress a → (k : ℕ) → k < 6 → getD (a .callsign) k 0 < 128
+plain-character a p k h =
+    ltb-true _ 128 (all-at low (a .callsign) 0 k (omega (arith, p .six)) (both (leb (a .reserved) 3) _ (after-ssid a p) .1))
 
 -- a list of six is its six elements
 pub six-list : (d : ℕ) (l : List ℕ) → length l ≡ 6 → getD l 0 d ∷ getD l 1 d ∷ getD l 2 d ∷ getD l 3 d ∷ getD l 4 d ∷ getD l 5 d ∷ [] ≡ l
@@ -54,45 +61,45 @@ group-length a m e = refl
 pub group-is : (a : Address) (m e : Bool)
     → groupOf a m e
     ≡ octetAt (a .callsign) 0 ∷ octetAt (a .callsign) 1 ∷ octetAt (a .callsign) 2 ∷ octetAt (a .callsign) 3
-    ∷ octetAt (a .callsign) 4 ∷ octetAt (a .callsign) 5 ∷ ssidOctet (a .ssid) m e ∷ []
+    ∷ octetAt (a .callsign) 4 ∷ octetAt (a .callsign) 5 ∷ ssidOctet (a .ssid) (a .reserved) m e ∷ []
 unfolding groupOf
 group-is a m e = refl
 
--- the fields of the seventh octet, whatever the SSID
-ssid-back : (m e : Bool) (s : ℕ) → s ≤ 15 → field 1 4 (ssidOctet s m e) ≡ s
+-- the fields of the seventh octet: each is what was given, whatever the others are
+ssid-back : (m e : Bool) (s r : ℕ) → s ≤ 15 → field 1 4 (ssidOctet s r m e) ≡ s
 unfolding ssidOctet
-ssid-back true true s h = omega arith
-ssid-back true false s h = omega arith
-ssid-back false true s h = omega arith
-ssid-back false false s h = omega arith
+ssid-back true true s r h = omega arith
+ssid-back true false s r h = omega arith
+ssid-back false true s r h = omega arith
+ssid-back false false s r h = omega arith
 
-mark-back : (m e : Bool) (s : ℕ) → bit 7 (ssidOctet s m e) ≡ m
+reserved-back : (m e : Bool) (s r : ℕ) → r ≤ 3 → field 5 2 (ssidOctet s r m e) ≡ r
 unfolding ssidOctet
-mark-back true true s = eq-eqb (field 7 1 (ssidOctet s true true)) 1 (omega arith)
-mark-back true false s = eq-eqb (field 7 1 (ssidOctet s true false)) 1 (omega arith)
-mark-back false true s = ne-eqb (field 7 1 (ssidOctet s false true)) 1 (λ z. omega arith)
-mark-back false false s = ne-eqb (field 7 1 (ssidOctet s false false)) 1 (λ z. omega arith)
+reserved-back true true s r h = omega arith
+reserved-back true false s r h = omega arith
+reserved-back false true s r h = omega arith
+reserved-back false false s r h = omega arith
 
-end-back : (m e : Bool) (s : ℕ) → bit 0 (ssidOctet s m e) ≡ e
+mark-back : (m e : Bool) (s r : ℕ) → bit 7 (ssidOctet s r m e) ≡ m
 unfolding ssidOctet
-end-back true true s = eq-eqb (field 0 1 (ssidOctet s true true)) 1 (omega arith)
-end-back true false s = ne-eqb (field 0 1 (ssidOctet s true false)) 1 (λ z. omega arith)
-end-back false true s = eq-eqb (field 0 1 (ssidOctet s false true)) 1 (omega arith)
-end-back false false s = ne-eqb (field 0 1 (ssidOctet s false false)) 1 (λ z. omega arith)
+mark-back true true s r = eq-eqb (field 7 1 (ssidOctet s r true true)) 1 (omega arith)
+mark-back true false s r = eq-eqb (field 7 1 (ssidOctet s r true false)) 1 (omega arith)
+mark-back false true s r = ne-eqb (field 7 1 (ssidOctet s r false true)) 1 (λ z. omega arith)
+mark-back false false s r = ne-eqb (field 7 1 (ssidOctet s r false false)) 1 (λ z. omega arith)
 
-reserved-back : (m e : Bool) (s : ℕ) → eqb (field 5 2 (ssidOctet s m e)) 3 ≡ true
+end-back : (m e : Bool) (s r : ℕ) → bit 0 (ssidOctet s r m e) ≡ e
 unfolding ssidOctet
-reserved-back true true s = eq-eqb (field 5 2 (ssidOctet s true true)) 3 (omega arith)
-reserved-back true false s = eq-eqb (field 5 2 (ssidOctet s true false)) 3 (omega arith)
-reserved-back false true s = eq-eqb (field 5 2 (ssidOctet s false true)) 3 (omega arith)
-reserved-back false false s = eq-eqb (field 5 2 (ssidOctet s false false)) 3 (omega arith)
+end-back true true s r = eq-eqb (field 0 1 (ssidOctet s r true true)) 1 (omega arith)
+end-back true false s r = ne-eqb (field 0 1 (ssidOctet s r true false)) 1 (λ z. omega arith)
+end-back false true s r = eq-eqb (field 0 1 (ssidOctet s r false true)) 1 (omega arith)
+end-back false false s r = ne-eqb (field 0 1 (ssidOctet s r false false)) 1 (λ z. omega arith)
 
-ssid-below : (m e : Bool) (s : ℕ) → ssidOctet s m e < 256
+ssid-below : (m e : Bool) (s r : ℕ) → ssidOctet s r m e < 256
 unfolding ssidOctet
-ssid-below true true s = omega arith
-ssid-below true false s = omega arith
-ssid-below false true s = omega arith
-ssid-below false false s = omega arith
+ssid-below true true s r = omega arith
+ssid-below true false s r = omega arith
+ssid-below false true s r = omega arith
+ssid-below false false s r = omega arith
 
 halved : (c : ℕ) → c < 128 → c * 2 % 256 / 2 ≡ c
 halved c h = omega arith
@@ -108,14 +115,15 @@ read-written a m e p =
       halved _ (plain-character a p 3 (omega arith)),
       halved _ (plain-character a p 4 (omega arith)),
       halved _ (plain-character a p 5 (omega arith)),
-      ssid-back m e _ (plain-ssid a p),
+      ssid-back m e (a .ssid) (a .reserved) (plain-ssid a p),
+      reserved-back m e (a .ssid) (a .reserved) (plain-reserved a p),
       six-list 0 (a .callsign) (p .six),
     )
 
 -- and the mark
 pub mark-written : (a : Address) (m e : Bool) → markOf (groupOf a m e) ≡ m
 unfolding markOf groupOf
-mark-written a m e = mark-back m e (a .ssid)
+mark-written a m e = mark-back m e (a .ssid) (a .reserved)
 
 even-octet : (c : ℕ) → bit 0 (c * 2 % 256) ≡ false
 even-octet c = ne-eqb (field 0 1 (c * 2 % 256)) 1 (λ z. omega arith)
@@ -134,12 +142,7 @@ group-even a m e (suc (suc (suc (suc (suc (suc k)))))) h = absurd (omega arith)
 -- its seventh has exactly the end bit asked for
 pub group-end : (a : Address) (m e : Bool) → bit 0 (getD (groupOf a m e) 6 0) ≡ e
 unfolding groupOf
-group-end a m e = end-back m e (a .ssid)
-
--- and both reserved bits
-pub group-reserved : (a : Address) (m e : Bool) → reserved (groupOf a m e) ≡ true
-unfolding reserved groupOf
-group-reserved a m e = reserved-back m e (a .ssid)
+group-end a m e = end-back m e (a .ssid) (a .reserved)
 
 -- what is written is octets
 pub group-octets : (a : Address) (m e : Bool) → PlainAddress a → Octets (groupOf a m e)
@@ -150,7 +153,7 @@ group-octets a m e p (suc (suc zero)) = omega arith
 group-octets a m e p (suc (suc (suc zero))) = omega arith
 group-octets a m e p (suc (suc (suc (suc zero)))) = omega arith
 group-octets a m e p (suc (suc (suc (suc (suc zero))))) = omega arith
-group-octets a m e p (suc (suc (suc (suc (suc (suc zero)))))) = ssid-below m e (a .ssid)
+group-octets a m e p (suc (suc (suc (suc (suc (suc zero)))))) = ssid-below m e (a .ssid) (a .reserved)
 group-octets a m e p (suc (suc (suc (suc (suc (suc (suc k))))))) = omega arith
 
 half-low : (b : ℕ) → b < 256 → low (b / 2) ≡ true
@@ -165,6 +168,7 @@ read-plain g o = record {
     all-cons,
     all-nil,
     le-leb (field 1 4 (getD g 6 0)) 15 (omega arith),
+    le-leb (field 5 2 (getD g 6 0)) 3 (omega arith),
     half-low _ (o 0),
     half-low _ (o 1),
     half-low _ (o 2),
@@ -174,36 +178,31 @@ read-plain g o = record {
   );
 }
 
--- what is read from seven octets and written again: the octet of an SSID takes its low four bits alone
-ssid-low : (b : ℕ) (m e : Bool) → ssidOctet (field 1 4 b) m e ≡ ssidOctet (b / 2) m e
+-- what is read from seven octets and written again: their last takes the low four bits of an SSID and the low two of the reserved bits
+ssid-low : (b : ℕ) (m e : Bool) → ssidOctet (field 1 4 b) (field 5 2 b) m e ≡ ssidOctet (b / 2) (b / 32) m e
 unfolding ssidOctet
-ssid-low b m e = let h : field 1 4 b % 16 ≡ b / 2 % 16 = omega arith in rw h refl
+ssid-low b m e =
+    let s : field 1 4 b % 16 ≡ b / 2 % 16 = omega arith in
+    let r : field 5 2 b % 4 ≡ b / 32 % 4 = omega arith in
+    rw (s, r) refl
 
 pub group-again : (a b c d e f g : ℕ) (m x : Bool)
     → groupOf (addressOf (a ∷ b ∷ c ∷ d ∷ e ∷ f ∷ g ∷ [])) m x
-    ≡ a / 2 * 2 % 256 ∷ b / 2 * 2 % 256 ∷ c / 2 * 2 % 256 ∷ d / 2 * 2 % 256 ∷ e / 2 * 2 % 256 ∷ f / 2 * 2 % 256 ∷ ssidOctet (g / 2) m x ∷ []
+    ≡ a / 2 * 2 % 256 ∷ b / 2 * 2 % 256 ∷ c / 2 * 2 % 256 ∷ d / 2 * 2 % 256 ∷ e / 2 * 2 % 256 ∷ f / 2 * 2 % 256 ∷ ssidOctet (g / 2) (g / 32) m x ∷ []
 unfolding addressOf groupOf
 group-again a b c d e f g m x = simp ssid-low
 
 doubled : (c : ℕ) → c < 256 → bit 0 c ≡ false → c / 2 * 2 % 256 ≡ c
 doubled c h e = omega (arith, eqb-false (field 0 1 c) 1 e)
 
--- the same octet with both reserved bits set: bit 7 and bits 0 to 4 stay
-abbrev reservedOctet : ℕ → ℕ
-reservedOctet b = flag 7 (bit 7 b) + 0x60 + field 0 5 b
-
--- a group with its reserved bits set
-unfoldable withReserved : List ℕ → List ℕ
-withReserved g = set g 6 (reservedOctet (getD g 6 0))
-
-ssid-again : (b : ℕ) → b < 256 → ssidOctet (field 1 4 b) (bit 7 b) (bit 0 b) ≡ reservedOctet b
+ssid-again : (b : ℕ) → b < 256 → ssidOctet (field 1 4 b) (field 5 2 b) (bit 7 b) (bit 0 b) ≡ b
 unfolding ssidOctet
-ssid-again b h = octet-same (λ n. ssidOctet (field 1 4 n) (bit 7 n) (bit 0 n)) reservedOctet tt b h
+ssid-again b h = octet-same (λ n. ssidOctet (field 1 4 n) (field 5 2 n) (bit 7 n) (bit 0 n)) (λ n. n) tt b h
 
--- writing a read group gives its octets with the reserved bits set
-written-read : (g : List ℕ) → length g ≡ 7 → Octets g → ((k : ℕ) → k < 6 → bit 0 (getD g k 0) ≡ false)
-    → groupOf (addressOf g) (markOf g) (bit 0 (getD g 6 0)) ≡ withReserved g
-unfolding addressOf markOf groupOf withReserved
+-- writing a read group gives the octets back, where the low bits of its characters are clear
+pub written-read : (g : List ℕ) → length g ≡ 7 → Octets g → ((k : ℕ) → k < 6 → bit 0 (getD g k 0) ≡ false)
+    → groupOf (addressOf g) (markOf g) (bit 0 (getD g 6 0)) ≡ g
+unfolding addressOf markOf groupOf
 written-read (a ∷ b ∷ c ∷ d ∷ e ∷ f ∷ g ∷ []) s o v =
     simp (
       ssid-again g (o 6),
@@ -222,15 +221,6 @@ written-read (a ∷ b ∷ c ∷ d ∷ []) s o v = absurd (omega arith)
 written-read (a ∷ b ∷ c ∷ d ∷ e ∷ []) s o v = absurd (omega arith)
 written-read (a ∷ b ∷ c ∷ d ∷ e ∷ f ∷ []) s o v = absurd (omega arith)
 written-read (a ∷ b ∷ c ∷ d ∷ e ∷ f ∷ g ∷ h ∷ l) s o v = absurd (omega arith)
-
-reserved-kept : (b : ℕ) → b < 256 → eqb (field 5 2 b) 3 ≡ true → reservedOctet b ≡ b
-reserved-kept b h e = eqb-true _ _ (octet-where (λ n. eqb (field 5 2 n) 3) (λ n. eqb (reservedOctet n) n) tt b h e)
-
--- so where they were set already, the same octets
-pub written-exact : (g : List ℕ) → length g ≡ 7 → Octets g → ((k : ℕ) → k < 6 → bit 0 (getD g k 0) ≡ false) → reserved g ≡ true
-    → groupOf (addressOf g) (markOf g) (bit 0 (getD g 6 0)) ≡ g
-unfolding reserved withReserved
-written-exact g s o v r = written-read g s o v ∙ rw (reserved-kept _ (o 6) r) (set-getD g 6 0)
 
 -- what `to_bytes` gives of an address that cannot be written
 pub write-refused : (a : Address) (m e : Bool) → encodable a ≡ false
@@ -252,25 +242,26 @@ pub group-character : (g : List ℕ) → Octets g → bit 0 (getD g 0 0) ≡ fal
 unfolding addressOf
 group-character g o e h = omega (arith, eqb-false (field 0 1 (getD g 0 0)) 1 e)
 
--- NOCALL can be written, and starts with a character
+-- NOCALL can be written, and its reserved bits are ones
 pub no-call-plain : PlainAddress noCall
 unfolding noCall encodable
 no-call-plain = record { six = refl; writable = simp (all-cons, all-nil) }
 
--- the reserved bits of a group are those of its last octet
-pub reserved-last : (g : List ℕ) → reserved g ≡ reservedSet (getD g 6 0)
-unfolding reserved
-reserved-last g = refl
+pub no-call-ones : noCall .reserved ≡ reservedOnes
+unfolding noCall
+no-call-ones = refl
 
--- the mark likewise
+-- the mark of a group is that of its last octet
 pub mark-last : (g : List ℕ) → markOf g ≡ markSet (getD g 6 0)
 unfolding markOf
 mark-last g = refl
 
--- another seventh octet with the same SSID leaves the address as it was
-pub address-kept : (g : List ℕ) (b : ℕ) → 6 < length g → field 1 4 b ≡ field 1 4 (getD g 6 0) → addressOf (set g 6 b) ≡ addressOf g
+-- another seventh octet with the same SSID and reserved bits leaves the address as it was
+pub address-kept : (g : List ℕ) (b : ℕ) → 6 < length g → field 1 6 b ≡ field 1 6 (getD g 6 0) → addressOf (set g 6 b) ≡ addressOf g
 unfolding addressOf
 address-kept g b h e =
+    let s : field 1 4 b ≡ field 1 4 (getD g 6 0) = omega (arith, e) in
+    let r : field 5 2 b ≡ field 5 2 (getD g 6 0) = omega (arith, e) in
     simp (
       getD-set-other g 6 0 b 0 (λ z. omega (arith, z)),
       getD-set-other g 6 1 b 0 (λ z. omega (arith, z)),
@@ -279,5 +270,6 @@ address-kept g b h e =
       getD-set-other g 6 4 b 0 (λ z. omega (arith, z)),
       getD-set-other g 6 5 b 0 (λ z. omega (arith, z)),
       getD-set-same g 6 b 0 h,
-      e,
+      s,
+      r,
     )

@@ -1,4 +1,4 @@
--- The address of a station: six characters, padded at the end with spaces, and an SSID.
+-- The address of a station: six characters, padded at the end with spaces, an SSID, and the two reserved bits.
 use Prim.Native.Nat.{ℕ}
 use mathlib.Core.Path.{_≡_}
 use mathlib.Core.Bool.{Bool, true, _&&_}
@@ -12,13 +12,18 @@ use Rattle.address.specs.declared.Address.{Address}
 abbrev pub low : ℕ → Bool
 low c = ltb c 128
 
+-- the reserved bits where no network uses them: both are ones (AX.25 2.2; document 02, M-106)
+abbrev pub reservedOnes : ℕ
+reservedOnes = 3
+
 -- NOCALL, SSID 0: what a refused read returns
 unfoldable pub noCall : Address
-noCall = record { callsign = 78 ∷ 79 ∷ 67 ∷ 65 ∷ 76 ∷ 76 ∷ []; ssid = 0 }
+noCall = record { callsign = 78 ∷ 79 ∷ 67 ∷ 65 ∷ 76 ∷ 76 ∷ []; ssid = 0; reserved = reservedOnes }
 
--- what writing and printing take (number 22 otherwise; docs/DIFFERENCES.md, B3): no character of 128 or more, and an SSID of at most 15
+-- what writing and printing take (number 22 otherwise; docs/DIFFERENCES.md, B3): an SSID of at most 15, reserved bits of at most 3, and
+-- no character of 128 or more
 unfoldable pub encodable : Address → Bool
-encodable a = leb (a .ssid) 15 && all low (a .callsign)
+encodable a = leb (a .ssid) 15 && (leb (a .reserved) 3 && all low (a .callsign))
 
 -- an address of a plain frame: one that writing does not refuse
 pub record PlainAddress (a : Address) : Type 0 where

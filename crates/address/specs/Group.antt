@@ -3,7 +3,6 @@
 use Prim.Native.Nat.{ℕ, _+_, _*_, _/_, _%_}
 use mathlib.Core.Bool.{Bool, cond}
 use mathlib.Core.List.{List, [], _∷_}
-use lib.Dec.{eqb}
 use lib.ListN.{getD}
 use Rattle.octets.specs.Octet.{field, bit, flag}
 use Rattle.address.specs.declared.Address.{Address}
@@ -16,11 +15,12 @@ use Rattle.address.specs.Address.{encodable}
 abbrev pub characterAt : List ℕ → ℕ → ℕ
 characterAt g k = getD g k 0 / 2
 
--- the address in a group: any seven-bit characters (docs/DIFFERENCES.md, A3); the reserved bits are not read (A5)
+-- the address in a group: any seven-bit characters (docs/DIFFERENCES.md, A3); the reserved bits as a number, bit 6 the higher (B7)
 unfoldable pub addressOf : List ℕ → Address
 addressOf g = record {
   callsign = characterAt g 0 ∷ characterAt g 1 ∷ characterAt g 2 ∷ characterAt g 3 ∷ characterAt g 4 ∷ characterAt g 5 ∷ [];
   ssid = field 1 4 (getD g 6 0);
+  reserved = field 5 2 (getD g 6 0);
 }
 
 -- the mark in the SSID's octet, and of a group
@@ -30,26 +30,19 @@ markSet b = bit 7 b
 unfoldable pub markOf : List ℕ → Bool
 markOf g = markSet (getD g 6 0)
 
--- whether both reserved bits of the SSID's octet are ones, and of a group
-abbrev pub reservedSet : ℕ → Bool
-reservedSet b = eqb (field 5 2 b) 3
-
-unfoldable pub reserved : List ℕ → Bool
-reserved g = reservedSet (getD g 6 0)
-
 -- the octet of character k: the character shifted left by one
 abbrev pub octetAt : List ℕ → ℕ → ℕ
 octetAt c k = getD c k 0 * 2 % 256
 
--- the octet of the SSID: mark, reserved bits (60 hex), SSID, end bit
-unfoldable pub ssidOctet : ℕ → Bool → Bool → ℕ
-ssidOctet ssid mark end = flag 7 mark + 0x60 + ssid % 16 * 2 + flag 0 end
+-- the octet of the SSID: mark, reserved bits, SSID, end bit
+unfoldable pub ssidOctet : ℕ → ℕ → Bool → Bool → ℕ
+ssidOctet ssid reserved mark end = flag 7 mark + reserved % 4 * 32 + ssid % 16 * 2 + flag 0 end
 
 -- the group of an address, with its mark and the end bit
 unfoldable pub groupOf : Address → Bool → Bool → List ℕ
 groupOf a mark end =
     octetAt (a .callsign) 0 ∷ octetAt (a .callsign) 1 ∷ octetAt (a .callsign) 2 ∷ octetAt (a .callsign) 3
-    ∷ octetAt (a .callsign) 4 ∷ octetAt (a .callsign) 5 ∷ ssidOctet (a .ssid) mark end ∷ []
+    ∷ octetAt (a .callsign) 4 ∷ octetAt (a .callsign) 5 ∷ ssidOctet (a .ssid) (a .reserved) mark end ∷ []
 
 -- document 01's numbers for writing one address
 abbrev pub groupNumberOf : GroupAnswer → ℕ

@@ -1,7 +1,7 @@
 // The seven octets of an address, and back: six characters, then the octet of the SSID.
 ghost use mathlib.Core.Path.{_≡_};
 ghost use mathlib.Core.Bool.{cond};
-ghost use Rattle.address.specs.Group.{addressOf, markOf, markSet, reservedSet, ssidOctet, groupOf, writeGroup, groupNumberOf};
+ghost use Rattle.address.specs.Group.{addressOf, markOf, markSet, ssidOctet, groupOf, writeGroup, groupNumberOf};
 use crate::Address;
 
 pub struct ParsedAddress {
@@ -31,7 +31,7 @@ impl GroupAnswer {
     }
 }
 
-// The address and the mark of a group. The low bits of the first six octets and the reserved bits are not looked at.
+// The address and the mark of a group. The low bits of its octets are not looked at.
 pub fn parse_address(group: [u8; 7]) -> ParsedAddress
     ensures { λ r. ⌜ r ≡ record { address = addressOf group; «high_bit» = markOf group } ⌝ }
 {
@@ -48,6 +48,7 @@ pub fn parse_address(group: [u8; 7]) -> ParsedAddress
         address: Address {
             callsign,
             ssid: (last >> 1) & 0x0f,
+            reserved: (last >> 5) & 0b11,
         },
         high_bit: last & 0b1000_0000 != 0,
     }
@@ -61,27 +62,19 @@ pub fn mark_set(last: u8) -> bool
     bits != 0
 }
 
-// Whether both reserved bits are ones, in the last octet of a group.
-pub fn reserved_set(last: u8) -> bool
-    ensures { λ r. ⌜ r ≡ reservedSet last ⌝ }
-{
-    let bits = last & 0b0110_0000;
-    bits == 0b0110_0000
-}
-
 fn bit_if(on: bool, value: u8) -> u8
     ensures { λ r. ⌜ r ≡ cond on value 0 ⌝ }
 {
     if on { value } else { 0 }
 }
 
-// The seventh octet: SSID in bits 1 to 4, the reserved bits set, mark and end bit.
-pub fn ssid_octet(ssid: u8, high_bit: bool, final_in_address: bool) -> u8
-    ensures { λ r. ⌜ r ≡ ssidOctet ssid «high_bit» «final_in_address» ⌝ }
+// The seventh octet: SSID in bits 1 to 4, the reserved bits in 5 and 6, mark and end bit.
+pub fn ssid_octet(ssid: u8, reserved: u8, high_bit: bool, final_in_address: bool) -> u8
+    ensures { λ r. ⌜ r ≡ ssidOctet ssid reserved «high_bit» «final_in_address» ⌝ }
 {
     let high = bit_if(high_bit, 0b1000_0000);
     let low = bit_if(final_in_address, 0b0000_0001);
-    ((ssid & 0x0f) << 1) | 0b0110_0000 | high | low
+    ((ssid & 0x0f) << 1) | ((reserved & 0b11) << 5) | high | low
 }
 
 // The group of an address that can be written.
@@ -96,7 +89,7 @@ fn group_of(address: Address, high_bit: bool, final_in_address: bool) -> [u8; 7]
         c[3] << 1,
         c[4] << 1,
         c[5] << 1,
-        ssid_octet(address.ssid, high_bit, final_in_address),
+        ssid_octet(address.ssid, address.reserved, high_bit, final_in_address),
     ]
 }
 

@@ -1,14 +1,19 @@
-// The address of a station: a callsign and a numeric SSID. `group` has its seven octets; the crates `printing` and `text` its text.
+// The address of a station: a callsign, a numeric SSID and the reserved bits. `group` has its seven octets; the crates `printing` and `text` its text.
 ghost use mathlib.Core.Path.{_≡_};
 ghost use Rattle.octets.specs.All.{all};
 ghost use Rattle.address.specs.Address.{low, noCall, encodable};
 
 pub mod group;
 
-// A source, destination or repeater. The callsign is padded at its end with spaces.
+// The reserved bits of an address that no network uses them in: both ones.
+pub const RESERVED_ONES: u8 = 3;
+
+// A source, destination or repeater. The callsign is padded at its end with spaces. The reserved bits are a number from 0 to 3, which a
+// network may use as it likes; they are no part of who the station is.
 pub struct Address {
     pub callsign: [u8; 6],
     pub ssid: u8,
+    pub reserved: u8,
 }
 
 impl Address {
@@ -18,15 +23,19 @@ impl Address {
         Address {
             callsign: [b'N', b'O', b'C', b'A', b'L', b'L'],
             ssid: 0,
+            reserved: RESERVED_ONES,
         }
     }
 
-    // Whether writing and printing take it: seven bits hold each character, and four the SSID.
+    // Whether writing and printing take it: four bits hold the SSID, two the reserved bits, and seven each character.
     pub fn is_encodable(self) -> bool
         ensures { λ r. ⌜ r ≡ encodable self ⌝ }
     {
         let callsign = self.callsign;
         if self.ssid > 15 {
+            return false;
+        }
+        if self.reserved > 3 {
             return false;
         }
         is_ascii(&callsign)

@@ -15,7 +15,6 @@ use Rattle.frame.specs.Spell.{spell, Plain}
 use Rattle.frame.specs.declared.Ax25Frame.{Ax25Frame}
 use Rattle.frame.proofs.Write.{spell-length}
 use Rattle.grammar.proofs.Back.{spelled-end, after-field, spelled-marks}
-use Rattle.grammar.proofs.Direct.{spelled-reserved}
 use Rattle.demands.specs.Shape.{Shape}
 
 module _ (f : Ax25Frame) (i : List ℕ) (p : Plain f i) where
@@ -34,7 +33,6 @@ module _ (f : Ax25Frame) (i : List ℕ) (p : Plain f i) where
     even = λ k h. first-before (bit 0) (spell f i) 0 k (rw (spelled-end f i p) h);
     last = rw (spelled-end f i p) at (first-passes (bit 0) (spell f i) 0 (rw (spelled-end f i p) (omega (arith, spell-length f i, front-some (f .content) (p .content)))));
     marks = spelled-marks f i p;
-    ones = spelled-reserved f i p;
     i-pid = λ k e. pid-at (ap hasInfo e) ∙ ap (λ (c : FrameContent). getD (front c) 1 0) e;
     ui-pid = λ k e. pid-at (ap hasInfo e) ∙ ap (λ (c : FrameContent). getD (front c) 1 0) e;
   }

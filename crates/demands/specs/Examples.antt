@@ -45,8 +45,8 @@ whole = addresses ++ (0x03 ∷ 0xF0 ∷ 0x4F ∷ 0x4B ∷ [])
 -- its frame, with this content
 abbrev pub with : FrameContent → Ax25Frame
 with k = record {
-  source = record { callsign = 66 ∷ 79 ∷ 88 ∷ 49 ∷ 50 ∷ 32 ∷ []; ssid = 3 };
-  destination = record { callsign = 71 ∷ 65 ∷ 85 ∷ 71 ∷ 69 ∷ 32 ∷ []; ssid = 0 };
+  source = record { callsign = 66 ∷ 79 ∷ 88 ∷ 49 ∷ 50 ∷ 32 ∷ []; ssid = 3; reserved = 3 };
+  destination = record { callsign = 71 ∷ 65 ∷ 85 ∷ 71 ∷ 69 ∷ 32 ∷ []; ssid = 0; reserved = 3 };
   route = noRoute;
   «route_count» = 0;
   «command_or_response» = Command;

@@ -6,7 +6,7 @@ use mathlib.Core.List.{List}
 use lib.ListN.{getD}
 use Rattle.octets.specs.Octet.{bit}
 use Rattle.protocol.specs.Pid.{octetOf}
-use Rattle.address.specs.Group.{markOf, reserved}
+use Rattle.address.specs.Group.{markOf}
 use Rattle.content.specs.declared.Information.{Information}
 use Rattle.content.specs.declared.UnnumberedInformation.{UnnumberedInformation}
 use Rattle.content.specs.declared.FrameContent.the-variants as kind
@@ -20,8 +20,6 @@ pub record Shape (f : Ax25Frame) (info : List ℕ) : Type 0 where
   pub last : bit 0 (getD (spell f info) (13 + 7 * f .«route_count») 0) ≡ true
   -- exactly one of the first two marks is set
   pub marks : markOf (groupAt (spell f info) 7) ≡ not (markOf (groupAt (spell f info) 0))
-  -- reserved bits are ones
-  pub ones : (j : ℕ) → j < f .«route_count» + 2 → reserved (groupAt (spell f info) (7 * j)) ≡ true
   -- the PID octet is the frame's own, of the layer 3 class too (document 02, M-105)
   pub i-pid : (k : Information) → f .content ≡ kind.Information k → getD (spell f info) (15 + 7 * f .«route_count») 0 ≡ octetOf (k .pid)
   pub ui-pid : (k : UnnumberedInformation) → f .content ≡ kind.UnnumberedInformation k

@@ -29,14 +29,15 @@ unfoldable pub addressAt : List ℕ → ℕ → Address
 addressAt s at = record {
   callsign = octetAt s at ∷ octetAt s (at + 1) ∷ octetAt s (at + 2) ∷ octetAt s (at + 3) ∷ octetAt s (at + 4) ∷ octetAt s (at + 5) ∷ [];
   ssid = octetAt s (at + 6);
+  reserved = octetAt s (at + 7);
 }
 
 unfoldable pub entryAt : List ℕ → ℕ → RouteEntry
-entryAt s at = record { repeater = addressAt s at; «has_repeated» = flagAt s (at + 7) }
+entryAt s at = record { repeater = addressAt s at; «has_repeated» = flagAt s (at + 8) }
 
 unfoldable pub routeFrom : List ℕ → List RouteEntry
 routeFrom s =
-    entryAt s 14 ∷ entryAt s 22 ∷ entryAt s 30 ∷ entryAt s 38 ∷ entryAt s 46 ∷ entryAt s 54 ∷ entryAt s 62 ∷ entryAt s 70 ∷ []
+    entryAt s 16 ∷ entryAt s 25 ∷ entryAt s 34 ∷ entryAt s 43 ∷ entryAt s 52 ∷ entryAt s 61 ∷ entryAt s 70 ∷ entryAt s 79 ∷ []
 
 -- 2 and more: absent
 abbrev pub marks : List Mark
@@ -101,10 +102,10 @@ contentAt s at = contentWith (octetAt s at) (pidFrom (octetAt s (at + 1)) (octet
 
 unfoldable pub frameFrom : List ℕ → Ax25Frame
 frameFrom s = record {
-  source = addressAt s 7;
+  source = addressAt s 8;
   destination = addressAt s 0;
   route = routeFrom s;
-  «route_count» = octetAt s 78;
-  «command_or_response» = markFrom (octetAt s 79);
-  content = contentAt s 80;
+  «route_count» = octetAt s 88;
+  «command_or_response» = markFrom (octetAt s 89);
+  content = contentAt s 90;
 }

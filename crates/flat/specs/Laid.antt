@@ -1,4 +1,4 @@
--- The flat form of an address (7 octets) and of a frame (92 octets), as the comparison reads it.
+-- The flat form of an address (8 octets) and of a frame (102 octets), as the comparison reads it.
 use Prim.Native.Nat.{ℕ, zero, suc}
 use mathlib.Core.Bool.{Bool, false, cond}
 use mathlib.Core.List.{List, [], _∷_, _++_}
@@ -19,11 +19,11 @@ use Rattle.frame.specs.declared.RouteEntry.{RouteEntry}
 use Rattle.frame.specs.declared.Ax25Frame.{Ax25Frame}
 use Rattle.frame.specs.Spell.{repeaterAt}
 
--- an address: the six octets of the callsign, the SSID
+-- an address: the six octets of the callsign, the SSID, the reserved bits
 abbrev pub addressFlat : Address → List ℕ
 addressFlat a =
     getD (a .callsign) 0 0 ∷ getD (a .callsign) 1 0 ∷ getD (a .callsign) 2 0 ∷ getD (a .callsign) 3 0
-    ∷ getD (a .callsign) 4 0 ∷ getD (a .callsign) 5 0 ∷ a .ssid ∷ []
+    ∷ getD (a .callsign) 4 0 ∷ getD (a .callsign) 5 0 ∷ a .ssid ∷ a .reserved ∷ []
 
 -- a route place: its address, then 1 where it is marked
 abbrev pub entryFlat : RouteEntry → List ℕ
@@ -111,10 +111,10 @@ contentFlat (kind.FrameReject k) = rejectFlat k
 contentFlat (kind.UnnumberedInformation k) = withPidFlat 9 (k .pid) (k .«poll_or_final») 0 0
 contentFlat kind.UnknownContent = bareFlat 10 false 0
 
--- what follows the route, from octet 78 on: its count, the mark, the content
+-- what follows the route, from octet 88 on: its count, the mark, the content
 abbrev pub restFlat : Ax25Frame → List ℕ
 restFlat f = countFlat (f .«route_count») ∷ markFlat (f .«command_or_response») ∷ contentFlat (f .content)
 
--- a frame: destination at 0, source at 7, the eight places from 14 on, the rest from 78 on
+-- a frame: destination at 0, source at 8, the eight places from 16 on, the rest from 88 on
 unfoldable pub flatOf : Ax25Frame → List ℕ
 flatOf f = addressFlat (f .destination) ++ (addressFlat (f .source) ++ (routeFlat (f .route) 8 ++ restFlat f))

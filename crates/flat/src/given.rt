@@ -33,7 +33,7 @@ fn flag(flat: &[u8], at: usize) -> bool
 }
 
 fn address_at(flat: &[u8], at: usize) -> Address
-    requires { ⌜ at ≤ 92 ⌝ }
+    requires { ⌜ at ≤ 102 ⌝ }
     ensures { λ r. ⌜ r ≡ addressAt (now (flat .entry)) at ⌝ }
 {
     Address {
@@ -46,15 +46,16 @@ fn address_at(flat: &[u8], at: usize) -> Address
             octet(flat, at + 5),
         ],
         ssid: octet(flat, at + 6),
+        reserved: octet(flat, at + 7),
     }
 }
 
 fn entry_at(flat: &[u8], at: usize) -> RouteEntry
-    requires { ⌜ at ≤ 92 ⌝ }
+    requires { ⌜ at ≤ 102 ⌝ }
     ensures { λ r. ⌜ r ≡ entryAt (now (flat .entry)) at ⌝ }
 {
     let repeater = address_at(flat, at);
-    let has_repeated = flag(flat, at + 7);
+    let has_repeated = flag(flat, at + 8);
     RouteEntry {
         repeater,
         has_repeated,
@@ -65,14 +66,14 @@ fn route_from(flat: &[u8]) -> [RouteEntry; 8]
     ensures { λ r. ⌜ r ≡ routeFrom (now (flat .entry)) ⌝ }
 {
     [
-        entry_at(flat, 14),
-        entry_at(flat, 22),
-        entry_at(flat, 30),
-        entry_at(flat, 38),
-        entry_at(flat, 46),
-        entry_at(flat, 54),
-        entry_at(flat, 62),
+        entry_at(flat, 16),
+        entry_at(flat, 25),
+        entry_at(flat, 34),
+        entry_at(flat, 43),
+        entry_at(flat, 52),
+        entry_at(flat, 61),
         entry_at(flat, 70),
+        entry_at(flat, 79),
     ]
 }
 
@@ -121,7 +122,7 @@ fn pid_from(case: u8, octet: u8) -> ProtocolIdentifier
 
 // FRMR has every field that some kind has, save the PID: the other kinds take theirs from it. Content starts at `at`.
 fn fields_at(flat: &[u8], at: usize) -> FrameReject
-    requires { ⌜ at ≤ 92 ⌝ }
+    requires { ⌜ at ≤ 102 ⌝ }
     ensures { λ r. ⌜ r ≡ fieldsAt (now (flat .entry)) at ⌝ }
 {
     let command_response = response_from(octet(flat, at + 10));
@@ -176,7 +177,7 @@ fn content_with(kind: u8, pid: ProtocolIdentifier, fields: FrameReject) -> Frame
 }
 
 fn content_at(flat: &[u8], at: usize) -> FrameContent
-    requires { ⌜ at ≤ 92 ⌝ }
+    requires { ⌜ at ≤ 102 ⌝ }
     ensures { λ r. ⌜ r ≡ contentAt (now (flat .entry)) at ⌝ }
 {
     let pid = pid_from(octet(flat, at + 1), octet(flat, at + 2));
@@ -202,15 +203,15 @@ pub fn frame_from(flat: &[u8]) -> Ax25Frame
     ensures { λ r. ⌜ r ≡ frameFrom (now (flat .entry)) ⌝ }
 {
     let destination = address_at(flat, 0);
-    let source = address_at(flat, 7);
+    let source = address_at(flat, 8);
     let route = route_from(flat);
-    let command_or_response = mark_from(octet(flat, 79));
-    let content = content_at(flat, 80);
+    let command_or_response = mark_from(octet(flat, 89));
+    let content = content_at(flat, 90);
     Ax25Frame {
         source,
         destination,
         route,
-        route_count: octet(flat, 78) as usize,
+        route_count: octet(flat, 88) as usize,
         command_or_response,
         content,
     }

@@ -14,13 +14,26 @@ ghost use Rattle.octets.specs.Splice.{splice};
 ghost use Rattle.flat.specs.Laid.{addressFlat, entryFlat, routeFlat, countFlat, markFlat, responseFlat, pidCase, pidOctet, bareFlat, withPidFlat, rejectFlat, contentFlat, restFlat, flatOf};
 
 // How many octets a flat frame has.
-const FRAME: usize = 92;
+const FRAME: usize = 102;
 
 pub fn put_address(out: &mut [u8], at: usize, address: Address)
     ensures { λ r. ⌜ now (out .exit) ≡ splice (now (out .entry)) at (addressFlat address) ⌝ }
 {
     let c = address.callsign;
-    lent::put(out, at, &[c[0], c[1], c[2], c[3], c[4], c[5], address.ssid]);
+    lent::put(
+        out,
+        at,
+        &[
+            c[0],
+            c[1],
+            c[2],
+            c[3],
+            c[4],
+            c[5],
+            address.ssid,
+            address.reserved,
+        ],
+    );
 }
 
 fn put_entry(out: &mut [u8], at: usize, entry: RouteEntry)
@@ -39,6 +52,7 @@ fn put_entry(out: &mut [u8], at: usize, entry: RouteEntry)
             c[4],
             c[5],
             repeater.ssid,
+            repeater.reserved,
             entry.has_repeated as u8,
         ],
     );
@@ -46,13 +60,13 @@ fn put_entry(out: &mut [u8], at: usize, entry: RouteEntry)
 
 // All eight places, in use or not.
 fn put_route(out: &mut [u8], route: [RouteEntry; 8])
-    requires { ⌜ 78 ≤ length (now out) ⌝ }
-    ensures { λ r. ⌜ now (out .exit) ≡ splice (now (out .entry)) 14 (routeFlat route 8) ⌝ }
+    requires { ⌜ 88 ≤ length (now out) ⌝ }
+    ensures { λ r. ⌜ now (out .exit) ≡ splice (now (out .entry)) 16 (routeFlat route 8) ⌝ }
 {
     let mut i = 0;
     while i < 8 {
         let entry = route[i];
-        put_entry(out, 14 + 8 * i, entry);
+        put_entry(out, 16 + 9 * i, entry);
         i += 1;
     }
 }
@@ -200,14 +214,14 @@ pub fn put_content(out: &mut [u8], content: FrameContent)
 
 // What follows the route: its count, the mark, the content.
 fn put_rest(out: &mut [u8], frame: Ax25Frame)
-    requires { ⌜ 92 ≤ length (now out) ⌝ }
-    ensures { λ r. ⌜ now (out .exit) ≡ splice (now (out .entry)) 78 (restFlat frame) ⌝ }
+    requires { ⌜ 102 ≤ length (now out) ⌝ }
+    ensures { λ r. ⌜ now (out .exit) ≡ splice (now (out .entry)) 88 (restFlat frame) ⌝ }
 {
     let mark = frame.command_or_response;
     let content = frame.content;
-    lent::put(out, 78, &[count_octet(frame.route_count), mark_octet(mark)]);
+    lent::put(out, 88, &[count_octet(frame.route_count), mark_octet(mark)]);
     let octets = content_octets(content);
-    lent::put(out, 80, &octets);
+    lent::put(out, 90, &octets);
 }
 
 // A frame at the start of what is lent; nothing where it does not fit.
@@ -221,7 +235,7 @@ pub fn put_frame(out: &mut [u8], frame: Ax25Frame)
     let source = frame.source;
     let route = frame.route;
     put_address(out, 0, destination);
-    put_address(out, 7, source);
+    put_address(out, 8, source);
     put_route(out, route);
     put_rest(out, frame);
 }

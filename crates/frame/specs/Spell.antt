@@ -17,7 +17,7 @@ use Rattle.frame.specs.declared.Ax25Frame.{Ax25Frame}
 
 -- what the logic reads past the end of an array of entries; a route of eight is never read there
 abbrev pub past : RouteEntry
-past = record { repeater = record { callsign = []; ssid = 0 }; «has_repeated» = false }
+past = record { repeater = record { callsign = []; ssid = 0; reserved = 0 }; «has_repeated» = false }
 
 abbrev pub repeaterAt : List RouteEntry → ℕ → RouteEntry
 repeaterAt route i = getD route i past
@@ -78,7 +78,7 @@ pub record Plain (f : Ax25Frame) (info : List ℕ) : Type 0 where
   pub mark : marked (f .«command_or_response») ≡ true
   -- one of the ten kinds, `UnknownContent` excepted, with its sequence numbers below 8 and a plain protocol identifier
   pub content : PlainContent (f .content)
-  -- callsign characters below 128, SSIDs up to 15
+  -- callsign characters below 128, SSIDs up to 15, reserved bits up to 3
   pub destination : PlainAddress (f .destination)
   pub source : PlainAddress (f .source)
   pub repeaters : (i : ℕ) → i < f .«route_count» → PlainAddress (repeaterAt (f .route) i .repeater)

@@ -3,9 +3,6 @@ use Prim.Native.Nat.{ℕ, zero, suc, _+_, _-_, _*_, _≤_, _<_}
 use mathlib.Core.Path.{_≡_, refl, ap, sym, _∙_}
 use mathlib.Core.Bool.{Bool, true, false, true≢false, false≢true, _&&_}
 use mathlib.Core.List.{List, _++_, append-assoc}
-use mathlib.Core.Logic.{_⊎_, ⊎-elim}
-use native.Mathlib.Nat.{eq-or-lt-of-le, le-of-suc-le-suc}
-use native.Mathlib.Numerals.{add-one}
 use native.Mathlib.Omega.{arith}
 use borrow.Author.Tests.{lt-ltb, eqb-true, eqb-false, leb-true, leb-false}
 use lib.Dec.{eqb, leb, eqb·suc-suc, eqb·zero-suc, eqb·suc-zero}
@@ -16,8 +13,8 @@ use Rattle.octets.proofs.Choice.{by, both}
 use Rattle.octets.proofs.Octet.{octets-drop, octets-take}
 use Rattle.octets.proofs.First.{first-passes, first-before, first-is}
 use Rattle.octets.proofs.Place.{getD-part, of-eight}
-use Rattle.address.specs.Group.{groupOf, markOf, markSet, reserved, reservedSet}
-use Rattle.address.proofs.Laws.{group-reserved, mark-written, written-exact, reserved-last, mark-last}
+use Rattle.address.specs.Group.{groupOf, markOf, markSet}
+use Rattle.address.proofs.Laws.{mark-written, written-read, mark-last}
 use Rattle.content.specs.Spell.{hasInfo, front}
 use Rattle.lean.specs.Lean.{lean, infoOf}
 use Rattle.content.specs.declared.FrameContent.{FrameContent}
@@ -30,25 +27,9 @@ use Rattle.frame.specs.declared.Mark.{Mark}
 use Rattle.frame.specs.declared.Mark.the-variants.{Command, Response, Absent}
 use Rattle.frame.specs.declared.Ax25Frame.{Ax25Frame}
 use Rattle.decode.specs.declared.Decoded.{Decoded}
-use Rattle.grammar.specs.Direct.{reservedGroups, direct}
+use Rattle.grammar.specs.Direct.{direct}
 use Rattle.decode.proofs.Accepts.{Accepts}
-use Rattle.grammar.proofs.Back.{spelled-start, group-front, group-in, in-order, after-dest, after-src, after-field, spelled-end, frame-spell}
-
-and-true : {a b : Bool} → a ≡ true → b ≡ true → (a && b) ≡ true
-and-true p q = cc
-
--- reserved bits, group by group
-reserved-all : (s : List ℕ) (n : ℕ) → ((j : ℕ) → j < n → reserved (groupAt s (7 * j)) ≡ true) → reservedGroups s n ≡ true
-unfolding reservedGroups
-reserved-all s zero f = refl
-reserved-all s (suc n) f = and-true (reserved-all s n (λ j h. f j (omega arith))) (f n (omega arith))
-
-reserved-each : (s : List ℕ) (n j : ℕ) → reservedGroups s n ≡ true → j < n → reserved (groupAt s (7 * j)) ≡ true
-unfolding reservedGroups
-reserved-each s zero j e h = absurd (omega arith)
-reserved-each s (suc n) j e h =
-    let b = both (reservedGroups s n) _ e in
-    ⊎-elim (λ (q : j ≡ n). rw q (b .1)) (λ (l : j < n). reserved-each s n j (b .0) l) (eq-or-lt-of-le (le-of-suc-le-suc h))
+use Rattle.grammar.proofs.Back.{spelled-start, group-front, in-order, after-dest, after-field, spelled-end, frame-spell}
 
 always-marked : (m : Mark) → marked (commandOf (destinationMark m) (sourceMark m)) ≡ true
 always-marked Command = refl
@@ -62,15 +43,7 @@ module _ (f : Ax25Frame) (i : List ℕ) (p : Plain f i) where
   abbrev n : ℕ
   n = f .«route_count»
 
-  -- a group of what a plain frame spells has its reserved bits set
-  pub spelled-reserved : (j : ℕ) → j < n + 2 → reserved (groupAt s (7 * j)) ≡ true
-  spelled-reserved zero h = rw (in-order f i p, group-front) (group-reserved _ _ _)
-  spelled-reserved (suc zero) h = rw (after-dest f i p, group-front) (group-reserved _ _ _)
-  spelled-reserved (suc (suc j)) h =
-      let at : 7 * suc (suc j) ≡ 14 + 7 * j = omega arith in
-      rw (at, ← drop-drop (7 * j) 14 s, after-src f i p, group-in (f .route) n n j _ (omega arith)) (group-reserved _ _ _)
-
-  -- and the marks of destination and source that writing gives
+  -- the marks of destination and source are those that writing gives
   spelled-marks : marked (commandOf (parsedAt s 0 .«high_bit») (parsedAt s 7 .«high_bit»)) ≡ true
   unfolding parsedAt
   spelled-marks =
@@ -85,9 +58,8 @@ module _ (f : Ax25Frame) (i : List ℕ) (p : Plain f i) where
       let start : nonzero (getD s 0 0) ≡ true = rw (spelled-start f i p) at (first-passes nonzero s 0 (rw (spelled-start f i p) (omega arith))) in
       let end : bit 0 (getD s (13 + 7 * n) 0) ≡ true =
       rw (spelled-end f i p) at (first-passes (bit 0) s 0 (rw (spelled-end f i p) (omega (arith, front-some (f .content) (p .content))))) in
-      let ones : reservedGroups s (n + 2) ≡ true = reserved-all s (n + 2) spelled-reserved in
       let tail : lean (drop (14 + 7 * n) s) ≡ true = rw (after-field f i p) (lean-spelled (f .content) i (p .content) (p .bare)) in
-      rw (frame-spell f i p, start, end, spelled-marks, ones, tail)
+      rw (frame-spell f i p, start, end, spelled-marks, tail)
 
 marks-back : (a b : Bool) → marked (commandOf a b) ≡ true → (destinationMark (commandOf a b) ≡ a) × (sourceMark (commandOf a b) ≡ b)
 marks-back true true e = absurd (false≢true e)
@@ -114,8 +86,7 @@ rejoin s n =
     simp append-assoc
     (rw (← drop-drop (7 * n) 14 s, take-append-drop (7 * n) (drop 14 s), ← drop-drop 7 7 s, take-append-drop 7 (drop 7 s), take-append-drop 7 s))
 
-module _ (s : List ℕ) (o : Octets s) (n : ℕ) (end : endOf s ≡ 13 + 7 * n) (inside : endOf s < length s) (few : n ≤ 8)
-    (ones : reservedGroups s (n + 2) ≡ true) where
+module _ (s : List ℕ) (o : Octets s) (n : ℕ) (end : endOf s ≡ 13 + 7 * n) (inside : endOf s < length s) (few : n ≤ 8) where
   -- the low bit of a group's seventh octet
   last-bit : (j : ℕ) → j < n + 2 → (b : Bool) → eqb j (suc n) ≡ b → bit 0 (getD s (7 * j + 6) 0) ≡ b
   last-bit j h true e =
@@ -133,9 +104,8 @@ module _ (s : List ℕ) (o : Octets s) (n : ℕ) (end : endOf s ≡ 13 + 7 * n) 
       let g : List ℕ = groupAt s (7 * j) in
       let l : length g ≡ 7 = length-take-le 7 (drop (7 * j) s) (rw length-drop (omega arith)) in
       let low : bit 0 (getD g 6 0) ≡ b = rw (octet-of j 6 (omega arith)) (last-bit j h b e) in
-      let x = written-exact g l (octets-take (drop (7 * j) s) 7 (octets-drop s (7 * j) o))
-      (λ k m. rw (octet-of j k (omega arith)) (first-before (bit 0) s 0 (7 * j + k) (omega arith)))
-      (reserved-each s (n + 2) j ones h) in
+      let x = written-read g l (octets-take (drop (7 * j) s) 7 (octets-drop s (7 * j) o))
+      (λ k m. rw (octet-of j k (omega arith)) (first-before (bit 0) s 0 (7 * j + k) (omega arith))) in
       rw low at x
 
   routes-again : (m : ℕ) → m ≤ n → groupsOf (routeAt s 14 n) n m ≡ take (7 * m) (drop 14 s)
@@ -192,7 +162,6 @@ module _ (s : List ℕ) (o : Octets s) (a : Accepts s (decode s)) where
       let t1 = both (nonzero (getD s 0 0)) _ t in
       let t2 = both (bit 0 (getD s (13 + 7 * n) 0)) _ (t1 .1) in
       let t3 = both (marked (commandOf (parsedAt s 0 .«high_bit») (parsedAt s 7 .«high_bit»))) _ (t2 .1) in
-      let t4 = both (reservedGroups s (n + 2)) _ (t3 .1) in
       let start : startOf s ≡ 0 = first-is nonzero s 0 0 (omega (arith, a .start-in)) (t1 .0) (λ j h. absurd (omega arith)) in
       let counted = a .counted in
       let long = a .long in
@@ -203,42 +172,22 @@ module _ (s : List ℕ) (o : Octets s) (a : Accepts s (decode s)) where
       let end : endOf s ≡ 13 + 7 * n = omega arith in
       let at : endOf s + 1 ≡ 14 + 7 * n = omega arith in
       let c : List ℕ = drop (endOf s + 1) s in
-      let x = content-exact c (octets-drop s (endOf s + 1) o) (a .kind) (a .read) (rw at (t4 .1)) in
+      let x = content-exact c (octets-drop s (endOf s + 1) o) (a .kind) (a .read) (rw at (t3 .1)) in
       let tail : front (a .kind) ++ infoIn s (decode s) ≡ drop (14 + 7 * n) s =
       ap (λ (y : List ℕ). front (a .kind) ++ y) info-tail ∙ x ∙ ap (λ (j : ℕ). drop j s) at in
       rw made-frame
-      (spell-again s o n end (a .end-in) (a .few) (t4 .0) (a .kind) (infoIn s (decode s)) start (t3 .0) tail)
-
--- the reserved bits of a group, by its last octet in the input
-pub reserved-at : (s : List ℕ) (j : ℕ) → reserved (groupAt s (7 * j)) ≡ reservedSet (getD s (7 * j + 6) 0)
-reserved-at s j = reserved-last (groupAt s (7 * j)) ∙ ap reservedSet (getD-part 7 (7 * j) s 6 0 (omega arith))
-
--- one group more, as a loop looks at it
-pub reserved-more : (s : List ℕ) (n : ℕ) → reservedGroups s n ≡ true → reservedSet (getD s (7 * n + 6) 0) ≡ true → reservedGroups s (n + 1) ≡ true
-unfolding reservedGroups
-reserved-more s n e h = rw (add-one, e, reserved-at s n) h
-
--- one group without them is enough
-pub reserved-one : (s : List ℕ) (n j : ℕ) → j < n → reservedSet (getD s (7 * j + 6) 0) ≡ false → reservedGroups s n ≡ false
-reserved-one s n j h e =
-    by (reservedGroups s n)
-    (λ t. absurd (true≢false (sym (reserved-each s n j t h) ∙ reserved-at s j ∙ e)))
-    (λ f. f)
-
-pub reserved-none : (s : List ℕ) → reservedGroups s 0 ≡ true
-unfolding reservedGroups
-reserved-none s = refl
+      (spell-again s o n end (a .end-in) (a .few) (a .kind) (infoIn s (decode s)) start (t3 .0) tail)
 
 -- the mark of a group, by its last octet in the input
 pub parsed-mark : (s : List ℕ) (at : ℕ) → parsedAt s at .«high_bit» ≡ markSet (getD s (at + 6) 0)
 unfolding parsedAt
 parsed-mark s at = mark-last (groupAt s at) ∙ ap markSet (getD-part 7 at s 6 0 (omega arith))
 
--- the five tests, in their order
+-- the four tests, in their order
 pub direct-is : (s : List ℕ) (n : ℕ)
     → direct s n
     ≡ (nonzero (getD s 0 0)
     && (bit 0 (getD s (13 + 7 * n) 0)
-    && (marked (commandOf (markSet (getD s 6 0)) (markSet (getD s 13 0))) && (reservedGroups s (n + 2) && lean (drop (14 + 7 * n) s)))))
+    && (marked (commandOf (markSet (getD s 6 0)) (markSet (getD s 13 0))) && lean (drop (14 + 7 * n) s))))
 unfolding direct
 direct-is s n = rw (parsed-mark s 0, parsed-mark s 7) refl

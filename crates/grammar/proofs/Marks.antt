@@ -1,5 +1,5 @@
 -- The repeaters' marks in the octets of an accepted input: where they stand, and what an input with another mark is read as.
-use Prim.Native.Nat.{ℕ, zero, suc, _+_, _-_, _*_, _≤_, _<_}
+use Prim.Native.Nat.{ℕ, _+_, _-_, _*_, _≤_, _<_}
 use mathlib.Core.Path.{_≡_, refl, ap, sym, subst, _∙_}
 use mathlib.Core.Bool.{Bool, true}
 use mathlib.Core.List.{List}
@@ -12,7 +12,7 @@ use Rattle.octets.specs.Octet.{field, bit}
 use Rattle.octets.proofs.Choice.{by}
 use Rattle.octets.proofs.First.{first-passes, first-before, first-is}
 use Rattle.octets.proofs.Place.{getD-part}
-use Rattle.address.specs.Group.{addressOf, markOf, markSet, reservedSet}
+use Rattle.address.specs.Group.{addressOf, markOf, markSet}
 use Rattle.address.proofs.Laws.{address-kept, mark-last}
 use Rattle.content.specs.Spell.{hasInfo}
 use Rattle.lean.proofs.Laws.{content-some}
@@ -23,8 +23,8 @@ use Rattle.decode.specs.Answer.{isAccepted}
 use Rattle.decode.specs.Read.{nonzero, startOf, endOf, groupAt, parsedAt, entryAt, placeAt, routeAt, frameAt, acceptedWith, withContent, decodeField, decode, infoIn}
 use Rattle.decode.specs.declared.Decoded.{Decoded}
 use Rattle.decode.proofs.Accepts.{Accepts, accepts}
-use Rattle.grammar.specs.Direct.{reservedGroups, direct}
-use Rattle.grammar.proofs.Direct.{place-at, route-at, reserved-at, parsed-mark, direct-is}
+use Rattle.grammar.specs.Direct.{direct}
+use Rattle.grammar.proofs.Direct.{place-at, route-at, parsed-mark, direct-is}
 
 -- where a group and its parts stand
 pub parsed-is : (s : List ℕ) (at : ℕ) → parsedAt s at ≡ record { address = addressOf (groupAt s at); «high_bit» = markOf (groupAt s at) }
@@ -94,7 +94,7 @@ module _ (s : List ℕ) (at v : ℕ) (n i : ℕ) (h : i < n) (l : n ≤ 8) (fits
   entry-own : entryAt t g ≡ record { repeater = entryAt s g .repeater; «has_repeated» = markSet v }
   unfolding entryAt parsedAt
   entry-own =
-      let same : field 1 4 v ≡ field 1 4 (getD (groupAt s g) 6 0) = rw own-last (omega arith) in
+      let same : field 1 6 v ≡ field 1 6 (getD (groupAt s g) 6 0) = rw own-last (omega arith) in
       let m : markOf (set (groupAt s g) 6 v) ≡ markSet v =
       mark-last (set (groupAt s g) 6 v) ∙ ap markSet (getD-set-same (groupAt s g) 6 v 0 (rw own-length (omega arith))) in
       rw (group-last s g v, address-kept (groupAt s g) v (rw own-length (omega arith)) same, m) refl
@@ -160,18 +160,13 @@ module _ (s : List ℕ) (e : isAccepted (decode s .answer) ≡ true) (i v : ℕ)
   p-in : (p ≤ endOf s) × (endOf s < length s)
   p-in = let counted = a .counted in let long = a .long in (omega (arith, inner), a .end-in)
 
-  -- a test that does not look at bit 7 passes wherever it passed
-  same-test : (test : ℕ → Bool) → test v ≡ test (getD s p 0) → (k : ℕ) → test (getD u k 0) ≡ test (getD s k 0)
-  same-test test same k =
-      by (eqb k p)
-      (λ e. let q : k ≡ p = eqb-true k p e in rw (q, getD-set-same s p v 0 (omega (arith, p-in .0, p-in .1))) same)
-      (λ e. rw (getD-set-other s p k v 0 (eqb-false k p e)) refl)
-
+  -- the end bits are where they were
   same-low : (k : ℕ) → bit 0 (getD u k 0) ≡ bit 0 (getD s k 0)
-  same-low = let b : field 0 1 v ≡ field 0 1 (getD s p 0) = omega (arith, low) in same-test (bit 0) (rw b refl)
-
-  same-reserves : (k : ℕ) → reservedSet (getD u k 0) ≡ reservedSet (getD s k 0)
-  same-reserves = let b : field 5 2 v ≡ field 5 2 (getD s p 0) = omega (arith, low) in same-test reservedSet (rw b refl)
+  same-low k =
+      let b : field 0 1 v ≡ field 0 1 (getD s p 0) = omega (arith, low) in
+      by (eqb k p)
+      (λ e. let q : k ≡ p = eqb-true k p e in rw (q, getD-set-same s p v 0 (omega (arith, p-in .0, p-in .1)), b) refl)
+      (λ e. rw (getD-set-other s p k v 0 (eqb-false k p e)) refl)
 
   same-start : startOf u ≡ startOf s
   same-start =
@@ -225,12 +220,6 @@ module _ (s : List ℕ) (e : isAccepted (decode s .answer) ≡ true) (i v : ℕ)
   unfolding acceptedWith frameAt
   decode-marked = read-marked ∙ rw (frame-marked, a .made) refl
 
-  -- reserved bits, group by group
-  same-reserved : (m : ℕ) → reservedGroups u m ≡ reservedGroups s m
-  unfolding reservedGroups
-  same-reserved zero = refl
-  same-reserved (suc m) = rw (same-reserved m, reserved-at u m, reserved-at s m, same-reserves (7 * m + 6)) refl
-
   -- the direct look passes where it passed
   pub direct-marked : direct u (decode s .frame .«route_count») ≡ direct s (decode s .frame .«route_count»)
   direct-marked =
@@ -241,7 +230,6 @@ module _ (s : List ℕ) (e : isAccepted (decode s .answer) ≡ true) (i v : ℕ)
         getD-set-other s p 6 v 0 (λ e. omega (arith, e)),
         getD-set-other s p 13 v 0 (λ e. omega (arith, e)),
         same-low (13 + 7 * a .count),
-        same-reserved (a .count + 2),
       )
       (by (nonzero (getD s 0 0))
       (λ e.

@@ -1,25 +1,18 @@
 -- The canonical check as a direct look at the octets of an accepted input.
-use Prim.Native.Nat.{ℕ, zero, suc, _+_, _*_}
-use mathlib.Core.Bool.{Bool, true, _&&_}
+use Prim.Native.Nat.{ℕ, _+_, _*_}
+use mathlib.Core.Bool.{Bool, _&&_}
 use mathlib.Core.List.{List}
 use lib.ListN.{getD, drop}
 use Rattle.octets.specs.Octet.{bit}
-use Rattle.address.specs.Group.{reserved}
 use Rattle.lean.specs.Lean.{lean}
-use Rattle.decode.specs.Read.{nonzero, groupAt, parsedAt, commandOf}
+use Rattle.decode.specs.Read.{nonzero, parsedAt, commandOf}
 use Rattle.frame.specs.Spell.{marked}
 
--- the reserved bits of the first n groups are ones
-unfoldable pub reservedGroups : List ℕ → ℕ → Bool
-reservedGroups s zero = true
-reservedGroups s (suc n) = reservedGroups s n && reserved (groupAt s (7 * n))
-
 -- of an input that decodes with n repeaters: no leading null; the address field ends with its last whole group; the marks of
--- destination and source differ; reserved bits; content just as writing gives it
+-- destination and source differ; content just as writing gives it. Callsigns, SSIDs and reserved bits may be any
 unfoldable pub direct : List ℕ → ℕ → Bool
 direct s n =
     nonzero (getD s 0 0)
     && (bit 0 (getD s (13 + 7 * n) 0)
     && (marked (commandOf (parsedAt s 0 .«high_bit») (parsedAt s 7 .«high_bit»))
-    && (reservedGroups s (n + 2)
-    && lean (drop (14 + 7 * n) s))))
+    && lean (drop (14 + 7 * n) s)))

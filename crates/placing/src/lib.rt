@@ -65,7 +65,7 @@ pub fn put(
         return PutAnswer::NotEncodable;
     }
     let c = address.callsign;
-    let last = group::ssid_octet(address.ssid, high_bit, final_in_address);
+    let last = group::ssid_octet(address.ssid, address.reserved, high_bit, final_in_address);
     if store(
         out,
         at,
@@ -102,7 +102,8 @@ pub fn respell(
     if len - 7 < from {
         return;
     }
-    let last = group::ssid_octet(bytes[from + 6] >> 1, high_bit, final_in_address);
+    let read = bytes[from + 6];
+    let last = group::ssid_octet(read >> 1, read >> 5, high_bit, final_in_address);
     store(
         out,
         at,

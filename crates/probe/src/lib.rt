@@ -26,9 +26,9 @@ ghost use Rattle.probe.specs.Calls.{lacks, answers, leaves, leavesBy, re
 mod places; // places.rt: the places of a decode
 
 // How many octets a flat frame, address and content have, how many places a decode reports, and how many numbers the hops are.
-const FRAME: usize = 92;
+const FRAME: usize = 102;
 
-const ADDRESS: usize = 7;
+const ADDRESS: usize = 8;
 
 const CONTENT: usize = 12;
 
@@ -44,9 +44,9 @@ const NO_ROOM: u32 = 24;
 // Decodes: the number, the frame, and its places, which a refusal's details are among.
 #[no_mangle]
 pub extern "C" fn probe_decode(input: &[u8], flat: &mut [u8], places: &mut [usize]) -> u32
-    ensures { λ r. ⌜ r ≡ answers (lacks (now (flat .entry)) 92 || lacks (now (places .entry)) 5) (numberOf (decode (now (input .entry)) .answer)) ⌝ }
-    ensures { λ r. ⌜ now (flat .exit) ≡ leavesBy (lacks (now (flat .entry)) 92 || lacks (now (places .entry)) 5) (numberOf (decode (now (input .entry)) .answer)) (now (flat .entry)) (flatOf (decode (now (input .entry)) .frame)) ⌝ }
-    ensures { λ r. ⌜ now (places .exit) ≡ leaves (lacks (now (flat .entry)) 92 || lacks (now (places .entry)) 5) (now (places .entry)) (placesOf (decode (now (input .entry)))) ⌝ }
+    ensures { λ r. ⌜ r ≡ answers (lacks (now (flat .entry)) 102 || lacks (now (places .entry)) 5) (numberOf (decode (now (input .entry)) .answer)) ⌝ }
+    ensures { λ r. ⌜ now (flat .exit) ≡ leavesBy (lacks (now (flat .entry)) 102 || lacks (now (places .entry)) 5) (numberOf (decode (now (input .entry)) .answer)) (now (flat .entry)) (flatOf (decode (now (input .entry)) .frame)) ⌝ }
+    ensures { λ r. ⌜ now (places .exit) ≡ leaves (lacks (now (flat .entry)) 102 || lacks (now (places .entry)) 5) (now (places .entry)) (placesOf (decode (now (input .entry)))) ⌝ }
 {
     if flat.len() < FRAME {
         return NO_ROOM;
@@ -86,8 +86,8 @@ pub extern "C" fn probe_encode(flat: &[u8], info: &[u8], out: &mut [u8], len: &m
 // The frame of a flat record, as a flat record again.
 #[no_mangle]
 pub extern "C" fn probe_again(given: &[u8], flat: &mut [u8]) -> u32
-    ensures { λ r. ⌜ r ≡ answers (lacks (now (flat .entry)) 92) 0 ⌝ }
-    ensures { λ r. ⌜ now (flat .exit) ≡ leaves (lacks (now (flat .entry)) 92) (now (flat .entry)) (flatOf (frameFrom (now (given .entry)))) ⌝ }
+    ensures { λ r. ⌜ r ≡ answers (lacks (now (flat .entry)) 102) 0 ⌝ }
+    ensures { λ r. ⌜ now (flat .exit) ≡ leaves (lacks (now (flat .entry)) 102) (now (flat .entry)) (flatOf (frameFrom (now (given .entry)))) ⌝ }
 {
     if flat.len() < FRAME {
         return NO_ROOM;
@@ -100,8 +100,8 @@ pub extern "C" fn probe_again(given: &[u8], flat: &mut [u8]) -> u32
 // Reads a callsign and an SSID: the number and the address.
 #[no_mangle]
 pub extern "C" fn probe_from_parts(callsign: &[u8], ssid: u8, flat: &mut [u8]) -> u32
-    ensures { λ r. ⌜ r ≡ answers (lacks (now (flat .entry)) 7) (addressNumberOf (readParts (now (callsign .entry)) ssid .answer)) ⌝ }
-    ensures { λ r. ⌜ now (flat .exit) ≡ leavesBy (lacks (now (flat .entry)) 7) (addressNumberOf (readParts (now (callsign .entry)) ssid .answer)) (now (flat .entry)) (addressFlat (readParts (now (callsign .entry)) ssid .address)) ⌝ }
+    ensures { λ r. ⌜ r ≡ answers (lacks (now (flat .entry)) 8) (addressNumberOf (readParts (now (callsign .entry)) ssid .answer)) ⌝ }
+    ensures { λ r. ⌜ now (flat .exit) ≡ leavesBy (lacks (now (flat .entry)) 8) (addressNumberOf (readParts (now (callsign .entry)) ssid .answer)) (now (flat .entry)) (addressFlat (readParts (now (callsign .entry)) ssid .address)) ⌝ }
 {
     if flat.len() < ADDRESS {
         return NO_ROOM;
@@ -120,8 +120,8 @@ pub extern "C" fn probe_from_parts(callsign: &[u8], ssid: u8, flat: &mut [u8]) -
 // Reads a text: the number and the address.
 #[no_mangle]
 pub extern "C" fn probe_from_str(text: &[u8], flat: &mut [u8]) -> u32
-    ensures { λ r. ⌜ r ≡ answers (lacks (now (flat .entry)) 7) (addressNumberOf (readText (now (text .entry)) .answer)) ⌝ }
-    ensures { λ r. ⌜ now (flat .exit) ≡ leavesBy (lacks (now (flat .entry)) 7) (addressNumberOf (readText (now (text .entry)) .answer)) (now (flat .entry)) (addressFlat (readText (now (text .entry)) .address)) ⌝ }
+    ensures { λ r. ⌜ r ≡ answers (lacks (now (flat .entry)) 8) (addressNumberOf (readText (now (text .entry)) .answer)) ⌝ }
+    ensures { λ r. ⌜ now (flat .exit) ≡ leavesBy (lacks (now (flat .entry)) 8) (addressNumberOf (readText (now (text .entry)) .answer)) (now (flat .entry)) (addressFlat (readText (now (text .entry)) .address)) ⌝ }
 {
     if flat.len() < ADDRESS {
         return NO_ROOM;
@@ -157,8 +157,8 @@ pub extern "C" fn probe_print(flat: &[u8], out: &mut [u8], len: &mut [usize]) ->
 // The simple UI frame of two flat addresses.
 #[no_mangle]
 pub extern "C" fn probe_simple_ui(source: &[u8], destination: &[u8], flat: &mut [u8]) -> u32
-    ensures { λ r. ⌜ r ≡ answers (lacks (now (flat .entry)) 92) 0 ⌝ }
-    ensures { λ r. ⌜ now (flat .exit) ≡ leaves (lacks (now (flat .entry)) 92) (now (flat .entry)) (flatOf (simpleUi (addressAt (now (source .entry)) 0) (addressAt (now (destination .entry)) 0))) ⌝ }
+    ensures { λ r. ⌜ r ≡ answers (lacks (now (flat .entry)) 102) 0 ⌝ }
+    ensures { λ r. ⌜ now (flat .exit) ≡ leaves (lacks (now (flat .entry)) 102) (now (flat .entry)) (flatOf (simpleUi (addressAt (now (source .entry)) 0) (addressAt (now (destination .entry)) 0))) ⌝ }
 {
     if flat.len() < FRAME {
         return NO_ROOM;
@@ -173,8 +173,8 @@ pub extern "C" fn probe_simple_ui(source: &[u8], destination: &[u8], flat: &mut 
 // The default frame.
 #[no_mangle]
 pub extern "C" fn probe_default(flat: &mut [u8]) -> u32
-    ensures { λ r. ⌜ r ≡ answers (lacks (now (flat .entry)) 92) 0 ⌝ }
-    ensures { λ r. ⌜ now (flat .exit) ≡ leaves (lacks (now (flat .entry)) 92) (now (flat .entry)) (flatOf defaultFrame) ⌝ }
+    ensures { λ r. ⌜ r ≡ answers (lacks (now (flat .entry)) 102) 0 ⌝ }
+    ensures { λ r. ⌜ now (flat .exit) ≡ leaves (lacks (now (flat .entry)) 102) (now (flat .entry)) (flatOf defaultFrame) ⌝ }
 {
     if flat.len() < FRAME {
         return NO_ROOM;

@@ -142,6 +142,7 @@ fn station_of(callsign: &[u8], ssid: u8) -> Address
     Address {
         callsign: padded,
         ssid,
+        reserved: address::RESERVED_ONES,
     }
 }
 

@@ -5,7 +5,7 @@ ghost use Prim.Native.Nat.{_+_, _*_, _≤_, _<_};
 ghost use lib.ListN.{length};
 ghost use Rattle.frame.specs.Spell.{marked};
 ghost use Rattle.decode.specs.Read.{commandOf};
-ghost use Rattle.grammar.specs.Direct.{reservedGroups, direct};
+ghost use Rattle.grammar.specs.Direct.{direct};
 ghost use Rattle.spelling.specs.Canonical.{canonical};
 
 // Whether the marks of destination and source are those of a command or a response.
@@ -13,21 +13,6 @@ fn is_marked(to: bool, from: bool) -> bool
     ensures { λ r. ⌜ r ≡ marked (commandOf to from) ⌝ }
 {
     if to { !from } else { from }
-}
-
-// Whether the reserved bits of the first n groups are ones.
-fn reserved_groups(bytes: &[u8], n: usize) -> bool
-    requires { ⌜ (n ≤ 10) × (7 * n ≤ length (now bytes)) ⌝ }
-    ensures { λ r. ⌜ r ≡ reservedGroups (now (bytes .entry)) n ⌝ }
-{
-    let mut i = 0;
-    while i < n {
-        if !address::group::reserved_set(bytes[7 * i + 6]) {
-            return false;
-        }
-        i += 1;
-    }
-    true
 }
 
 // A direct look at an input that decodes with this count.
@@ -46,9 +31,6 @@ fn is_direct(bytes: &[u8], count: usize) -> bool
     let to = address::group::mark_set(bytes[6]);
     let from = address::group::mark_set(bytes[13]);
     if !is_marked(to, from) {
-        return false;
-    }
-    if !reserved_groups(bytes, count + 2) {
         return false;
     }
     let control = 14 + 7 * count;

@@ -20,11 +20,11 @@ use Rattle.address.specs.declared.Address.{Address}
 use Rattle.text.specs.declared.AddressAnswer.{AddressAnswer}
 use Rattle.text.specs.declared.AddressAnswer.the-variants.{Accepted}
 use Rattle.text.specs.declared.AddressRead.{AddressRead}
-use Rattle.address.specs.Address.{low, noCall, encodable, PlainAddress}
+use Rattle.address.specs.Address.{low, reservedOnes, noCall, encodable, PlainAddress}
 use Rattle.octets.specs.Count.{count}
-use Rattle.text.specs.Text.{addressNumberOf, hyphen, digit, upperCase, lowerCase, alphanumeric, upper, upperAt, decimalFrom, decimal, digits8, afterPlus, callsignText, manyHyphens, empty, long, wide, hasSsid, ssidText, ssidValue, badSsid, padded, readCallsign, readParts, readText, upperOrDigit, TextAddress, high, strange}
+use Rattle.text.specs.Text.{addressNumberOf, hyphen, digit, upperCase, lowerCase, alphanumeric, upper, upperAt, decimalFrom, decimal, digits8, afterPlus, callsignText, manyHyphens, empty, long, wide, hasSsid, ssidText, ssidValue, badSsid, padded, textAddress, readCallsign, readParts, readText, upperOrDigit, TextAddress, high, strange}
 use Rattle.printing.specs.Print.{space, used, trimmed, decimalText, ssidSuffix, textOf}
-use Rattle.address.proofs.Laws.{six-list, no-call-plain}
+use Rattle.address.proofs.Laws.{six-list, no-call-plain, no-call-ones, encodable-is}
 use Rattle.printing.proofs.Laws.{used-le, trimmed-length}
 
 -- the rows that both tables end with: empty (32); 31; characters (32); 34
@@ -244,12 +244,12 @@ module _ (c u : List ℕ) (s : ℕ) (q : Suffix u s) (o : all other c ≡ true) 
   few = le-ltb 1 (count hyphen (c ++ u)) (omega (arith, count-append c u, count-none c o, q .hyphens))
 
 accepted : (c : List ℕ) (s : ℕ) → 0 < length c → length c ≤ 6 → all alphanumeric c ≡ true → s ≤ 15
-    → readCallsign c s ≡ record { answer = Accepted; address = record { callsign = padded c; ssid = s } }
+    → readCallsign c s ≡ record { answer = Accepted; address = textAddress (padded c) s }
 unfolding readCallsign
 accepted c s n l h w = simp (ne-eqb (length c) 0 (λ z. omega arith), le-ltb 6 (length c) l, h, le-ltb 15 s w)
 
--- the text of an address that people write reads back as it
-pub print-back : (a : Address) → TextAddress a → readText (textOf a) ≡ record { answer = Accepted; address = a }
+-- the text of an address that people write reads back as its callsign and SSID: the text does not show the reserved bits
+pub print-back : (a : Address) → TextAddress a → readText (textOf a) ≡ record { answer = Accepted; address = textAddress (a .callsign) (a .ssid) }
 unfolding readText
 print-back a p =
     let c : List ℕ = trimmed (a .callsign) in
@@ -258,7 +258,7 @@ print-back a p =
     let o : all other c ≡ true = all-follows upperOrDigit other fine-other c (p .characters) in
     let n : length c ≡ used (a .callsign) = trimmed-length (a .callsign) in
     let lows : all low (c ++ u) ≡ true = all-append low c u ∙ rw (all-follows upperOrDigit low fine-low c (p .characters), q .lows) refl in
-    let read : readCallsign c (a .ssid) ≡ record { answer = Accepted; address = record { callsign = padded c; ssid = a .ssid } } =
+    let read : readCallsign c (a .ssid) ≡ record { answer = Accepted; address = textAddress (padded c) (a .ssid) } =
     accepted c (a .ssid) (omega (arith, p .some)) (omega (arith, used-le (a .callsign), p .six))
     (all-follows upperOrDigit alphanumeric fine-alphanumeric c (p .characters)) (p .small) in
     simp (lows, few c u _ q o, number c u _ q o)
@@ -285,7 +285,7 @@ upper-low c h k =
     (λ l. fine-low (upperAt c k) (upper-fine (getD c k 32) (all-at alphanumeric c 32 k (ltb-true k (length c) l) h)))
     (λ l. rw (List·getD-eq-default c 32 (ltb-false k (length c) l)) refl)
 
-padded-plain : (c : List ℕ) (s : ℕ) → all alphanumeric c ≡ true → s ≤ 15 → PlainAddress (record { callsign = padded c; ssid = s })
+padded-plain : (c : List ℕ) (s : ℕ) → all alphanumeric c ≡ true → s ≤ 15 → PlainAddress (textAddress (padded c) s)
 unfolding padded encodable
 padded-plain c s h l = record {
   six = refl;
@@ -364,7 +364,7 @@ unfolding padded
 padded-six c = refl
 
 padded-address : (c : List ℕ) (s : ℕ) → 0 < length c → length c ≤ 6 → all alphanumeric c ≡ true → s ≤ 15
-    → TextAddress (record { callsign = padded c; ssid = s })
+    → TextAddress (textAddress (padded c) s)
 padded-address c s n l h w =
     let u : used (padded c) ≡ length c = rw cells-six (cells-used 6 c l h) in
     record {
@@ -372,6 +372,7 @@ padded-address c s n l h w =
       some = rw u n;
       characters = rw (u, cells-six) (cells-fine 6 c l h);
       small = w;
+      reserves = omega arith;
     }
 
 refusing : (x : AddressAnswer) → 0 < addressNumberOf x → x ≡ Accepted → ⊥
@@ -401,8 +402,37 @@ text-address t =
     (λ b. simp (h, m, b) (callsign-address (callsignText t) (ssidValue t)))))
     (λ h. simp h (λ z. absurd (refusing _ (omega arith) z)))
 
+-- whatever is read has both reserved bits set
+abbrev Ones : AddressRead → Type 0
+Ones r = r .address .reserved ≡ reservedOnes
+
+callsign-ones : (c : List ℕ) (s : ℕ) → readCallsign c s .address .reserved ≡ reservedOnes
+unfolding readCallsign
+callsign-ones c s =
+    either Ones (empty c) (λ _. no-call-ones)
+    (λ _. either Ones (long c) (λ _. no-call-ones)
+    (λ _. either Ones (strange c) (λ _. no-call-ones)
+    (λ _. either Ones (wide s) (λ _. no-call-ones) (λ _. refl))))
+
+pub parts-ones : (c : List ℕ) (s : ℕ) → readParts c s .address .reserved ≡ reservedOnes
+unfolding readParts
+parts-ones c s = either Ones (high c) (λ _. no-call-ones) (λ _. callsign-ones c s)
+
+pub text-ones : (t : List ℕ) → readText t .address .reserved ≡ reservedOnes
+unfolding readText
+text-ones t =
+    either Ones (high t) (λ _. no-call-ones)
+    (λ _. either Ones (manyHyphens t) (λ _. no-call-ones)
+    (λ _. either Ones (badSsid t) (λ _. no-call-ones) (λ _. callsign-ones (callsignText t) (ssidValue t))))
+
 -- so an accepted text, printed and read again, is the same address
 pub text-back : (t : List ℕ) → readText t .answer ≡ Accepted → readText (textOf (readText t .address)) ≡ readText t
 text-back t e =
-    print-back (readText t .address) (text-address t e)
-    ∙ ap (λ (x : AddressAnswer). record { answer = x; address = readText t .address }) (sym e)
+    print-back (readText t .address) (text-address t e) ∙ rw (← text-ones t, ← e) refl
+
+-- and an address that people write can be printed
+pub text-writable : (a : Address) → TextAddress a → encodable a ≡ true
+text-writable a p =
+    let q = text-plain (textOf a) in
+    let t : encodable (textAddress (a .callsign) (a .ssid)) ≡ true = (rw (print-back a p) at q) .writable in
+    encodable-is a ∙ rw (le-leb (a .reserved) 3 (p .reserves)) (sym (encodable-is (textAddress (a .callsign) (a .ssid))) ∙ t)

@@ -14,7 +14,7 @@ use Rattle.text.specs.declared.AddressAnswer.the-variants.{Accepted, Cal
 use Rattle.text.specs.declared.AddressRead.{AddressRead}
 use Rattle.text.specs.declared.Ssid.{Ssid}
 use Rattle.text.specs.declared.Ssid.the-variants.{Number, NotANumber}
-use Rattle.address.specs.Address.{low, noCall}
+use Rattle.address.specs.Address.{low, noCall, reservedOnes}
 use Rattle.printing.specs.Print.{used, trimmed}
 
 -- document 01's numbers for reading an address
@@ -121,6 +121,10 @@ padded c = upperAt c 0 ∷ upperAt c 1 ∷ upperAt c 2 ∷ upperAt c 3 ∷ upper
 abbrev pub refused : AddressAnswer → AddressRead
 refused answer = record { answer = answer; address = noCall }
 
+-- the address of a callsign and an SSID: a text says nothing of the reserved bits, and they are ones
+abbrev pub textAddress : List ℕ → ℕ → Address
+textAddress c s = record { callsign = c; ssid = s; reserved = reservedOnes }
+
 -- what reading a callsign without octets of 128 or more, and an SSID, gives
 unfoldable pub readCallsign : List ℕ → ℕ → AddressRead
 readCallsign c s =
@@ -128,7 +132,7 @@ readCallsign c s =
     (cond (long c) (refused CallsignTooLong)
     (cond (strange c) (refused InvalidFormat)
     (cond (wide s) (refused SsidOutOfRange)
-    (record { answer = Accepted; address = record { callsign = padded c; ssid = s } }))))
+    (record { answer = Accepted; address = textAddress (padded c) s }))))
 
 -- what `from_parts` gives
 unfoldable pub readParts : List ℕ → ℕ → AddressRead
@@ -153,7 +157,8 @@ abbrev pub readWith : List ℕ → Ssid → AddressRead
 readWith c (Number s) = readCallsign c s
 readWith c NotANumber = refused InvalidSsid
 
--- an address as people write it: 1 to 6 upper-case letters and digits, then spaces; an SSID up to 15
+-- an address as people write it: 1 to 6 upper-case letters and digits, then spaces; an SSID up to 15. Its reserved bits are any that
+-- printing takes
 abbrev pub upperOrDigit : ℕ → Bool
 upperOrDigit c = digit c || upperCase c
 
@@ -162,3 +167,4 @@ pub record TextAddress (a : Address) : Type 0 where
   pub some : 0 < used (a .callsign)
   pub characters : all upperOrDigit (trimmed (a .callsign)) ≡ true
   pub small : a .ssid ≤ 15
+  pub reserves : a .reserved ≤ 3

@@ -184,6 +184,7 @@ fn read_callsign(callsign: &[u8], ssid: u8) -> AddressRead
         address: Address {
             callsign: pad(callsign),
             ssid,
+            reserved: address::RESERVED_ONES,
         },
     }
 }

@@ -27,7 +27,7 @@ even-again b h = octet-same even (λ n. n / 2 * 2 % 256) tt b h
 
 octets-again : (s : List ℕ) (from : ℕ) (m e : Bool) → Octets s → from + 7 ≤ length s
     → even (getD s from 0) ∷ even (getD s (from + 1) 0) ∷ even (getD s (from + 2) 0) ∷ even (getD s (from + 3) 0)
-    ∷ even (getD s (from + 4) 0) ∷ even (getD s (from + 5) 0) ∷ ssidOctet (getD s (from + 6) 0 / 2) m e ∷ []
+    ∷ even (getD s (from + 4) 0) ∷ even (getD s (from + 5) 0) ∷ ssidOctet (getD s (from + 6) 0 / 2) (getD s (from + 6) 0 / 32) m e ∷ []
     ≡ respelled s from m e
 octets-again s from m e o h =
     let v : (k : ℕ) → even (getD s k 0) ≡ getD s k 0 / 2 * 2 % 256 = λ k. even-again (getD s k 0) (o k) in
@@ -43,11 +43,11 @@ returns-2 c =
     let a = c .before .before .before .before .args in
     sym (rw (respelled-out (a .bytes .now) (a .from) _ _ (omega arith)) (splice-none _ _))
 
-add-ssid-octet : tie.Need-add-ssid-octet
-add-ssid-octet c = search needs
+add-read : tie.Need-add-read
+add-read c = search needs
 
-shared-slice-read-ssid-octet : tie.Need-shared-slice-read-ssid-octet
-shared-slice-read-ssid-octet c = search needs
+shared-slice-read-read : tie.Need-shared-slice-read-read
+shared-slice-read-read c = search needs
 
 ssid-octet-requires : tie.Need-ssid-octet-requires
 ssid-octet-requires c κs = search needs
@@ -107,8 +107,8 @@ respell-spec =
     (tie.spec
     returns
     returns-2
-    add-ssid-octet
-    shared-slice-read-ssid-octet
+    add-read
+    shared-slice-read-read
     ssid-octet-requires
     shared-slice-read-store
     add-store

@@ -71,24 +71,6 @@ returns-3 c =
     let e = c .before .before .before .before .before .before in
     simp (direct-is, first (e .before .before), low e, sym (marks (c .before)) ∙ not-true _ (c .if3 .taken))
 
-add-reserved-groups : tie.Need-add-reserved-groups
-add-reserved-groups c = search needs
-
-reserved-groups-requires : tie.Need-reserved-groups-requires
-reserved-groups-requires c κs = search needs
-
-returns-4 : tie.Need-returns-4
-returns-4 c =
-    let m = c .before .before in
-    let e = m .before .before .before .before .before .before in
-    simp (
-      direct-is,
-      first (e .before .before),
-      low e,
-      sym (marks (m .before)) ∙ not-false _ (m .if3 .left),
-      sym (c .before .reserved-groups .ensures) ∙ not-true _ (c .if4 .taken),
-    )
-
 mul-control : tie.Need-mul-control
 mul-control c = search needs
 
@@ -107,17 +89,15 @@ part-is-lean-end c = search needs
 is-lean-requires : tie.Need-is-lean-requires
 is-lean-requires c κs = search needs
 
-returns-5 : tie.Need-returns-5
-returns-5 c =
-    let r = c .before .before in
-    let m = r .before .before in
+returns-4 : tie.Need-returns-4
+returns-4 c =
+    let m = c .before .before in
     let e = m .before .before .before .before .before .before in
     simp (
       direct-is,
       first (e .before .before),
       low e,
       sym (marks (m .before)) ∙ not-false _ (m .if3 .left),
-      sym (r .before .reserved-groups .ensures) ∙ not-false _ (r .if4 .left),
       c .is-lean .ensures,
       part-from,
     )
@@ -138,13 +118,10 @@ is-direct-spec =
     mark-set-requires-2
     is-marked-requires
     returns-3
-    add-reserved-groups
-    reserved-groups-requires
-    returns-4
     mul-control
     add-control
     sub-is-lean
     part-is-lean-start
     part-is-lean-end
     is-lean-requires
-    returns-5)
+    returns-4)

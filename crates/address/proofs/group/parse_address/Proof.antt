@@ -33,7 +33,7 @@ returns : tie.Need-returns
 unfolding addressOf markOf
 returns c =
     let b : ℕ = getD (c .args .t1) 6 0 in
-    simp (and-mask (b / 2) 4, bit-test b 7)
+    simp (and-mask (b / 2) 4, and-mask (b / 32) 2, bit-test b 7)
 
 pub parse-address-spec : {M : Type 1} → statement M
 parse-address-spec =

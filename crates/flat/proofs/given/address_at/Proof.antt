@@ -1,4 +1,4 @@
--- Seven octets.
+-- Eight octets.
 use borrow.Author.Needs.{needs}
 use Rattle.flat.specs.Given.{addressAt}
 use Rattle.flat.proofs.given.address_at.Statement.{statement}
@@ -43,18 +43,25 @@ add-octet-6 c = search needs
 octet-requires-7 : tie.Need-octet-requires-7
 octet-requires-7 c κs = search needs
 
+add-octet-7 : tie.Need-add-octet-7
+add-octet-7 c = search needs
+
+octet-requires-8 : tie.Need-octet-requires-8
+octet-requires-8 c κs = search needs
+
 returns : tie.Need-returns
 unfolding addressAt
 returns c =
     let b = c .before .before .before .before in
     simp (
-      c .octet7 .ensures,
-      c .before .octet6 .ensures,
-      c .before .before .octet5 .ensures,
-      c .before .before .before .octet4 .ensures,
-      b .octet3 .ensures,
-      b .before .octet2 .ensures,
-      b .before .before .octet .ensures,
+      c .octet8 .ensures,
+      c .before .octet7 .ensures,
+      c .before .before .octet6 .ensures,
+      c .before .before .before .octet5 .ensures,
+      b .octet4 .ensures,
+      b .before .octet3 .ensures,
+      b .before .before .octet2 .ensures,
+      b .before .before .before .octet .ensures,
     )
 
 pub address-at-spec : {M : Type 1} → statement M
@@ -74,4 +81,6 @@ address-at-spec =
     octet-requires-6
     add-octet-6
     octet-requires-7
+    add-octet-7
+    octet-requires-8
     returns)

@@ -1,4 +1,4 @@
--- The eight octets are the address and its mark.
+-- The nine octets are the address and its mark.
 use mathlib.Core.Path.{refl, _∙_}
 use borrow.Author.Needs.{needs}
 use Rattle.flat.proofs.Parts.{flag-byte}

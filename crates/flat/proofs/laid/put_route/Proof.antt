@@ -11,7 +11,7 @@ use Rattle.flat.proofs.laid.put_route.Statement.{statement}
 use Rattle.flat.proofs.laid.put_route.Tie as tie
 
 abbrev Inv-loop : tie.InvT-loop
-Inv-loop out₀ route i₀ out i = (i ≤ 8) × (out ≡ splice out₀ 14 (routeFlat route i))
+Inv-loop out₀ route i₀ out i = (i ≤ 8) × (out ≡ splice out₀ 16 (routeFlat route i))
 
 abbrev μ-loop : tie.MeasureT-loop
 μ-loop out₀ route i₀ out i = 8 - i
