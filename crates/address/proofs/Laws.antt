@@ -251,6 +251,11 @@ pub no-call-ones : noCall .reserved ≡ reservedOnes
 unfolding noCall
 no-call-ones = refl
 
+-- the reserved bits of a read address are those of the group's last octet
+pub reserved-last : (g : List ℕ) → addressOf g .reserved ≡ field 5 2 (getD g 6 0)
+unfolding addressOf
+reserved-last g = refl
+
 -- the mark of a group is that of its last octet
 pub mark-last : (g : List ℕ) → markOf g ≡ markSet (getD g 6 0)
 unfolding markOf

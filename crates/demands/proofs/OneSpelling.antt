@@ -14,7 +14,7 @@ use Rattle.grammar.proofs.Back.{unique}
 use Rattle.spelling.specs.Canonical.{again}
 use Rattle.respelling.specs.Reencode.{reencode, reencoded}
 use Rattle.respelling.specs.declared.ReencodeAnswer.the-variants.{Written, Refused, NoRoom}
-use Rattle.spelling.proofs.Laws.{spell-canonical, canonical-plain, again-content, again-facts}
+use Rattle.spelling.proofs.Laws.{spell-canonical, canonical-plain, again-content, again-reserved, again-facts}
 use Rattle.respelling.proofs.Laws.{again-room, refused-answer, again-short, again-fits}
 use Rattle.octets.specs.Lent.{starting}
 use Rattle.demands.specs.OneSpelling.{OneSpelling}
@@ -29,7 +29,7 @@ one-spelling s o = record {
   );
   one = λ a b. unique (a .frame) (b .frame) (a .info) (b .info) (a .plain) (b .plain) (a .spells ∙ sym (b .spells));
   respelled = λ e. let r = again-facts s o e in
-      record { accepted = r .0; yes = r .1; shorter = r .2; frame = r .3; info = r .4; content = again-content s o e };
+      record { accepted = r .0; yes = r .1; shorter = r .2; frame = r .3; info = r .4; content = again-content s o e; reserved = again-reserved s o e };
   written = λ e room h. again-room s room o e h;
 }
 

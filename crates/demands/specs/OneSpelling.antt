@@ -1,5 +1,5 @@
 -- Demand 3: one spelling.
-use Prim.Native.Nat.{ℕ, _+_, _*_, _≤_}
+use Prim.Native.Nat.{ℕ, _+_, _*_, _≤_, _<_}
 use mathlib.Core.Path.{_≡_}
 use mathlib.Core.Bool.{true}
 use mathlib.Core.List.{List}
@@ -7,9 +7,10 @@ use mathlib.Core.Logic.{_↔_}
 use lib.ListN.{length, drop}
 use Rattle.content.specs.Spell.{hasInfo}
 use Rattle.decode.specs.Answer.{isAccepted}
-use Rattle.decode.specs.Read.{endOf, decode, infoIn}
+use Rattle.decode.specs.Read.{startOf, endOf, decode, infoIn}
 use Rattle.frame.specs.Spell.{spell, Plain, withMark, inUse}
 use Rattle.frame.specs.declared.Ax25Frame.{Ax25Frame}
+use Rattle.grammar.specs.Stations.{reservedAt}
 use Rattle.spelling.specs.Canonical.{again, canonical}
 use Rattle.respelling.specs.Reencode.{reencodeAnswer, reencoded}
 use Rattle.respelling.specs.declared.ReencodeAnswer.the-variants.{Written}
@@ -32,6 +33,8 @@ pub record Respelled (s t : List ℕ) : Type 0 where
   pub info : infoIn t (decode t) ≡ infoIn s (decode s)
   -- of a kind with info, I or UI, the same octets after the address field: control, PID and info (document 02, M-105)
   pub content : hasInfo (decode s .frame .content) ≡ true → drop (14 + 7 * decode s .frame .«route_count») t ≡ drop (endOf s + 1) s
+  -- of every kind the same reserved bits in every group (document 02, M-106)
+  pub reserved : (j : ℕ) → j < decode s .frame .«route_count» + 2 → reservedAt t 0 j ≡ reservedAt s (startOf s) j
 
 pub record OneSpelling (s : List ℕ) : Type 0 where
   -- exact: the canonical check says yes exactly when some plain frame spells those octets

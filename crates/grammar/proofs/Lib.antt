@@ -7,3 +7,4 @@ pub mod Direct
 pub mod Refused
 pub mod Marks
 pub mod Parts
+pub mod Stations

@@ -1,2 +1,3 @@
 pub mod Direct
 pub mod Kept
+pub mod Stations

@@ -12,9 +12,10 @@ ghost use lib.ListN.{length};
 ghost use Rattle.content.specs.declared.FrameContent.the-variants.{UnknownContent};
 ghost use Rattle.decode.specs.Answer.{numberOf, reportOf, isAccepted};
 ghost use Rattle.decode.specs.Numbers.{reported};
-ghost use Rattle.decode.specs.Read.{decode};
+ghost use Rattle.decode.specs.Read.{startOf, decode};
 ghost use Rattle.frame.specs.Frame.{writeNumber, defaultFrame};
 ghost use Rattle.frame.specs.Spell.{spell};
+ghost use Rattle.grammar.specs.Stations.{Reserves};
 ghost use Rattle.spelling.specs.Canonical.{again};
 ghost use Rattle.respelling.specs.declared.ReencodeAnswer.the-variants.{Written as Done, Refused, NoRoom};
 ghost use Rattle.octets.specs.Table.{FirstRow};
@@ -30,12 +31,14 @@ pub fn canonical(bytes: &[u8]) -> bool
 }
 
 // Demand 1: the number is that of the first row of the table that holds; the details are the table's; a refusal is the default
-// frame with no info; nothing is read as `UnknownContent`. Demand 2: all else is as the rules read it.
+// frame with no info; nothing is read as `UnknownContent`. Document 02, M-106: the stations of an accepted frame have the reserved bits
+// of their groups. Demand 2: all else is as the rules read it.
 pub fn decoded(bytes: &[u8]) -> Decoded
     ensures { λ r. ⌜ FirstRow (decodeTable (now (bytes .entry))) (numberOf (r .answer)) ⌝ }
     ensures { λ r. ⌜ reportOf (r .answer) ≡ reported (now (bytes .entry)) ⌝ }
     ensures { λ r. ⌜ (isAccepted (r .answer) ≡ false → (r .frame ≡ defaultFrame) × (r .«info_start» ≡ 0) × (r .«info_len» ≡ 0)) ⌝ }
     ensures { λ r. ⌜ (r .frame .content ≡ UnknownContent → ⊥) ⌝ }
+    ensures { λ r. ⌜ (isAccepted (r .answer) ≡ true → Reserves (now (bytes .entry)) (startOf (now (bytes .entry))) (r .frame)) ⌝ }
     ensures { λ r. ⌜ r ≡ decode (now (bytes .entry)) ⌝ }
 {
     reading::from_bytes(bytes)

@@ -1,5 +1,5 @@
 -- The canonical check is exact, and an accepted input spelled again is canonical: the facts that the demands state.
-use Prim.Native.Nat.{ℕ, _+_, _*_, _≤_}
+use Prim.Native.Nat.{ℕ, _+_, _*_, _≤_, _<_}
 use mathlib.Core.Path.{_≡_, _∙_}
 use mathlib.Core.Bool.{true, false}
 use mathlib.Core.List.{List}
@@ -9,15 +9,17 @@ use Rattle.octets.proofs.Choice.{both, equal}
 use Rattle.octets.proofs.Same.{same-refl, same-eq}
 use Rattle.content.specs.Spell.{hasInfo}
 use Rattle.decode.specs.Answer.{isAccepted}
-use Rattle.decode.specs.Read.{endOf, decode, infoIn}
+use Rattle.decode.specs.Read.{startOf, endOf, decode, infoIn}
 use Rattle.frame.specs.Spell.{withMark, spell, Plain}
 use Rattle.frame.specs.declared.Ax25Frame.{Ax25Frame}
 use Rattle.grammar.specs.Direct.{direct}
+use Rattle.grammar.specs.Stations.{reservedAt}
 use Rattle.decode.proofs.Accepts.{accepts}
 use Rattle.grammar.proofs.Back.{info-spell, frame-spell}
 use Rattle.grammar.proofs.Plain.{read}
 use Rattle.grammar.proofs.Respell.{mark-spell, use-spell, use-mark, accepted-spell, content-spell}
 use Rattle.grammar.proofs.Direct.{direct-spelled, direct-again}
+use Rattle.grammar.proofs.Stations.{reserved-again}
 use Rattle.spelling.specs.Canonical.{again, canonical}
 
 -- a canonical input is what some plain frame spells
@@ -55,6 +57,12 @@ module _ (s : List ℕ) (o : Octets s) where
       → drop (14 + 7 * decode s .frame .«route_count») (again s) ≡ drop (endOf s + 1) s
   unfolding again
   again-content a e = content-spell s o a e
+
+  -- and of every kind the reserved bits of every group
+  pub again-reserved : isAccepted (decode s .answer) ≡ true
+      → (j : ℕ) → j < decode s .frame .«route_count» + 2 → reservedAt (again s) 0 j ≡ reservedAt s (startOf s) j
+  unfolding again
+  again-reserved a j h = reserved-again s o a j h
 
 pub refused-not-canonical : (s : List ℕ) → isAccepted (decode s .answer) ≡ false → canonical s ≡ false
 unfolding canonical
