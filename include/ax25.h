@@ -95,8 +95,8 @@ uint32_t ax25_canonical(const uint8_t *in, size_t in_len);
 
    Our own station is `callsign`, 0 to 6 octets below 128, and `ssid`, 0 to 15. The octets are taken as they are, lower case too,
    and padded with spaces to six. The due place, counted from 0, is the first repeater that is not marked, or the number of
-   repeaters where all are. The repeater there is our own station where its six characters and its SSID are ours. A frame with broken
-   marks, one of them after a repeater without, is never relayed, whoever is due.
+   repeaters where all are. The repeater there is our own station where its six characters and its SSID are ours, whatever its reserved
+   bits are. A frame with broken marks, one of them after a repeater without, is never relayed, whoever is due.
 
    Otherwise the answer is the first of these that holds, and all of `frame` stays as it was:
    - AX25_NOT_ENCODABLE: our own address has more than six octets, or one of 128 or more, or an SSID over 15, whatever the frame is;
@@ -118,10 +118,10 @@ size_t ax25_reencoded_length(const uint8_t *in, size_t in_len);
    - drops null octets before the frame,
    - drops octets left over between the last whole address and the end of the address field,
    - writes an absent command/response mark (both bits equal) as Command,
-   - sets the two reserved bits of every address,
    - drops the octets after the control octet of RR, RNR, REJ, SABM, DISC, DM and UA frames,
    - clears FRMR's unnamed bits.
-   All else is kept, every PID too. A canonical frame has none of these and re-encodes as itself. */
+   All else is kept, every PID and the two reserved bits of every address too. A canonical frame has none of these and re-encodes as
+   itself. */
 uint32_t ax25_reencode(const uint8_t *in, size_t in_len, uint8_t *out, size_t out_len);
 
 /* KISS packets: how a modem is given a frame, and how it gives one. A packet is C0; a type octet with the port, 0 to 11, in its

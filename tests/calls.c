@@ -1,4 +1,5 @@
-/* Answers lines by calls of the archive, for tests/digipeater.py and tests/modem.py, each line by `NUMBER HEX`:
+/* Answers lines by calls of the archive, for tests/outside.py, tests/digipeater.py and tests/modem.py, each line by `NUMBER HEX`:
+   `reencode HEX`               ax25_reencode's number, and the frame as it is written anew
    `relay CALLSIGN SSID HEX`    ax25_relay's number, and the frame as the call leaves it
    `read HEX`                   ax25_kiss_read's number, and the port as an octet before the data
    `write PORT HEX`             ax25_kiss_write's number, and the packet
@@ -32,6 +33,13 @@ static void answer(uint32_t number, const uint8_t *left, size_t len)
     for (size_t place = 0; place < len; place++)
         printf("%02X", left[place]);
     putchar('\n');
+}
+
+static void reencode(void)
+{
+    size_t len = read_octets();
+    uint32_t number = ax25_reencode(octets, len, packet, sizeof packet);
+    answer(number, packet, ax25_reencoded_length(octets, len));
 }
 
 static void relay(void)
@@ -92,9 +100,11 @@ static void state(void)
 
 int main(void)
 {
-    char call[6];
-    while (scanf("%5s", call) == 1)
-        if (strcmp(call, "relay") == 0)
+    char call[9];
+    while (scanf("%8s", call) == 1)
+        if (strcmp(call, "reencode") == 0)
+            reencode();
+        else if (strcmp(call, "relay") == 0)
             relay();
         else if (strcmp(call, "read") == 0)
             read_packet();

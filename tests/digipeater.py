@@ -20,7 +20,7 @@ import subprocess
 import sys
 import threading
 
-from outside import Count, Dice, Layout, group, hex_line, made_callsign, made_contents
+from outside import Count, Dice, Layout, answered, group, hex_line, made_callsign, made_contents
 
 OWN, OWN_SSID = 'HILL1', 2
 # The longest that anything is waited for, in seconds. Only a failure takes so long.
@@ -263,10 +263,7 @@ AS_LISTED = 'does otherwise as docs/DIFFERENCES.md lists, '
 def answers(command, lines):
     """What tests/calls.c answers to each line: a number and octets."""
     printed = subprocess.run(command, input='\n'.join(lines), stdout=subprocess.PIPE, text=True, check=True).stdout
-    pairs = [line.partition(' ') for line in printed.splitlines()]
-    if len(pairs) != len(lines):
-        sys.exit(f'tests/calls.c answers {len(pairs)} of {len(lines)} lines')
-    return [(int(number), bytes.fromhex(octets)) for number, _, octets in pairs]
+    return answered(printed, len(lines))
 
 
 def check_docs(count):

@@ -1,10 +1,12 @@
 #!/usr/bin/env python3
 """The part of tests/outside that makes the frames and compares the readings. DIR is the folder in which it works.
 
-usage: outside.py make DIR           writes the frames: each alone as DIR/frames/NUMBER, all as DIR/frames.pcap and DIR/frames.hex
-       outside.py made DIR           holds what the dumper printed (DIR/dumped/NUMBER) of the frames made here to their making
-       outside.py tshark DIR         compares what the dumper printed with DIR/tshark, what tshark printed (PDML)
-       outside.py decode_aprs DIR    compares it with DIR/decode_aprs, what direwolf's decode_aprs printed
+usage: outside.py make DIR           writes the frames: each alone as DIR/frames/NUMBER, all as DIR/frames.pcap and DIR/frames.hex, and as
+                                     lines for tests/calls.c in DIR/asked
+       outside.py made DIR           holds what the dumper printed (DIR/dumped/NUMBER) of the frames made here, and what ax25_reencode
+                                     made of them (DIR/reencoded), to their making
+       outside.py tshark DIR         compares these two with DIR/tshark, what tshark printed (PDML)
+       outside.py decode_aprs DIR    compares them with DIR/decode_aprs, what direwolf's decode_aprs printed
 
 A1, A2 and so on are entries of docs/DIFFERENCES.md."""
 import collections
@@ -78,14 +80,15 @@ def made_callsign(dice):
 
 
 def made_frames():
-    """Frames with 0 to 8 repeaters in turn, in each place every SSID in turn. All are plain."""
+    """Frames with 0 to 8 repeaters in turn, in each place every SSID and every setting of the reserved bits in turn. All are plain."""
     dice = Dice(25)
     frames = []
     for number, content in enumerate(made_contents(dice)):
         turn, repeaters = divmod(number, 9)
         command = dice.roll(2)
         marks = [command, 1 - command] + [dice.roll(2) for _ in range(repeaters)]
-        groups = [group(made_callsign(dice), (turn + 5 * place) % 16, mark, place == repeaters + 1) for place, mark in enumerate(marks)]
+        groups = [group(made_callsign(dice), (turn + 5 * place) % 16, mark, place == repeaters + 1, (turn // 5 + place) % 4)
+                  for place, mark in enumerate(marks)]
         frames.append(b''.join(groups) + content)
     return frames
 
@@ -96,22 +99,17 @@ def equal_marks(dice, frame):
         frame[place] = frame[place] & 0x7F | both
 
 
-def reserved_bits(dice, frame):
-    place = 7 * dice.roll(len(Layout(frame).groups)) + 6
-    frame[place] ^= (1 + dice.roll(3)) << 5
-
-
 def tail(dice, frame):
     frame += bytes(dice.roll(256) for _ in range(1 + dice.roll(3)))
 
 
 def spoilt_frames():
-    """Frames made as above with one thing that the port accepts and does not call canonical (A12, A5, A4)."""
+    """Frames made as above with one thing that the port accepts and does not call canonical (A12, A4)."""
     dice = Dice(52)
     frames = made_frames()
     short = [frame for frame in frames if Layout(frame).kind() not in ('I', 'UI', 'FRMR')]
     spoilt = []
-    for spoil, whole in ((equal_marks, frames[::12]), (reserved_bits, frames[6::12]), (tail, short[::2])):
+    for spoil, whole in ((equal_marks, frames[::6]), (tail, short[::2])):
         for frame in map(bytearray, whole):
             spoil(dice, frame)
             spoilt.append(bytes(frame))
@@ -145,9 +143,11 @@ def make(folder):
         (folder / 'frames' / f'{place:04}').write_bytes(frame)
     (folder / 'frames.pcap').write_bytes(pcap(frames))
     (folder / 'frames.hex').write_text(''.join(hex_line(frame) + '\n' for frame in frames))
+    (folder / 'asked').write_text(''.join(f'reencode {frame.hex()}\n' for frame in frames))
 
 
-# The layout of a frame, for spoiling one, and for saying which a program is known to report otherwise. It is compared with nothing.
+# The layout of a frame, for spoiling one, for finding the reserved bits of one that the port re-encoded, and for saying which a program
+# is known to report otherwise. Nothing else of it is compared.
 
 class Layout:
     def __init__(self, octets):
@@ -179,6 +179,9 @@ class Layout:
     def layer_3(self):
         return self.has_pid() and is_layer_3(self.content[1])
 
+    def reserved(self):
+        return listed(str(group[6] >> 5 & 3) for group in self.groups)
+
     def characters(self, field):
         """Those of a field of addresses, without the padding."""
         groups = {'destination': self.groups[:1], 'source': self.groups[1:2], 'repeaters': self.groups[2:]}[field]
@@ -188,8 +191,8 @@ class Layout:
 # Readings: a field is text; '-' where a frame of that kind has no such field, None where the reader does not say. Where the frame is
 # not accepted, `accepted` is the only one.
 
-FIELDS = ['accepted', 'destination', 'source', 'repeaters', 'marks', 'mark', 'kind', 'control', 'nr', 'ns', 'pf', 'pid', 'layer_3', 'frmr',
-          'info_length', 'canonical']
+FIELDS = ['accepted', 'destination', 'source', 'repeaters', 'marks', 'reserved', 'mark', 'kind', 'control', 'nr', 'ns', 'pf', 'pid',
+          'layer_3', 'frmr', 'info_length', 'canonical']
 REFUSED = {'accepted': 'no'}
 NO_PID = {'pid': '-', 'layer_3': '-'}
 NOT_UNDERSTOOD = {'accepted': 'something not understood'}
@@ -237,11 +240,19 @@ def by_dumper(text):
         'info_length': said['info_length'] if pid != '-' else '-', 'canonical': said['canonical']}
 
 
+def answered(printed, lines):
+    """What tests/calls.c printed in answer to so many lines: a number and octets for each."""
+    pairs = [line.partition(' ') for line in printed.splitlines()]
+    if len(pairs) != lines:
+        sys.exit(f'tests/calls.c answers {len(pairs)} of {lines} lines')
+    return [(int(number), bytes.fromhex(octets)) for number, _, octets in pairs]
+
+
 def canonical(groups, kind, stray):
     """What a report says of the spelling: None where it leaves out what decides. `stray`: octets follow where no info may."""
     marks = groups[0].mark != groups[1].mark
     ends = [group.last for group in groups] == [0] * (len(groups) - 1) + [1]
-    if not (marks and ends and all(group.reserved == 3 for group in groups)) or stray:
+    if not (marks and ends) or stray:
         return 'no'
     return None if kind == 'FRMR' else 'yes'
 
@@ -252,7 +263,8 @@ def common(groups, kind, pid, after):
     has_info = kind in ('I', 'UI')
     return {
         'accepted': 'yes', 'destination': groups[0].address, 'source': groups[1].address, 'kind': kind,
-        'repeaters': listed(group.address for group in groups[2:]), 'marks': listed(str(group.mark) for group in groups[2:]), **pid,
+        'repeaters': listed(group.address for group in groups[2:]), 'marks': listed(str(group.mark) for group in groups[2:]),
+        'reserved': listed(str(group.reserved) for group in groups), **pid,
         'frmr': None if kind == 'FRMR' else '-', 'info_length': '-' if not has_info else None if after is None else str(after),
         'canonical': canonical(groups, kind, stray=not has_info and kind != 'FRMR' and after)}
 
@@ -452,9 +464,16 @@ class Count:
         sys.exit(1 if self.failed else 0)
 
 
-def dumper_readings(folder, frames):
+def reencoded(folder, frames):
+    """What ax25_reencode made of each; nothing where it refuses."""
+    return [octets for _, octets in answered((folder / 'reencoded').read_text('ascii'), len(frames))]
+
+
+def port_readings(folder, frames):
+    """What the dumper says, and the reserved bits, of which it says nothing, as they stand in the re-encoded frame."""
     printed = [(folder / 'dumped' / f'{place:04}').read_text('ascii', errors='replace') for place in range(len(frames))]
-    return [understood(by_dumper, text) for text in printed]
+    return [{**understood(by_dumper, text), 'reserved': Layout(octets).reserved()}
+            for text, octets in zip(printed, reencoded(folder, frames))]
 
 
 def in_both(mine, theirs):
@@ -500,7 +519,7 @@ class Comparison:
         if reason:
             self.left_out[reason] += 1
         else:
-            self.wrong[field].append(f'the dumper says {mine!r}, {self.program} {theirs!r} of {hex_line(layout.octets)}')
+            self.wrong[field].append(f'the port says {mine!r}, {self.program} {theirs!r} of {hex_line(layout.octets)}')
         return reason
 
     def report(self, count):
@@ -524,23 +543,36 @@ def compare(folder, program):
         count.fail(f'{program} does not report on each of {len(frames)} frames')
         count.end()
     comparison = Comparison(program, excuses)
-    for octets, mine, other in zip(frames, dumper_readings(folder, frames), theirs):
+    for octets, mine, other in zip(frames, port_readings(folder, frames), theirs):
         comparison.frame(octets, mine, other)
     comparison.report(count)
     count.end()
 
 
+def check_spelling(count, frames, wanted, what, readings, again):
+    wrong = [frame for frame in frames if readings[frame].get('canonical') != wanted or (again[frame] == frame) != (wanted == 'yes')]
+    octets = 'the same octets' if wanted == 'yes' else 'other octets'
+    count.fail_all([f'the dumper should accept this and say canonical={wanted}, and ax25_reencode write {octets}: {hex_line(frame)}'
+                    for frame in wrong])
+    if not wrong:
+        count.ok(f'the dumper accepts {len(frames)} {what} and says canonical={wanted}, and ax25_reencode writes {octets}')
+
+
+def check_reserved(count):
+    met = {(place, setting) for frame in made_frames() for place, setting in enumerate(Layout(frame).reserved().split(','))}
+    lacking = [(place, setting) for place in range(10) for setting in '0123' if (place, setting) not in met]
+    count.fail_all([f'no plain frame has reserved bits of {setting} in place {place}' for place, setting in lacking])
+    if not lacking:
+        count.ok('the plain frames have every setting of the reserved bits in each of ten places')
+
+
 def made(folder):
     """What is known of the frames made here without any other program."""
     count, every = Count(), all_frames()
-    readings = dict(zip(every, dumper_readings(folder, every)))
-    for frames, wanted, what in (
-            (made_frames(), 'yes', 'plain frames'),
-            (spoilt_frames(), 'no', 'frames with equal marks, a reserved bit clear or a tail')):
-        wrong = [frame for frame in frames if readings[frame].get('canonical') != wanted]
-        count.fail_all([f'the dumper should accept this and say canonical={wanted}: {hex_line(frame)}' for frame in wrong])
-        if not wrong:
-            count.ok(f'the dumper accepts {len(frames)} {what} and says canonical={wanted}')
+    readings, again = dict(zip(every, port_readings(folder, every))), dict(zip(every, reencoded(folder, every)))
+    check_spelling(count, made_frames(), 'yes', 'plain frames', readings, again)
+    check_spelling(count, spoilt_frames(), 'no', 'frames with equal marks or a tail', readings, again)
+    check_reserved(count)
     count.end()
 
 

@@ -6,6 +6,7 @@
 #include <string.h>
 
 #include "ax25.h"
+#include "callsigns.h"
 #include "draw.h"
 #include "examine.h"
 #include "kiss.h"
@@ -15,12 +16,16 @@
 #include "stream.h"
 
 /* Document 01's example frame, and its 14 address octets. */
-#define ADDRESS "8E 82 AA 8E 8A 40 E0 84 9E B0 62 64 40 67 "
+#define ADDRESS GAUGE "E0 " BOX12 "67 "
 #define FRAME ADDRESS "03 F0 4F 4B"
 /* The address octets with the repeater HILL1-2. */
-#define ROUTED "8E 82 AA 8E 8A 40 E0 84 9E B0 62 64 40 66 90 92 98 98 62 40 65 "
+#define ROUTED GAUGE "E0 " BOX12 "66 " HILL1 "65 "
 
-/* P1 to P13: what document 01 says of each, and document 02 (M-105) of P13, worked out by hand. */
+/* A canonical frame, which re-encodes as itself. */
+#define CANONICAL_FRAME(name, octets) {name, octets, 0, 1, octets}
+
+/* P1 to P13: what document 01 says of each, and document 02 (M-105) of P13; then reserved bits, bit 6 first, as document 02 has them
+   (M-106). Worked out by hand. */
 static const struct {
     const char *name, *input;
     unsigned number, canonical;
@@ -38,7 +43,27 @@ static const struct {
     {"P10", ADDRESS "87 01 02", 8, 0, ""},
     {"P11", ADDRESS "87 F1 03 44", 0, 0, ADDRESS "87 01 02 44"},
     {"P12", ADDRESS "01 AA", 0, 0, ADDRESS "01"},
-    {"P13", ADDRESS "03 20", 0, 1, ADDRESS "03 20"},
+    CANONICAL_FRAME("P13", ADDRESS "03 20"),
+    CANONICAL_FRAME("reserved bits 11 in every address", ROUTED "03 F0 4F 4B"),
+    CANONICAL_FRAME("reserved bits 10 in the destination", GAUGE "C0 " BOX12 "66 " HILL1 "65 03 F0 4F 4B"),
+    CANONICAL_FRAME("reserved bits 01 in the destination", GAUGE "A0 " BOX12 "66 " HILL1 "65 03 F0 4F 4B"),
+    CANONICAL_FRAME("reserved bits 00 in the destination", GAUGE "80 " BOX12 "66 " HILL1 "65 03 F0 4F 4B"),
+    CANONICAL_FRAME("reserved bits 10 in the source", GAUGE "E0 " BOX12 "46 " HILL1 "65 03 F0 4F 4B"),
+    CANONICAL_FRAME("reserved bits 01 in the source", GAUGE "E0 " BOX12 "26 " HILL1 "65 03 F0 4F 4B"),
+    CANONICAL_FRAME("reserved bits 00 in the source", GAUGE "E0 " BOX12 "06 " HILL1 "65 03 F0 4F 4B"),
+    CANONICAL_FRAME("reserved bits 10 in the repeater", GAUGE "E0 " BOX12 "66 " HILL1 "45 03 F0 4F 4B"),
+    CANONICAL_FRAME("reserved bits 01 in the repeater", GAUGE "E0 " BOX12 "66 " HILL1 "25 03 F0 4F 4B"),
+    CANONICAL_FRAME("reserved bits 00 in the repeater", GAUGE "E0 " BOX12 "66 " HILL1 "05 03 F0 4F 4B"),
+    CANONICAL_FRAME("reserved bits 01, 10 and 00, as Response", GAUGE "20 " BOX12 "C6 " HILL1 "85 01"),
+    CANONICAL_FRAME("reserved bits 00 beside SSID 15, and 11 beside SSID 0", GAUGE "9E " BOX12 "61 3F"),
+    {"reserved bits 01 and 10 stay, both marks clear", GAUGE "20 " BOX12 "47 03 F0", 0, 0, GAUGE "A0 " BOX12 "47 03 F0"},
+    {"reserved bits 00, 01 and 10 stay, both marks set", GAUGE "80 " BOX12 "A6 " HILL1 "C5 01", 0, 0,
+     GAUGE "80 " BOX12 "26 " HILL1 "C5 01"},
+    {"reserved bits 10 and 00 stay, a tail does not", GAUGE "C0 " BOX12 "07 01 AA", 0, 0, GAUGE "C0 " BOX12 "07 01"},
+    {"reserved bits 00, 10 and 01 stay, FRMR's unnamed bits do not", GAUGE "00 " BOX12 "C6 " HILL1 "25 87 F1 03 44", 0, 0,
+     GAUGE "00 " BOX12 "C6 " HILL1 "25 87 01 02 44"},
+    {"reserved bits 01 and 00 stay, nulls and a leftover octet do not", "00 00 " GAUGE "A0 " BOX12 "06 61 01", 0, 0,
+     GAUGE "A0 " BOX12 "07 01"},
 };
 
 static int same_answer(const struct answer *a, const struct answer *b) {
@@ -142,6 +167,25 @@ static void run_pids(void) {
     set_end();
 }
 
+/* Whatever the SSIDs and the reserved bits are (M-106), this frame is canonical. Each of its ten addresses has every value of both in
+   turn, while the bits of its neighbours differ. */
+static void run_seventh_octets(void) {
+    uint8_t in[80];
+    size_t len = spanning(in, 70, 1);
+    struct answer want = {0, 1, len, in};
+    for (size_t i = 0; i < 10; i++) in[7 * i + 6] ^= (uint8_t)(i % 4 << 5);
+    set_begin("every SSID with every setting of the reserved bits, in each of ten addresses");
+    for (size_t at = 6; at < 70; at += 7) {
+        uint8_t before = in[at];
+        for (unsigned value = 0; value < 64; value++) {
+            in[at] = (uint8_t)((before & 0x81) | value << 1);
+            examine_everywhere(in, len, &want);
+        }
+        in[at] = before;
+    }
+    set_end();
+}
+
 /* Content of `len` octets, of which the first two are given, after `at` address octets. */
 static void examine_content(uint8_t *in, size_t at, unsigned control, unsigned second, unsigned len) {
     memset(in + at, 0xB5, 6);
@@ -171,11 +215,12 @@ static const uint8_t known_pids[] = {0x01, 0x06, 0x07, 0x08, 0xC3, 0xC4, 0xCA, 0
 
 enum { SCRATCH = 1024 };
 
-/* One address group: mostly letters, now and then with spaces after them, mostly with the reserved bits. */
+/* One address group: mostly letters, now and then with spaces after them; the reserved bits are often both set, as most stations have
+   them. */
 static size_t random_group(uint8_t *out) {
     unsigned characters = one_in(3) ? below(6) : 6;
     for (unsigned i = 0; i < 6; i++) out[i] = (uint8_t)((i >= characters ? ' ' : one_in(6) ? below(128) : 'A' + below(26)) << 1);
-    out[6] = (uint8_t)(below(2) << 7 | (one_in(8) ? below(4) << 5 : 0x60) | below(16) << 1);
+    out[6] = (uint8_t)(below(2) << 7 | (one_in(2) ? below(4) << 5 : 0x60) | below(16) << 1);
     return 7;
 }
 
@@ -226,12 +271,20 @@ static size_t random_octets(uint8_t *out) {
     return len;
 }
 
-static unsigned long seen[10], seen_canonical, seen_rewritten;
+static unsigned long seen[10], seen_canonical, seen_rewritten, seen_clear;
+
+/* Whether some address of a canonical frame has a reserved bit that is clear. */
+static int has_clear_bit(const uint8_t *frame) {
+    size_t at = 6;
+    while ((frame[at] & 0x61) == 0x60) at += 7;
+    return (frame[at] & 0x60) != 0x60;
+}
 
 static void examine_one(const uint8_t *in, size_t len) {
     struct answer want = model(in, len);
     seen[want.number]++;
     seen_canonical += want.canonical;
+    seen_clear += want.canonical && has_clear_bit(in);
     seen_rewritten += want.number == 0 && !want.canonical;
     examine(in, len, &want, below(3));
 }
@@ -267,8 +320,11 @@ static void run_random(unsigned long thousands, uint64_t seed) {
         printf(" %d: %lu%s", n, seen[n], n < 9 ? "," : "");
         all = all && seen[n] >= thousands;
     }
-    printf("; canonical: %lu; accepted and not canonical: %lu\n", seen_canonical, seen_rewritten);
+    printf("; canonical: %lu, with a reserved bit clear: %lu; accepted and not canonical: %lu\n", seen_canonical, seen_clear,
+           seen_rewritten);
     say(all && seen_canonical >= thousands && seen_rewritten >= thousands, "one random input in a thousand or more reaches each number of decoding, canonical or not");
+    say(seen_clear >= thousands && seen_canonical - seen_clear >= thousands,
+        "and one in a thousand or more is canonical with a reserved bit clear, and with all of them set");
 }
 
 /* Many nulls before a frame, long info, long tails, long leftovers. */
@@ -312,6 +368,7 @@ int main(int argc, char **argv) {
     run_empty();
     run_short();
     run_pids();
+    run_seventh_octets();
     run_contents();
     run_long();
     run_relays();

@@ -7,7 +7,7 @@ enum mark { COMMAND, RESPONSE, ABSENT };
 
 struct station {
     uint8_t callsign[6];
-    unsigned ssid, mark;
+    unsigned ssid, reserved, mark;
 };
 
 struct fields {
@@ -30,6 +30,7 @@ static struct station read_station(const uint8_t *group) {
     struct station s;
     for (int i = 0; i < 6; i++) s.callsign[i] = (uint8_t)(group[i] >> 1);
     s.ssid = group[6] >> 1 & 15;
+    s.reserved = group[6] >> 5 & 3;
     s.mark = bit(group[6], 7);
     return s;
 }
@@ -114,7 +115,7 @@ static void put(unsigned octet) { written[written_len++] = (uint8_t)octet; }
 
 static void write_station(const struct station *s, unsigned mark, int last) {
     for (int i = 0; i < 6; i++) put((unsigned)s->callsign[i] << 1);
-    put(mark << 7 | 0x60 | s->ssid << 1 | (last ? 1 : 0));
+    put(mark << 7 | s->reserved << 5 | s->ssid << 1 | (last ? 1 : 0));
 }
 
 static void write_content(const struct fields *f) {

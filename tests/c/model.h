@@ -1,5 +1,5 @@
-/* Document 01's rules of reading and writing, with document 02's of the layer 3 PID (M-105), and document 02's of relaying, written
-   once more in C from their words: what the calls must say of any octets. */
+/* Document 01's rules of reading and writing, with document 02's of the layer 3 PID (M-105) and of the reserved bits (M-106), and
+   document 02's of relaying, written once more in C from their words: what the calls must say of any octets. */
 #ifndef MODEL_H
 #define MODEL_H
 

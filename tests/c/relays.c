@@ -4,22 +4,18 @@
 #include <string.h>
 
 #include "ax25.h"
+#include "callsigns.h"
 #include "examine.h"
 #include "say.h"
 #include "sets.h"
 
-/* GAUGE and BOX12-3; repeaters without their last octet, which has the SSID, the mark and the end bit; four repeaters HILL1-2. */
-#define PEERS "8E 82 AA 8E 8A 40 E0 84 9E B0 62 64 40 66 "
-#define HILL1 "90 92 98 98 62 40 "
-#define HILL2 "90 92 98 98 64 40 "
-#define HILL5 "90 92 98 98 6A 40 "
-#define HILL6 "90 92 98 98 6C 40 "
-#define SPACES "40 40 40 40 40 40 "
+/* GAUGE and BOX12-3; four repeaters HILL1-2. */
+#define PEERS GAUGE "E0 " BOX12 "66 "
+#define FOUR HILL1 "64 " HILL1 "64 " HILL1 "64 " HILL1 "64 "
 /* The frame that M-102 reports: of three repeaters the first and the third are marked, and the second is not. */
 #define REPORTED PEERS HILL5 "E2 " HILL1 "64 " HILL6 "E3 03 F0"
-#define FOUR HILL1 "64 " HILL1 "64 " HILL1 "64 " HILL1 "64 "
 
-/* Document 02, M-100 and M-102: what they say of each, worked out by hand. A refusal leaves the frame as it was. */
+/* Document 02, M-100, M-102 and M-106: what they say of each, worked out by hand. A refusal leaves the frame as it was. */
 static const struct {
     const char *name, *input, *callsign;
     uint8_t ssid;
@@ -33,7 +29,13 @@ static const struct {
     {"relayed: nulls stay", "00 00 00 " PEERS HILL1 "65 01", "HILL1", 2, 0, "00 00 00 " PEERS HILL1 "E5 01"},
     {"relayed: leftover octets stay", PEERS HILL1 "64 00 41 01", "HILL1", 2, 0, PEERS HILL1 "E4 00 41 01"},
     {"relayed: a tail stays", PEERS HILL1 "65 01 AA 55", "HILL1", 2, 0, PEERS HILL1 "E5 01 AA 55"},
-    {"relayed: clear reserved bits stay", PEERS HILL1 "05 01", "HILL1", 2, 0, PEERS HILL1 "85 01"},
+    {"relayed: reserved bits 00 of ours stay", PEERS HILL1 "05 01", "HILL1", 2, 0, PEERS HILL1 "85 01"},
+    {"relayed: reserved bits 01 of ours stay", PEERS HILL1 "25 01", "HILL1", 2, 0, PEERS HILL1 "A5 01"},
+    {"relayed: reserved bits 10 of ours stay", PEERS HILL1 "45 01", "HILL1", 2, 0, PEERS HILL1 "C5 01"},
+    {"relayed: reserved bits 00, 01, 10 and 11 stay, each in its address", GAUGE "80 " BOX12 "26 " HILL2 "C4 " HILL1 "65 01", "HILL1", 2, 0,
+     GAUGE "80 " BOX12 "26 " HILL2 "C4 " HILL1 "E5 01"},
+    {"relayed: ours twice, with other reserved bits", GAUGE "A0 " BOX12 "06 " HILL1 "44 " HILL1 "25 01", "HILL1", 2, 0,
+     GAUGE "A0 " BOX12 "06 " HILL1 "C4 " HILL1 "25 01"},
     {"relayed: FRMR's unnamed bits stay", PEERS HILL1 "65 87 F1 03 44", "HILL1", 2, 0, PEERS HILL1 "E5 87 F1 03 44"},
     {"relayed: a callsign with its padding", PEERS HILL1 "65 01", "HILL1 ", 2, 0, PEERS HILL1 "E5 01"},
     {"relayed: a callsign of spaces, as an empty one", PEERS SPACES "65 01", "", 2, 0, PEERS SPACES "E5 01"},
@@ -57,6 +59,7 @@ static const struct {
     {"not relayed: every repeater is marked", PEERS HILL2 "E4 " HILL1 "E5 01", "HILL1", 2, 41, NULL},
     {"not relayed: another callsign", PEERS HILL2 "65 01", "HILL1", 2, 42, NULL},
     {"not relayed: another SSID", PEERS HILL1 "65 01", "HILL1", 3, 42, NULL},
+    {"not relayed: another SSID, whatever the reserved bits", PEERS HILL1 "07 01", "HILL1", 2, 42, NULL},
     {"not relayed: lower case", PEERS HILL1 "65 01", "hill1", 2, 42, NULL},
     {"not relayed: ours is next but one", PEERS HILL2 "64 " HILL1 "65 01", "HILL1", 2, 42, NULL},
     {"not relayed: a callsign cut short", PEERS HILL1 "65 01", "HILL", 2, 42, NULL},
@@ -119,9 +122,12 @@ static const struct {
 
 struct frame {
     size_t nulls, repeaters, leftover;
-    unsigned marks, reserved; /* bit i: the mark of place i; the reserved bits of each address, 0 to 3 */
+    unsigned marks;           /* bit i: the mark of place i */
+    unsigned reserved;        /* bits 2 i and 2 i + 1: the reserved bits of address i, of which the destination is the first */
     const char *content;      /* NULL: UI, with the groups of the places that are not in use, marks and all, as its info */
 };
+
+static unsigned reserved_of(const struct frame *f, size_t address) { return f->reserved >> 2 * address & 3; }
 
 /* A group without end bit: the callsign, padded. */
 static size_t put_group(uint8_t *out, const struct address *of, unsigned mark, unsigned reserved) {
@@ -132,15 +138,15 @@ static size_t put_group(uint8_t *out, const struct address *of, unsigned mark, u
 
 static size_t put_place(const struct frame *f, size_t i, uint8_t *out) {
     const struct address repeater = station(route[i].callsign, route[i].ssid);
-    return put_group(out, &repeater, f->marks >> i & 1, f->reserved);
+    return put_group(out, &repeater, f->marks >> i & 1, reserved_of(f, 2 + i));
 }
 
 static size_t make(const struct frame *f, uint8_t *out) {
     const struct address gauge = station("GAUGE", 0), box = station("BOX12", 3);
     size_t len = f->nulls;
     memset(out, 0, len);
-    len += put_group(out + len, &gauge, 1, f->reserved);
-    len += put_group(out + len, &box, 0, f->reserved);
+    len += put_group(out + len, &gauge, 1, reserved_of(f, 0));
+    len += put_group(out + len, &box, 0, reserved_of(f, 1));
     for (size_t i = 0; i < f->repeaters; i++) len += put_place(f, i, out + len);
     for (size_t i = 0; i < f->leftover; i++) out[len++] = 0x80;
     out[len - 1] |= 1;
@@ -153,6 +159,16 @@ static size_t make(const struct frame *f, uint8_t *out) {
 
 /* How many marks there are before the first place without. */
 static unsigned in_order(unsigned marks) { return marks & 1 ? 1 + in_order(marks >> 1) : 0; }
+
+enum { ALL_SET = 0xFFFFF, SPREADS = 12 };
+
+/* The reserved bits of ten addresses, spread in twelve ways: in the first four ways neighbours differ, in the next four those that are
+   four apart, and in the last four all are alike. So each address has every setting, and any two addresses differ in some way. */
+static unsigned spread(unsigned way) {
+    unsigned all = 0;
+    for (unsigned i = 0; i < 10; i++) all |= ((i >> 2 * (way / 4)) + way) % 4 << 2 * i;
+    return all;
+}
 
 static int model_agrees = 1;
 
@@ -175,7 +191,7 @@ static void relay_made(const struct frame *f, size_t who) {
 /* Marks in order, broken marks, all of them and none; those of places that are not in use stand in the info, where a search that went
    on past the last repeater would meet them. */
 static void run_marks(void) {
-    struct frame f = {0, 0, 0, 0, 3, NULL};
+    struct frame f = {0, 0, 0, 0, ALL_SET, NULL};
     set_begin("all 256 sets of marks with 0 to 8 repeaters, by each of eight stations");
     for (f.repeaters = 0; f.repeaters <= 8; f.repeaters++)
         for (f.marks = 0; f.marks < 256; f.marks++)
@@ -183,17 +199,34 @@ static void run_marks(void) {
     set_end();
 }
 
-/* Nulls, leftover octets, reserved bits, tails and FRMR's unnamed bits, which re-encoding changes; and layer 3 PIDs, which it keeps. */
+/* The repeaters' marks in order, and in every address the reserved bits of its own. */
+static void run_reserved(void) {
+    struct frame f = {0, 0, 0, 0, 0, NULL};
+    set_begin("reserved bits that differ from address to address, by each of eight stations");
+    for (unsigned way = 0; way < SPREADS; way++)
+        for (f.repeaters = 1; f.repeaters <= 8; f.repeaters++)
+            for (size_t due = 0; due <= f.repeaters; due++)
+                for (size_t who = 0; who < 8; who++) {
+                    f.reserved = spread(way);
+                    f.marks = (1u << due) - 1;
+                    relay_made(&f, who);
+                }
+    set_end();
+}
+
+/* Nulls, leftover octets, tails and FRMR's unnamed bits, which re-encoding changes; and layer 3 PIDs and reserved bits, which it
+   keeps. */
 static void run_kept(void) {
     static const char *const contents[] = {"03 20 67", "00 9A", "21", "09 AA 55", "63 00", "3F FF", "87 F1 03 44"};
     struct frame f;
-    set_begin("what re-encoding changes, and layer 3 PIDs");
+    set_begin("what re-encoding changes, and layer 3 PIDs and reserved bits");
     for (f.repeaters = 1; f.repeaters <= 8; f.repeaters += 7)
         for (f.nulls = 0; f.nulls <= 9; f.nulls += 3)
             for (f.leftover = 0; f.leftover <= 6; f.leftover++)
-                for (f.reserved = 0; f.reserved <= 3; f.reserved++)
+                for (unsigned way = 0; way < SPREADS; way++)
                     for (size_t i = 0; i < sizeof contents / sizeof *contents; i++) {
                         f.marks = (1u << (i + f.leftover) % f.repeaters) - 1;
+                        f.reserved = spread(way);
                         f.content = contents[i];
                         relay_made(&f, in_order(f.marks));
                     }
@@ -275,8 +308,9 @@ void run_relays(void) {
     run_examples();
     run_none();
     run_marks();
+    run_reserved();
     run_kept();
-    say(model_agrees, "the model gives what follows from the set of marks, in both of these");
+    say(model_agrees, "the model gives what follows from the set of marks, in these three");
     run_lengths();
     run_characters();
     run_ssids();
