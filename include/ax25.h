@@ -52,8 +52,8 @@ enum ax25_number {
 
     /* Writing a frame, printing an address, and our own address when relaying; 24 also of KISS packets and their data. */
     AX25_ROUTE_TOO_LONG = 21,          /* a route count over 8 */
-    AX25_NOT_ENCODABLE = 22,           /* an address in use has a character of 128 or more, or an SSID over 15; our own address
-                                          also where its callsign has more than six octets */
+    AX25_NOT_ENCODABLE = 22,           /* an address in use has a character of 128 or more, an SSID over 15, or reserved bits
+                                          over 3; our own address also where its callsign has more than six octets */
     AX25_INFO_NOT_ALLOWED = 23,        /* info for a kind that has none */
     AX25_NO_ROOM = 24,                 /* the output is shorter than needed */
     AX25_PID_OUTSIDE_CLASS = 25,       /* a layer 3 identifier with an octet outside its class: bits 5 and 4 are not 01 or 10 */

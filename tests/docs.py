@@ -119,6 +119,7 @@ def statements():
         'KISS packets (document 02, M-103)',
         'A serial line (document 02, M-104)',
         'The layer 3 octet (document 02, M-105)',
+        'The reserved bits (document 02, M-106)',
         'Smaller statements that stand for themselves',
     )
     for title in titles:

@@ -1,15 +1,16 @@
-// The address of a station: a callsign, a numeric SSID and the reserved bits. `group` has its seven octets; the crates `printing` and `text` its text.
+// The address of a station: a callsign, a numeric SSID and the reserved bits. `group` has its seven octets; the crates `printing` and
+// `text` its text.
 ghost use mathlib.Core.Path.{_≡_};
 ghost use Rattle.octets.specs.All.{all};
 ghost use Rattle.address.specs.Address.{low, noCall, encodable};
 
 pub mod group;
 
-// The reserved bits of an address that no network uses them in: both ones.
+// The reserved bits where no network uses them: both ones.
 pub const RESERVED_ONES: u8 = 3;
 
-// A source, destination or repeater. The callsign is padded at its end with spaces. The reserved bits are a number from 0 to 3, which a
-// network may use as it likes; they are no part of who the station is.
+// A source, destination or repeater. The callsign is padded at its end with spaces. The reserved bits, as a number from 0 to 3, are the
+// network's to use, and no part of who the station is.
 pub struct Address {
     pub callsign: [u8; 6],
     pub ssid: u8,
