@@ -2,7 +2,7 @@
 use Prim.Native.Nat.{ℕ}
 use mathlib.Core.Path.{_≡_}
 use mathlib.Core.Bool.{Bool, true, _&&_}
-use mathlib.Core.List.{[], _∷_}
+use mathlib.Core.List.{List, [], _∷_}
 use lib.Dec.{ltb, leb}
 use lib.ListN.{length}
 use Rattle.octets.specs.All.{all}
@@ -16,9 +16,13 @@ low c = ltb c 128
 abbrev pub reservedOnes : ℕ
 reservedOnes = 3
 
+-- the address of a callsign and an SSID, of whose reserved bits nothing is said
+abbrev pub withOnes : List ℕ → ℕ → Address
+withOnes c s = record { callsign = c; ssid = s; reserved = reservedOnes }
+
 -- NOCALL, SSID 0: what a refused read returns
 unfoldable pub noCall : Address
-noCall = record { callsign = 78 ∷ 79 ∷ 67 ∷ 65 ∷ 76 ∷ 76 ∷ []; ssid = 0; reserved = reservedOnes }
+noCall = withOnes (78 ∷ 79 ∷ 67 ∷ 65 ∷ 76 ∷ 76 ∷ []) 0
 
 -- what writing and printing take (number 22 otherwise; docs/DIFFERENCES.md, B3): an SSID of at most 15, reserved bits of at most 3, and
 -- no character of 128 or more

@@ -5,9 +5,9 @@ use text::AddressRead;
 ghost use mathlib.Core.Path.{_≡_};
 ghost use Prim.Native.Nat.{_≤_};
 ghost use lib.ListN.{length, take};
-ghost use Rattle.address.specs.Address.{noCall};
+ghost use Rattle.address.specs.Address.{withOnes, noCall};
 ghost use Rattle.printing.specs.Print.{textOf, printNumberOf, printed, printedInto};
-ghost use Rattle.text.specs.Text.{addressNumberOf, textAddress, readParts, readText, TextAddress};
+ghost use Rattle.text.specs.Text.{addressNumberOf, readParts, readText, TextAddress};
 ghost use Rattle.text.specs.declared.AddressAnswer.the-variants.{Accepted};
 ghost use Rattle.octets.specs.Table.{FirstRow};
 ghost use Rattle.demands.specs.Numbers.{printTable, partsTable, textTable};
@@ -48,7 +48,7 @@ pub fn printed(address: Address, out: &mut [u8]) -> Printed
 // there is room for its text, reads back with its callsign and SSID; the reserved bits, which no text shows, are ones. Of any other, and
 // with less room, what was printed is read.
 pub fn read_back(address: Address, out: &mut [u8]) -> AddressRead
-    ensures { λ r. ⌜ (TextAddress address → length (textOf address) ≤ length (now (out .entry)) → (r .answer ≡ Accepted) × (r .address ≡ textAddress (address .callsign) (address .ssid))) ⌝ }
+    ensures { λ r. ⌜ (TextAddress address → length (textOf address) ≤ length (now (out .entry)) → (r .answer ≡ Accepted) × (r .address ≡ withOnes (address .callsign) (address .ssid))) ⌝ }
     ensures { λ r. ⌜ r ≡ readText (take (printed address (length (now (out .entry))) .length) (printedInto address (now (out .entry)))) ⌝ }
     ensures { λ r. ⌜ now (out .exit) ≡ printedInto address (now (out .entry)) ⌝ }
 {

@@ -5,7 +5,7 @@ use mathlib.Core.List.{List, [], _∷_}
 use lib.Dec.{eqb, ltb}
 use lib.ListN.{length, getD, set}
 use Rattle.octets.specs.Octet.{field, flag}
-use Rattle.address.specs.Address.{encodable, reservedOnes}
+use Rattle.address.specs.Address.{withOnes, encodable}
 use Rattle.address.specs.declared.Address.{Address}
 use Rattle.frame.specs.Spell.{repeaterAt}
 use Rattle.frame.specs.declared.Ax25Frame.{Ax25Frame}
@@ -66,14 +66,9 @@ leftBy AnotherStation s = s
 unfoldable pub relayed : Address → List ℕ → List ℕ
 relayed own s = leftBy (relayAnswer own s) s
 
--- the station with a callsign of at most six octets, taken as they are and padded with spaces, and an SSID; nobody gives its reserved
--- bits, and they are ones
+-- the station with a callsign of at most six octets, taken as they are and padded with spaces, and an SSID
 unfoldable pub stationOf : List ℕ → ℕ → Address
-stationOf c ssid = record {
-  callsign = getD c 0 32 ∷ getD c 1 32 ∷ getD c 2 32 ∷ getD c 3 32 ∷ getD c 4 32 ∷ getD c 5 32 ∷ [];
-  ssid = ssid;
-  reserved = reservedOnes;
-}
+stationOf c ssid = withOnes (getD c 0 32 ∷ getD c 1 32 ∷ getD c 2 32 ∷ getD c 3 32 ∷ getD c 4 32 ∷ getD c 5 32 ∷ []) ssid
 
 -- the same by callsign and SSID, as C gives them: a longer callsign is no address, and is refused as one that can't be written
 unfoldable pub relayAnswerAs : List ℕ → ℕ → List ℕ → RelayAnswer

@@ -20,9 +20,9 @@ use Rattle.address.specs.declared.Address.{Address}
 use Rattle.text.specs.declared.AddressAnswer.{AddressAnswer}
 use Rattle.text.specs.declared.AddressAnswer.the-variants.{Accepted}
 use Rattle.text.specs.declared.AddressRead.{AddressRead}
-use Rattle.address.specs.Address.{low, reservedOnes, noCall, encodable, PlainAddress}
+use Rattle.address.specs.Address.{low, reservedOnes, withOnes, noCall, encodable, PlainAddress}
 use Rattle.octets.specs.Count.{count}
-use Rattle.text.specs.Text.{addressNumberOf, hyphen, digit, upperCase, lowerCase, alphanumeric, upper, upperAt, decimalFrom, decimal, digits8, afterPlus, callsignText, manyHyphens, empty, long, wide, hasSsid, ssidText, ssidValue, badSsid, padded, textAddress, readCallsign, readParts, readText, upperOrDigit, TextAddress, high, strange}
+use Rattle.text.specs.Text.{addressNumberOf, hyphen, digit, upperCase, lowerCase, alphanumeric, upper, upperAt, decimalFrom, decimal, digits8, afterPlus, callsignText, manyHyphens, empty, long, wide, hasSsid, ssidText, ssidValue, badSsid, padded, readCallsign, readParts, readText, upperOrDigit, TextAddress, high, strange}
 use Rattle.printing.specs.Print.{space, used, trimmed, decimalText, ssidSuffix, textOf}
 use Rattle.address.proofs.Laws.{six-list, no-call-plain, no-call-ones, encodable-is}
 use Rattle.printing.proofs.Laws.{used-le, trimmed-length}
@@ -244,12 +244,12 @@ module _ (c u : List ℕ) (s : ℕ) (q : Suffix u s) (o : all other c ≡ true) 
   few = le-ltb 1 (count hyphen (c ++ u)) (omega (arith, count-append c u, count-none c o, q .hyphens))
 
 accepted : (c : List ℕ) (s : ℕ) → 0 < length c → length c ≤ 6 → all alphanumeric c ≡ true → s ≤ 15
-    → readCallsign c s ≡ record { answer = Accepted; address = textAddress (padded c) s }
+    → readCallsign c s ≡ record { answer = Accepted; address = withOnes (padded c) s }
 unfolding readCallsign
 accepted c s n l h w = simp (ne-eqb (length c) 0 (λ z. omega arith), le-ltb 6 (length c) l, h, le-ltb 15 s w)
 
 -- the text of an address that people write reads back as its callsign and SSID: the text does not show the reserved bits
-pub print-back : (a : Address) → TextAddress a → readText (textOf a) ≡ record { answer = Accepted; address = textAddress (a .callsign) (a .ssid) }
+pub print-back : (a : Address) → TextAddress a → readText (textOf a) ≡ record { answer = Accepted; address = withOnes (a .callsign) (a .ssid) }
 unfolding readText
 print-back a p =
     let c : List ℕ = trimmed (a .callsign) in
@@ -258,7 +258,7 @@ print-back a p =
     let o : all other c ≡ true = all-follows upperOrDigit other fine-other c (p .characters) in
     let n : length c ≡ used (a .callsign) = trimmed-length (a .callsign) in
     let lows : all low (c ++ u) ≡ true = all-append low c u ∙ rw (all-follows upperOrDigit low fine-low c (p .characters), q .lows) refl in
-    let read : readCallsign c (a .ssid) ≡ record { answer = Accepted; address = textAddress (padded c) (a .ssid) } =
+    let read : readCallsign c (a .ssid) ≡ record { answer = Accepted; address = withOnes (padded c) (a .ssid) } =
     accepted c (a .ssid) (omega (arith, p .some)) (omega (arith, used-le (a .callsign), p .six))
     (all-follows upperOrDigit alphanumeric fine-alphanumeric c (p .characters)) (p .small) in
     simp (lows, few c u _ q o, number c u _ q o)
@@ -285,7 +285,7 @@ upper-low c h k =
     (λ l. fine-low (upperAt c k) (upper-fine (getD c k 32) (all-at alphanumeric c 32 k (ltb-true k (length c) l) h)))
     (λ l. rw (List·getD-eq-default c 32 (ltb-false k (length c) l)) refl)
 
-padded-plain : (c : List ℕ) (s : ℕ) → all alphanumeric c ≡ true → s ≤ 15 → PlainAddress (textAddress (padded c) s)
+padded-plain : (c : List ℕ) (s : ℕ) → all alphanumeric c ≡ true → s ≤ 15 → PlainAddress (withOnes (padded c) s)
 unfolding padded encodable
 padded-plain c s h l = record {
   six = refl;
@@ -364,7 +364,7 @@ unfolding padded
 padded-six c = refl
 
 padded-address : (c : List ℕ) (s : ℕ) → 0 < length c → length c ≤ 6 → all alphanumeric c ≡ true → s ≤ 15
-    → TextAddress (textAddress (padded c) s)
+    → TextAddress (withOnes (padded c) s)
 padded-address c s n l h w =
     let u : used (padded c) ≡ length c = rw cells-six (cells-used 6 c l h) in
     record {
@@ -434,5 +434,5 @@ text-back t e =
 pub text-writable : (a : Address) → TextAddress a → encodable a ≡ true
 text-writable a p =
     let q = text-plain (textOf a) in
-    let t : encodable (textAddress (a .callsign) (a .ssid)) ≡ true = (rw (print-back a p) at q) .writable in
-    encodable-is a ∙ rw (le-leb (a .reserved) 3 (p .reserves)) (sym (encodable-is (textAddress (a .callsign) (a .ssid))) ∙ t)
+    let t : encodable (withOnes (a .callsign) (a .ssid)) ≡ true = (rw (print-back a p) at q) .writable in
+    encodable-is a ∙ rw (le-leb (a .reserved) 3 (p .reserves)) (sym (encodable-is (withOnes (a .callsign) (a .ssid))) ∙ t)

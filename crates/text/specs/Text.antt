@@ -14,7 +14,7 @@ use Rattle.text.specs.declared.AddressAnswer.the-variants.{Accepted, Cal
 use Rattle.text.specs.declared.AddressRead.{AddressRead}
 use Rattle.text.specs.declared.Ssid.{Ssid}
 use Rattle.text.specs.declared.Ssid.the-variants.{Number, NotANumber}
-use Rattle.address.specs.Address.{low, noCall, reservedOnes}
+use Rattle.address.specs.Address.{low, withOnes, noCall}
 use Rattle.printing.specs.Print.{used, trimmed}
 
 -- document 01's numbers for reading an address
@@ -121,10 +121,6 @@ padded c = upperAt c 0 ∷ upperAt c 1 ∷ upperAt c 2 ∷ upperAt c 3 ∷ upper
 abbrev pub refused : AddressAnswer → AddressRead
 refused answer = record { answer = answer; address = noCall }
 
--- the address of a callsign and an SSID: a text says nothing of the reserved bits, and they are ones
-abbrev pub textAddress : List ℕ → ℕ → Address
-textAddress c s = record { callsign = c; ssid = s; reserved = reservedOnes }
-
 -- what reading a callsign without octets of 128 or more, and an SSID, gives
 unfoldable pub readCallsign : List ℕ → ℕ → AddressRead
 readCallsign c s =
@@ -132,7 +128,7 @@ readCallsign c s =
     (cond (long c) (refused CallsignTooLong)
     (cond (strange c) (refused InvalidFormat)
     (cond (wide s) (refused SsidOutOfRange)
-    (record { answer = Accepted; address = textAddress (padded c) s }))))
+    (record { answer = Accepted; address = withOnes (padded c) s }))))
 
 -- what `from_parts` gives
 unfoldable pub readParts : List ℕ → ℕ → AddressRead

@@ -4,11 +4,12 @@ use mathlib.Core.Path.{_≡_, refl, ap, sym, _∙_}
 use mathlib.Core.List.{List}
 use lib.ListN.{length, take, drop}
 use lib.Seq.{take-at, length-take-le}
+use Rattle.address.specs.Address.{withOnes}
 use Rattle.address.specs.declared.Address.{Address}
 use Rattle.printing.specs.Print.{textOf, printed, printedInto}
 use Rattle.printing.specs.declared.Printed.{Printed}
 use Rattle.printing.proofs.Laws.{printed-text, print-within, print-fits}
-use Rattle.text.specs.Text.{textAddress, readText, TextAddress}
+use Rattle.text.specs.Text.{readText, TextAddress}
 use Rattle.text.specs.declared.AddressRead.{AddressRead}
 use Rattle.text.specs.declared.AddressAnswer.the-variants.{Accepted}
 use Rattle.text.proofs.Laws.{print-back, text-writable}
@@ -17,7 +18,7 @@ use Rattle.kept_text.proofs.read_back.Statement.{statement}
 use Rattle.kept_text.proofs.read_back.Tie as tie
 
 back : (a : Address) (out : List ℕ) → TextAddress a → length (textOf a) ≤ length out
-    → readText (take (printed a (length out) .length) (printedInto a out)) ≡ record { answer = Accepted; address = textAddress (a .callsign) (a .ssid) }
+    → readText (take (printed a (length out) .length) (printedInto a out)) ≡ record { answer = Accepted; address = withOnes (a .callsign) (a .ssid) }
 back a out p h =
     let e = text-writable a p in
     rw (print-fits a (length out) e h, printed-text a out e h, take-at (textOf a) (drop (length (textOf a)) out) (length (textOf a)) refl) (print-back a p)
