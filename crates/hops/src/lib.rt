@@ -65,6 +65,7 @@ fn same_callsign(a: [u8; 6], b: [u8; 6]) -> bool
     true
 }
 
+// The reserved bits are the network's, and tell nothing of the station.
 pub fn same_station(a: Address, b: Address) -> bool
     ensures { λ r. ⌜ r ≡ sameStation a b ⌝ }
 {
