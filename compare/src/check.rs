@@ -1,7 +1,7 @@
 //! One comparison for each kind of input. Each gives what differs, empty where the port answers as it owes: as the Rust
 //! does on document 01's domain of equality, and as docs/DIFFERENCES.md lists outside it.
 
-use crate::domain::{self, Listed, RUST_LAYER_3};
+use crate::domain::{self, Listed, RESERVED_BITS, RUST_LAYER_3};
 use crate::flat::{self, Flat, FlatAddress, ADDRESS, FLAT, KIND};
 use crate::inputs::{self, FIELD};
 use crate::kiss::{self, FEND, LONGEST};
@@ -118,9 +118,7 @@ impl Checker {
         // That the flat record loses nothing of the Rust's frame, and is read as meant, is about the comparison and not the
         // product: a sample will do.
         if self.seen.decodes % 8 == 0 {
-            if flat::to_frame(&owed.record, info) != *frame {
-                self.differ("the flat record", || format!("{:?}", frame), |_| show::record(&owed.record));
-            }
+            self.holds_all(&owed.record, info, frame);
             self.again(&owed.record, &owed.record);
         }
         self.seen.frame(&owed.record, octets == input);
@@ -137,12 +135,24 @@ impl Checker {
         }
     }
 
-    /// What is owed to be written of a record that is read as this frame; where one octet is not the Rust's, it is held to 10 hex.
+    /// Whether a flat record with its info loses nothing of the Rust's frame.
+    fn holds_all(&mut self, record: &Flat, info: &[u8], frame: &Ax25Frame) {
+        if flat::to_frame(record, info) != *frame {
+            self.differ("the flat record", || format!("{:?}", frame), |_| show::record(record));
+        }
+    }
+
+    /// What is owed to be written of a record that is read as this frame. Where an octet is not the Rust's, it is held to 10 hex, and
+    /// where reserved bits are not, it is held to ones.
     fn owed_octets(&mut self, frame: &Ax25Frame, record: &Flat) -> Vec<u8> {
         let written = oracle::written(frame, record);
         if let Some(octet) = written.masked.filter(|&octet| octet != RUST_LAYER_3) {
             let owed = || format!("the Rust writes {:02X} for a layer 3 identifier", RUST_LAYER_3);
             self.differ("B6", owed, |_| format!("the Rust: {:02X}", octet));
+        }
+        if let Some(octet) = written.clear {
+            let owed = || format!("the Rust sets the reserved bits, {:02X}, of each group's seventh octet", RESERVED_BITS);
+            self.differ("B7", owed, |_| format!("the Rust: {:02X}", octet));
         }
         written.octets
     }
@@ -280,7 +290,7 @@ impl Checker {
         for room in self.rooms(Tried::Some, octets.len()) {
             let (number, owed) = self.owed_in(Writer::Beside, room, 0, &octets);
             self.seen.beside(number);
-            self.seen.layer_3(Writer::Beside, &record, Room::of(room, octets.len()));
+            self.seen.own(Writer::Beside, &record, Room::of(room, octets.len()));
             let port = self.port.reencode_beside(input, room, owed, beside);
             self.placed("re-encoding beside the input", port, number, owed);
             let port = self.port.encode_beside(&record, info, room, owed, beside);
@@ -316,37 +326,45 @@ impl Checker {
 
     /// A record, octets past its end being 0, and info: written by both. What is written is then decoded by both.
     pub fn record(&mut self, record: &[u8], info: &[u8]) -> Vec<Difference> {
+        let octets = self.write_record(record, info);
+        let mut found = self.finish();
+        found.extend(octets.iter().flat_map(|octets| self.octets(octets)));
+        found
+    }
+
+    /// The octets that are owed, unless it is refused.
+    fn write_record(&mut self, record: &[u8], info: &[u8]) -> Option<Vec<u8>> {
         let whole = padded::<FLAT>(record);
         match domain::record_number(&whole, info) {
-            0 => self.holdable(record, &whole, info),
-            number => self.unholdable(record, &whole, info, number),
+            0 => Some(self.holdable(record, &whole, info)),
+            number => {
+                self.unholdable(record, &whole, info, number);
+                None
+            }
         }
     }
 
-    fn holdable(&mut self, record: &[u8], whole: &Flat, info: &[u8]) -> Vec<Difference> {
+    fn holdable(&mut self, record: &[u8], whole: &Flat, info: &[u8]) -> Vec<u8> {
         let frame = flat::to_frame(whole, info);
         let octets = self.owed_octets(&frame, whole);
         let settled = flat::settled(whole, &frame);
         self.again(record, &settled);
         self.write(record, &settled, info, &octets);
-        let mut found = self.finish();
-        found.extend(self.octets(&octets));
-        found
+        octets
     }
 
     /// Into no room, some, almost and just as much as it would take with a PID, and more.
-    fn unholdable(&mut self, record: &[u8], whole: &Flat, info: &[u8], number: u32) -> Vec<Difference> {
+    fn unholdable(&mut self, record: &[u8], whole: &Flat, info: &[u8], number: u32) {
         self.seen.listed(Listed::B3);
-        if number == 25 {
-            // The Rust can hold all of it but one octet, so how it is read can be asked.
+        if number == 25 || number == 22 && flat::in_use(whole).iter().all(domain::is_held) {
+            // The Rust can hold all of it but one octet, or but the reserved bits, so how it is read can be asked.
             self.again(record, &flat::settled(whole, &flat::to_frame(whole, info)));
         }
         let needed = domain::length_with_pid(whole, info);
         for room in [0, 14, needed - 1, needed, FLAT + info.len() + LONGER] {
-            self.seen.write_refusal(number, whole, room >= needed);
+            self.seen.write_refusal(number, whole, info, room >= needed);
             self.write_in(Writer::MadeUp, record, info, number, &[], room);
         }
-        self.finish()
     }
 
     /// Whether the last call read this address, or refused by this number and left the octets alone.
@@ -410,18 +428,18 @@ impl Checker {
         }
     }
 
-    /// Printing an address of seven flat octets, those past its end being 0.
+    /// Printing an address of eight flat octets, those past its end being 0.
     pub fn print(&mut self, address: &[u8]) -> Vec<Difference> {
         let whole = padded::<ADDRESS>(address);
         if domain::encodable(&whole) {
             let text = flat::addresses(&[whole])[0].to_string();
-            self.seen.print(0);
+            self.seen.print(0, &whole);
             for room in self.rooms(Tried::Each, text.len()) {
                 self.print_in(address, 0, text.as_bytes(), room);
             }
         } else {
             self.seen.listed(Listed::B3);
-            self.seen.print(22);
+            self.seen.print(22, &whole);
             for room in [0, 32] {
                 self.print_in(address, 22, &[], room);
             }
@@ -440,29 +458,28 @@ impl Checker {
 
     /// `new_simple_ui_frame` of two addresses, then written with info.
     pub fn simple_ui(&mut self, source: &[u8], destination: &[u8], info: &[u8]) -> Vec<Difference> {
-        let mut known = flat::addresses(&[padded(source), padded(destination)]).into_iter();
-        let (from, to) = (known.next().expect("a source"), known.next().expect("a destination"));
-        let frame = Ax25Frame::new_simple_ui_frame(from, to, info.to_vec());
+        let (frame, owed) = oracle::simple_ui(&padded(source), &padded(destination), info);
         let room = self.enough(FLAT);
         let number = self.port.simple_ui(source, destination, room);
-        self.made("new_simple_ui_frame", number, &frame, info);
+        self.made("new_simple_ui_frame", number, &frame, &owed, info);
         self.finish()
     }
 
     /// The default frame.
     pub fn default(&mut self) -> Vec<Difference> {
+        let frame = Ax25Frame::default();
         for room in [FLAT, FLAT + LONGER] {
             let number = self.port.default(room);
-            self.made("default", number, &Ax25Frame::default(), &[]);
+            self.made("default", number, &frame, &flat::of_frame(&frame), &[]);
         }
         self.finish()
     }
 
-    fn made(&mut self, what: &str, number: u32, frame: &Ax25Frame, info: &[u8]) {
-        let owed = flat::of_frame(frame);
-        self.left(what, number, &owed);
-        self.again(&owed, &owed);
-        self.write(&owed, &owed, info, &frame.to_bytes());
+    /// Whether the last call left this record of a frame that the Rust makes too; it is then written.
+    fn made(&mut self, what: &str, number: u32, frame: &Ax25Frame, owed: &Flat, info: &[u8]) {
+        self.left(what, number, owed);
+        self.holds_all(owed, info, frame);
+        self.write_record(owed, info);
     }
 
     /// Content alone, from its control octet on: read, and written again. The Rust's reader of content can be asked only by way of
@@ -547,18 +564,18 @@ impl Checker {
         self.finish()
     }
 
-    /// Whether two flat addresses, octets past their ends being 0, are of the same station: as the Rust says where it can hold both,
-    /// else by callsign and SSID, which are all the octets.
+    /// Whether two flat addresses, octets past their ends being 0, are of the same station: as the Rust, which has no reserved bits, says
+    /// where it can hold both, else by callsign and SSID.
     pub fn same_station(&mut self, one: &[u8], other: &[u8]) -> Vec<Difference> {
         let pair = [padded::<ADDRESS>(one), padded(other)];
-        let held = pair.iter().all(domain::encodable);
+        let held = pair.iter().all(domain::is_held);
         let same = if held {
             let known = flat::addresses(&pair);
             known[0] == known[1]
         } else {
-            pair[0] == pair[1]
+            domain::same_station(&pair[0], &pair[1])
         };
-        self.seen.stations(held, same);
+        self.seen.stations(&pair, held, same);
         let port = self.port.same_station(one, other);
         if port != u32::from(same) {
             self.differ("same station", || u32::from(same).to_string(), |_| port.to_string());

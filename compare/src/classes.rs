@@ -1,7 +1,7 @@
 //! `compare test`: every class of inputs, each through its comparison.
 
 use crate::check::{self, padded, Checker, Difference};
-use crate::flat::FlatAddress;
+use crate::flat::{self, FlatAddress, ONES};
 use crate::port::{Beside, State, FRESH};
 use crate::relays::{self, Own};
 use crate::report::{self, Line, Report};
@@ -231,7 +231,7 @@ pub fn test(scale: usize, seed: u64, only: Option<String>) -> Report {
     kiss_packets(&mut checker, &mut report, scale, &mut seeds);
     kiss_streams(&mut checker, &mut report, scale, &mut seeds);
     let missing = checker.seen.missing();
-    class(&mut checker, &mut report, "met: every number, kind, mark, PID, layer 3 octet, route length, room, search, due place, KISS port, cut and listed difference", |c| c.missing(missing));
+    class(&mut checker, &mut report, "met: every number, kind, mark, PID, layer 3 octet, reserved bits, route length, room, search, due place, KISS port, cut and listed difference", |c| c.missing(missing));
     report::totals(&mut report, &checker.seen);
     report.extra("seed", seed.to_string());
     report.extra("scale", scale.to_string());
@@ -249,6 +249,7 @@ fn octets(checker: &mut Checker, report: &mut Report, scale: usize, seeds: &mut 
     run("octets: FRMR, every flag, number and rejected control", &mut |each| inputs::framed(|each| inputs::frmr(each), each));
     run("octets: every pair of the first two SSID octets", &mut |each| inputs::ssid_pairs(each));
     run("octets: every octet at every address place, 0 to 9 repeaters", &mut |each| inputs::address_places(each));
+    run("octets: every setting of the reserved bits in every two groups, 0 to 8 repeaters", &mut |each| inputs::reserved_bits(each));
     run("octets: leading nulls", &mut |each| inputs::leading_nulls(each));
     run("octets: first nonzero and first odd octet at each place of a search by eights", &mut |each| inputs::searches(each));
     run("octets: every prefix of good frames", &mut |each| inputs::prefixes(each));
@@ -302,6 +303,7 @@ fn frame_records(checker: &mut Checker, report: &mut Report, scale: usize, seeds
     run("records: FRMR's fields", &mut |each| records::frmr_fields(each));
     run("records: every way to mark 0 to 8 repeaters, each kind", &mut |each| records::routes(each));
     run("records: every seven-bit character at every place", &mut |each| records::characters(each));
+    run("records: every number as reserved bits at every place, 0 to 8 repeaters", &mut |each| records::reserved_bits(each));
     run("records: cut short", &mut |each| records::cut(d, each));
     run("records: seeded, as the Rust can hold them", &mut |each| records::holdable(a, 250_000 * scale, each));
     run("records: those that the Rust can't hold", &mut |each| {
@@ -314,8 +316,15 @@ fn frame_records(checker: &mut Checker, report: &mut Report, scale: usize, seeds
     });
     class(checker, report, "records: new_simple_ui_frame", |class| {
         let mut rng = Rng::new(c);
-        for length in 0..=9 {
-            class.simple_ui(&b"BOX123\x0C78"[..length], &b"GAUGE7\x0D89"[..9 - length], b"OK");
+        for length in 0..=10 {
+            class.simple_ui(&b"BOX123\x0C\x0278"[..length], &b"GAUGE7\x0D\x0189"[..10 - length], b"OK");
+        }
+        for number in 0..=255 {
+            let reserved = |address: &[u8], reserved| [address, &[reserved]].concat();
+            for other in 0..=ONES {
+                class.simple_ui(&reserved(b"BOX123\x0C", number), &reserved(b"GAUGE7\x0D", other), b"OK");
+                class.simple_ui(&reserved(b"BOX123\x0C", other), &reserved(b"GAUGE7\x0D", number), b"OK");
+            }
         }
         for _ in 0..30_000 * scale {
             let (source, destination) = (records::any_address(&mut rng), records::any_address(&mut rng));
@@ -378,7 +387,7 @@ fn hops_and_stations(checker: &mut Checker, report: &mut Report, scale: usize, s
         records::holdable(a, 5_000 * scale, &mut each);
         records::cut(a, &mut each);
     });
-    class(checker, report, "same station: each octet changed, every two SSIDs, seeded", |class| {
+    class(checker, report, "same station: each octet changed, every two SSIDs, every two reserved numbers, seeded", |class| {
         texts::stations(b, 30_000 * scale, &mut |one, other| class.same_station(one, other));
     });
 }
@@ -392,6 +401,7 @@ fn frames_passed_on(checker: &mut Checker, report: &mut Report, scale: usize, se
     };
     run("relay: every way to mark 0 to 8 repeaters, and what would be repeaters behind them", &mut |each| inputs::marks(each));
     run("relay: every octet at every address place, 0 to 9 repeaters", &mut |each| inputs::address_places(each));
+    run("relay: every setting of the reserved bits in every two groups, 0 to 8 repeaters", &mut |each| inputs::reserved_bits(each));
     run("relay: two repeaters and every control octet, content of 0 to 6", &mut |each| {
         inputs::controls(a, &mut |content| each(&inputs::with_repeaters(2, content)));
     });
@@ -416,7 +426,7 @@ fn frames_passed_on(checker: &mut Checker, report: &mut Report, scale: usize, se
         };
         texts::addresses(e, 20_000 * scale, &mut |address| each(&Own::of(&padded(address)), &padded(address)));
         for length in 0..=12 {
-            each(&Own::new(&b"BOX12 BOX12 "[..length], 0), b"BOX12 \0");
+            each(&Own::new(&b"BOX12 BOX12 "[..length], 0), &flat::station(b"BOX12 \0"));
         }
     });
 }

@@ -1,7 +1,8 @@
 //! Document 01's domain of equality, and what the port owes outside it (docs/DIFFERENCES.md, B); and what the hops and the
 //! relay owe, which the Rust lacks. Written from the words of documents 01 and 02; neither the Rust nor the port is asked.
 
-use crate::flat::{self, Flat, FlatAddress, ADDRESS, COUNT, ENTRY, FRMR, KIND, PID_OCTET, REPEATERS, ROUTE, RR};
+use crate::flat::{self, Flat, FlatAddress, ADDRESS, GROUP, ONES, REPEATERS, RESERVED, SSID};
+use crate::flat::{COUNT, ENTRY, FRMR, KIND, PID_OCTET, ROUTE, RR};
 
 /// A difference that docs/DIFFERENCES.md lists.
 #[derive(Clone, Copy, PartialEq, Debug)]
@@ -18,19 +19,25 @@ pub enum Listed {
     B5,
     /// The octet of a layer 3 identifier.
     B6,
+    /// The reserved bits of an address.
+    B7,
 }
 
-pub const LISTED: [(Listed, &str); 6] = [
+pub const LISTED: [(Listed, &str); 7] = [
     (Listed::B1, "nine or more repeaters"),
     (Listed::B2, "text with an octet of 128 or more"),
     (Listed::B3, "a record that the Rust can't hold"),
     (Listed::B4, "too little room, lent on purpose"),
     (Listed::B5, "content alone, empty"),
     (Listed::B6, "a layer 3 identifier written as the octet it carries, where the Rust writes 10 hex"),
+    (Listed::B7, "reserved bits written as they were read, or as the record has them, where the Rust writes ones"),
 ];
 
 /// What the Rust writes for every octet of the layer 3 class.
 pub const RUST_LAYER_3: u8 = 0x10;
+
+/// The reserved bits in the seventh octet of a group, 6 and 5, which the Rust writes as ones.
+pub const RESERVED_BITS: u8 = 0x60;
 
 /// Where the address field starts and ends.
 pub fn field(input: &[u8]) -> Option<(usize, usize)> {
@@ -62,6 +69,28 @@ pub fn pid_of(input: &[u8]) -> u8 {
     input.get(pid_at(input)).copied().unwrap_or(0)
 }
 
+/// Where the seventh octet of a group stands, the first group of all starting here.
+pub fn seventh(start: usize, group: usize) -> usize {
+    start + GROUP * group + 6
+}
+
+/// The reserved bits of a seventh octet as a number from 0 to 3, bit 6 the higher.
+pub fn reserved_in(seventh: u8) -> u8 {
+    (seventh & RESERVED_BITS) >> 5
+}
+
+/// A seventh octet with these reserved bits, and no other bit changed.
+pub fn with_reserved(seventh: u8, reserved: u8) -> u8 {
+    seventh & !RESERVED_BITS | reserved << 5 & RESERVED_BITS
+}
+
+/// The reserved bits of destination, source and each repeater of an input that has them.
+pub fn reserved_of(input: &[u8]) -> impl Iterator<Item = u8> + '_ {
+    let field = field(input);
+    let (start, _) = field.expect("an address field");
+    (0..2 + repeaters_of(field, input.len())).map(move |group| reserved_in(input[seventh(start, group)]))
+}
+
 /// Whether an octet is of the layer 3 class: its bits 5 and 4 are 01 or 10.
 pub fn is_of_class(octet: u8) -> bool {
     matches!(octet >> 4 & 3, 1 | 2)
@@ -74,16 +103,36 @@ pub fn is_outside(record: &Flat) -> bool {
 
 /// How many octets a record of I or UI takes with this info: its groups, control, PID and info.
 pub fn length_with_pid(record: &Flat, info: &[u8]) -> usize {
-    ADDRESS * flat::in_use(record).len() + 2 + info.len()
+    GROUP * flat::places(record).count() + 2 + info.len()
 }
 
 pub fn is_wide(text: &[u8]) -> bool {
     text.iter().any(|&octet| octet >= 128)
 }
 
+/// Whether the Rust can hold an address but for its reserved bits, of which it holds none.
+pub fn is_held(address: &FlatAddress) -> bool {
+    !is_wide(&address[..SSID]) && address[SSID] <= 15
+}
+
+/// Whether an address has a number over 3 as its reserved bits, which two bits can't hold (document 02, M-106).
+pub fn is_over(address: &FlatAddress) -> bool {
+    address[RESERVED] > ONES
+}
+
 /// Whether an address can be written and printed; else the answer is 22.
 pub fn encodable(address: &FlatAddress) -> bool {
-    !is_wide(&address[..6]) && address[6] <= 15
+    is_held(address) && !is_over(address)
+}
+
+/// Whether two addresses are of the same station: callsign and SSID are equal, whatever the reserved bits are.
+pub fn same_station(one: &FlatAddress, other: &FlatAddress) -> bool {
+    one[..RESERVED] == other[..RESERVED]
+}
+
+/// Whether there is info beside a kind that has none.
+pub fn has_needless(record: &Flat, info: &[u8]) -> bool {
+    (RR..=FRMR).contains(&record[KIND]) && !info.is_empty()
 }
 
 /// The number that refuses to write a record whatever the room: 0 where the Rust can hold it.
@@ -92,7 +141,7 @@ pub fn record_number(record: &Flat, info: &[u8]) -> u32 {
         21
     } else if !flat::in_use(record).iter().all(encodable) {
         22
-    } else if (RR..=FRMR).contains(&record[KIND]) && !info.is_empty() {
+    } else if has_needless(record, info) {
         23
     } else if is_outside(record) {
         25
@@ -112,9 +161,8 @@ pub fn hops(record: &Flat) -> [usize; 3] {
 
 /// Our own address, of the callsign and the SSID that the relay is given; none where that is refused by 22.
 pub fn own_address(callsign: &[u8], ssid: u8) -> Option<FlatAddress> {
-    let mut own = *b"      \0";
-    own[..6].get_mut(..callsign.len())?.copy_from_slice(callsign);
-    own[6] = ssid;
+    let mut own = flat::blank(ssid);
+    own[..SSID].get_mut(..callsign.len())?.copy_from_slice(callsign);
     Some(own).filter(encodable)
 }
 
@@ -125,7 +173,7 @@ pub fn relay(record: &Flat, own: &FlatAddress) -> Result<usize, u32> {
         Err(41)
     } else if (due..REPEATERS).any(|i| set >> i & 1 == 1) {
         Err(43)
-    } else if flat::repeater(record, due) != *own {
+    } else if !same_station(&flat::repeater(record, due), own) {
         Err(42)
     } else {
         Ok(due)
@@ -144,5 +192,5 @@ pub fn relayed(input: &[u8], owed: Result<usize, u32>) -> Vec<u8> {
 /// Where the mark of this repeater stands in an input that has it: bit 7 of the last octet of its group.
 pub fn mark_at(input: &[u8], place: usize) -> usize {
     let (start, _) = field(input).expect("an address field");
-    start + 14 + 7 * place + 6
+    seventh(start, 2 + place)
 }

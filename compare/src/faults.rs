@@ -1,18 +1,18 @@
 //! Deliberate faults, for `compare/faults` alone: each call of the port is wrapped, and spoils what the proved code answered by the
 //! fault that COMPARE_FAULT names. The linker puts these in the calls' places (`--wrap`) and leaves the port's own under `__real_`.
-//! One fault is the Rust's: it is held to an octet that the port does not owe.
+//! Two faults are the Rust's: it is held to an octet, and to bits, that the port does not owe.
 
 use crate::check::{padded, with_plain_addresses};
-use crate::domain::{self, RUST_LAYER_3};
-use crate::flat::{self, Flat, ABSENT, COUNT, KIND, MARK, RECEIVE, RNR, RR, UNKNOWN_CONTENT};
-use crate::flat::{PID, PID_LAYER_3, PID_OCTET, PID_UNKNOWN};
+use crate::domain::{self, RESERVED_BITS, RUST_LAYER_3};
+use crate::flat::{self, Flat, ABSENT, COUNT, KIND, MARK, RECEIVE, RNR, RR, SSID, UNKNOWN_CONTENT};
+use crate::flat::{GROUP, ONES, PID, PID_LAYER_3, PID_OCTET, PID_UNKNOWN, REPEATERS, RESERVED};
 use crate::kiss::{FEND, FESC, LONGEST, PORTS, TFEND, TFESC};
 use crate::port::{Packet, State};
 use std::slice::{from_raw_parts, from_raw_parts_mut};
 use std::sync::atomic::{AtomicUsize, Ordering};
 
 /// What each fault does, from 1 on, and words in the name of a class that has to find it.
-const FAULTS: [(&str, &str); 112] = [
+const FAULTS: [(&str, &str); 149] = [
     ("re-encoding writes the address field, then answers 24", "every prefix"),
     ("re-encoding writes the address field, then refuses the content", "every prefix"),
     ("re-encoding into no room at all answers 0", "every prefix"),
@@ -125,6 +125,43 @@ const FAULTS: [(&str, &str); 112] = [
     ("writing layer 3 content writes 10", "content written alone"),
     ("24 comes before 25 for content", "content written alone"),
     ("layer 3 content is written with the octet 30", "content written alone"),
+    ("the Rust leaves a reserved bit of the last group clear", "octets: every setting"),
+    ("re-encoding exchanges the two reserved bits", "octets: every setting"),
+    ("re-encoding keeps the reserved bits of the destination alone", "octets: every setting"),
+    ("re-encoding sets the reserved bits", "octets: every setting"),
+    ("re-encoding into an output close by sets the reserved bits", "input and output side by side"),
+    ("re-encoding changes the mark beside reserved bits that are not ones", "octets: every setting"),
+    ("re-encoding changes the SSID beside reserved bits that are not ones", "octets: every setting"),
+    ("reserved bits that are not ones are not canonical", "octets: every setting"),
+    ("reserved bits that are not ones are canonical whatever else", "octets: every pair"),
+    ("decoding exchanges the two reserved bits", "octets: every setting"),
+    ("decoding keeps the reserved bits of the destination alone", "octets: every setting"),
+    ("decoding sets the reserved bits", "octets: every setting"),
+    ("decoding leaves reserved bits of 0 where a place is not in use", "octets: every setting"),
+    ("a record read again forgets its reserved bits", "records: every number"),
+    ("writing a record exchanges the two reserved bits", "records: every number"),
+    ("writing a record keeps the reserved bits of the destination alone", "records: every number"),
+    ("writing a record sets the reserved bits", "records: every number"),
+    ("writing a record changes the mark beside reserved bits that are not ones", "records: every number"),
+    ("writing a record changes the SSID beside reserved bits that are not ones", "records: every number"),
+    ("reserved bits over 3 are written, cut to two bits", "records: every number"),
+    ("reserved bits over 3 are written in the eighth repeater, cut to two bits", "records: every number"),
+    ("22 refuses reserved bits over 3 where a place is not in use", "records: every number"),
+    ("24 comes before 22 for reserved bits over 3", "records: every number"),
+    ("22 for reserved bits over 3 comes before 21", "records: those that the Rust can't hold"),
+    ("23 comes before 22 for reserved bits over 3", "records: those that the Rust can't hold"),
+    ("22 for reserved bits over 3 touches the output", "records: every number"),
+    ("text leaves reserved bits of 0", "text: every SSID"),
+    ("from_parts leaves reserved bits of 0", "from_parts"),
+    ("printing takes reserved bits over 3", "printing"),
+    ("printing refuses reserved bits that are not ones", "printing"),
+    ("same station by the reserved bits too", "same station"),
+    ("new_simple_ui_frame sets the reserved bits", "new_simple_ui_frame"),
+    ("the default frame has reserved bits of 0", "records: default"),
+    ("the relay compares reserved bits", "relay: every setting"),
+    ("the relay sets the reserved bits of the place that it marks", "relay: every setting"),
+    ("the relay sets the reserved bits of the destination", "relay: every setting"),
+    ("a relay refused by 42 sets the reserved bits of the source", "relay: every setting"),
 ];
 
 /// A line for each fault: its number, the words, and what it does.
@@ -159,6 +196,8 @@ extern "C" {
     fn __real_probe_again(given: *const u8, given_len: usize, record: *mut u8, record_len: usize) -> u32;
     fn __real_probe_from_parts(callsign: *const u8, callsign_len: usize, ssid: u8, address: *mut u8, address_len: usize) -> u32;
     fn __real_probe_from_str(text: *const u8, text_len: usize, address: *mut u8, address_len: usize) -> u32;
+    fn __real_probe_simple_ui(source: *const u8, source_len: usize, destination: *const u8, destination_len: usize, record: *mut u8, record_len: usize) -> u32;
+    fn __real_probe_default(record: *mut u8, record_len: usize) -> u32;
     fn __real_probe_print(address: *const u8, address_len: usize, out: *mut u8, out_len: usize, length: *mut usize, length_len: usize) -> u32;
     fn __real_probe_hops(record: *const u8, record_len: usize, numbers: *mut usize, numbers_len: usize) -> u32;
     fn __real_probe_same_station(one: *const u8, one_len: usize, other: *const u8, other_len: usize) -> u32;
@@ -206,11 +245,40 @@ fn misspell(frame: &mut [u8], [ten, before, control, info]: [&str; 4]) {
     }
 }
 
-/// What the Rust wrote for a layer 3 identifier, otherwise than it does.
-pub fn misspell_rust(pid: &mut u8) {
-    if is("the Rust writes 12 for every octet of the layer 3 class") {
-        *pid = 0x12;
+/// What the Rust wrote for a layer 3 identifier and for reserved bits, otherwise than it does.
+pub fn misspell_rust(octets: &mut [u8], record: &Flat) {
+    if is("the Rust writes 12 for every octet of the layer 3 class") && flat::is_layer_3(record) {
+        octets[domain::pid_at(octets)] = 0x12;
     }
+    if is("the Rust leaves a reserved bit of the last group clear") {
+        octets[domain::seventh(0, flat::places(record).count() - 1)] &= 0xDF;
+    }
+}
+
+/// The faults of keeping reserved bits, by their names: the two exchanged, those of the first address alone kept, all of them set.
+fn miskept(reserved: u8, address: usize, [exchanged, first, none]: [&str; 3]) -> u8 {
+    if is(none) || is(first) && address > 0 {
+        return ONES;
+    }
+    if is(exchanged) { reserved >> 1 | reserved << 1 & 2 } else { reserved }
+}
+
+/// The same in a frame as writing gives it; and, beside bits that are not ones, the mark and the highest bit of the SSID changed.
+fn misspell_reserved(frame: &mut [u8], names: [&str; 3], [mark, ssid]: [&str; 2]) {
+    let field = frame.iter().position(|&octet| octet % 2 == 1).map_or(0, |end| end + 1);
+    for group in 0..field / GROUP {
+        let seventh = &mut frame[domain::seventh(0, group)];
+        let reserved = domain::reserved_in(*seventh);
+        *seventh = domain::with_reserved(*seventh, miskept(reserved, group, names));
+        for (fault, bit) in [(mark, 0x80), (ssid, 0x10)] {
+            *seventh ^= if is(fault) && reserved != ONES { bit } else { 0 };
+        }
+    }
+}
+
+/// Whether an input is accepted that has reserved bits which are not ones.
+unsafe fn has_clear(input: &[u8]) -> bool {
+    __real_ax25_decode(input.as_ptr(), input.len()) == 0 && domain::reserved_of(input).any(|reserved| reserved != ONES)
 }
 
 #[no_mangle]
@@ -231,6 +299,12 @@ unsafe extern "C" fn __wrap_ax25_decode(input: *const u8, input_len: usize) -> u
 #[no_mangle]
 unsafe extern "C" fn __wrap_ax25_canonical(input: *const u8, input_len: usize) -> u32 {
     let octets = from_raw_parts(input, input_len);
+    if is("reserved bits that are not ones are not canonical") && has_clear(octets) {
+        return 0;
+    }
+    if is("reserved bits that are not ones are canonical whatever else") && has_clear(octets) {
+        return 1;
+    }
     match layer_3_at(octets) {
         Some(at) if is("layer 3 is canonical as 10 alone") && octets[at] != RUST_LAYER_3 => 0,
         Some(_) if is("layer 3 is canonical whatever else") => u32::from(__real_ax25_decode(input, input_len) == 0),
@@ -254,10 +328,10 @@ unsafe extern "C" fn __wrap_ax25_reencode(input: *const u8, input_len: usize, ou
         spoil(out);
     }
     if number == 0 {
-        let ten = if close(input, out) {
-            "re-encoding into an output close by writes 10 for every octet of the layer 3 class"
+        let [ten, set] = if close(input, out) {
+            ["re-encoding into an output close by writes 10 for every octet of the layer 3 class", "re-encoding into an output close by sets the reserved bits"]
         } else {
-            "re-encoding writes 10 for every octet of the layer 3 class"
+            ["re-encoding writes 10 for every octet of the layer 3 class", "re-encoding sets the reserved bits"]
         };
         let length = ax25_reencoded_length(input.as_ptr(), input_len);
         misspell(&mut out[..length], [
@@ -265,6 +339,14 @@ unsafe extern "C" fn __wrap_ax25_reencode(input: *const u8, input_len: usize, ou
             "re-encoding a layer 3 frame changes the octet before its control",
             "re-encoding a layer 3 frame changes its control",
             "re-encoding a layer 3 frame changes its first info octet",
+        ]);
+        misspell_reserved(&mut out[..length], [
+            "re-encoding exchanges the two reserved bits",
+            "re-encoding keeps the reserved bits of the destination alone",
+            set,
+        ], [
+            "re-encoding changes the mark beside reserved bits that are not ones",
+            "re-encoding changes the SSID beside reserved bits that are not ones",
         ]);
     }
     if is("re-encoding into no room at all answers 0") && number == 24 && out_len == 0 {
@@ -295,7 +377,19 @@ unsafe extern "C" fn __wrap_ax25_relay(callsign: *const u8, callsign_len: usize,
     if is("the relay looks at the frame before our own address") && decoded != 0 {
         return decoded;
     }
+    let (start, _) = domain::field(&before).unwrap_or((0, 0));
+    if is("a relay refused by 42 sets the reserved bits of the source") && number == 42 {
+        octets[domain::seventh(start, 1)] |= RESERVED_BITS;
+    }
+    if is("the relay sets the reserved bits of the destination") && number == 0 {
+        octets[domain::seventh(start, 0)] |= RESERVED_BITS;
+    }
     match octets.iter().zip(&before).position(|(after, before)| after != before) {
+        Some(at) if is("the relay compares reserved bits") && octets[at] & RESERVED_BITS != RESERVED_BITS => {
+            octets[at] &= 0x7F;
+            return 42;
+        }
+        Some(at) if is("the relay sets the reserved bits of the place that it marks") => octets[at] |= RESERVED_BITS,
         Some(at) if is("the relay marks the next place") && at + 7 < frame_len => {
             octets[at] &= 0x7F;
             octets[at + 7] |= 0x80;
@@ -528,7 +622,25 @@ unsafe extern "C" fn __wrap_probe_decode(input: *const u8, input_len: usize, rec
     if is("a decoded layer 3 identifier carries 10") && number == 0 && flat::is_layer_3(&padded(record)) {
         record[PID_OCTET] = RUST_LAYER_3;
     }
+    if number == 0 {
+        misread_reserved(record);
+    }
     number
+}
+
+/// A decoded record as a faulty reader might leave it.
+fn misread_reserved(record: &mut [u8]) {
+    for (i, at) in flat::places(&padded(record)).enumerate() {
+        record[at + RESERVED] = miskept(record[at + RESERVED], i, [
+            "decoding exchanges the two reserved bits",
+            "decoding keeps the reserved bits of the destination alone",
+            "decoding sets the reserved bits",
+        ]);
+    }
+    if is("decoding leaves reserved bits of 0 where a place is not in use") {
+        let used = flat::places(&padded(record)).count();
+        flat::places_of(REPEATERS).skip(used).for_each(|at| record[at + RESERVED] = 0);
+    }
 }
 
 #[no_mangle]
@@ -537,6 +649,9 @@ unsafe extern "C" fn __wrap_probe_again(given: *const u8, given_len: usize, reco
     let record = from_raw_parts_mut(record, record_len);
     if is("a record read again forgets its layer 3 octet") && number == 0 && flat::is_layer_3(&padded(record)) {
         record[PID_OCTET] = 0;
+    }
+    if is("a record read again forgets its reserved bits") && number == 0 {
+        flat::places_of(REPEATERS).for_each(|at| record[at + RESERVED] = ONES);
     }
     number
 }
@@ -550,10 +665,34 @@ fn mistaken(record: &[u8], pid: usize, fault: &str, outside: u8) -> Vec<u8> {
     taken
 }
 
-/// The number that a faulty writer of this record might give in place of this one; the room may be short besides.
-fn miswritten(record: &Flat, number: u32, is_short: bool) -> u32 {
+/// A number over 3 as a faulty writer or printer might take it: cut to two bits.
+fn cut(octet: Option<&mut u8>) {
+    octet.into_iter().for_each(|octet| *octet &= ONES);
+}
+
+/// A record with such numbers.
+fn cut_reserved(record: &mut [u8]) {
+    for (i, at) in flat::places_of(REPEATERS).enumerate() {
+        let eighth = is("reserved bits over 3 are written in the eighth repeater, cut to two bits") && i == REPEATERS + 1;
+        if is("reserved bits over 3 are written, cut to two bits") || eighth {
+            cut(record.get_mut(at + RESERVED));
+        }
+    }
+}
+
+/// The number that a faulty writer of this record and info might give in place of this one; the room may be short besides.
+fn miswritten(record: &Flat, info: &[u8], number: u32, is_short: bool) -> u32 {
     let (pid, is_of_class) = (record[PID], domain::is_of_class(record[PID_OCTET]));
+    let [used, unused] = {
+        let over: Vec<bool> = flat::places_of(REPEATERS).map(|at| domain::is_over(&flat::address_at(record, at))).collect();
+        let (used, unused) = over.split_at(flat::places(record).count());
+        [used, unused].map(|part| part.contains(&true))
+    };
     match number {
+        22 if is("24 comes before 22 for reserved bits over 3") && used && is_short => 24,
+        22 if is("23 comes before 22 for reserved bits over 3") && used && domain::has_needless(record, info) => 23,
+        21 if is("22 for reserved bits over 3 comes before 21") && used => 22,
+        0 if is("22 refuses reserved bits over 3 where a place is not in use") && unused => 22,
         25 if is("24 comes before 25") && is_short => 24,
         21 if is("25 comes before 21") && domain::is_outside(record) => 25,
         22 if is("25 comes before 22") && domain::is_outside(record) => 25,
@@ -567,7 +706,8 @@ fn miswritten(record: &Flat, number: u32, is_short: bool) -> u32 {
 #[no_mangle]
 unsafe extern "C" fn __wrap_probe_encode(record: *const u8, record_len: usize, info: *const u8, info_len: usize, out: *mut u8, out_len: usize, length: *mut usize, length_len: usize) -> u32 {
     let record = from_raw_parts(record, record_len);
-    let taken = mistaken(record, PID, "the layer 3 octet F0 is written", 0xF0);
+    let mut taken = mistaken(record, PID, "the layer 3 octet F0 is written", 0xF0);
+    cut_reserved(&mut taken);
     let number = __real_probe_encode(taken.as_ptr(), record_len, info, info_len, out, out_len, length, length_len);
     let (info, out) = (from_raw_parts(info, info_len), from_raw_parts_mut(out, out_len));
     let (kind, large) = (octet(record, KIND), octet(record, RECEIVE) > 7);
@@ -589,6 +729,19 @@ unsafe extern "C" fn __wrap_probe_encode(record: *const u8, record_len: usize, i
             "writing a layer 3 record changes its first info octet",
         ]);
     }
+    if number == 0 {
+        misspell_reserved(&mut out[..*length], [
+            "writing a record exchanges the two reserved bits",
+            "writing a record keeps the reserved bits of the destination alone",
+            "writing a record sets the reserved bits",
+        ], [
+            "writing a record changes the mark beside reserved bits that are not ones",
+            "writing a record changes the SSID beside reserved bits that are not ones",
+        ]);
+    }
+    if number == 22 && is("22 for reserved bits over 3 touches the output") && flat::in_use(&whole).iter().any(domain::is_over) {
+        spoil(out);
+    }
     if number == 25 && (is("25 touches the output") || is("25 touches an output close by") && close(info, out)) {
         spoil(out);
     }
@@ -596,14 +749,18 @@ unsafe extern "C" fn __wrap_probe_encode(record: *const u8, record_len: usize, i
     if number == 25 && is("25 gives a length") {
         *length = needed;
     }
-    miswritten(&whole, number, out_len < needed)
+    miswritten(&whole, info, number, out_len < needed)
 }
 
 #[no_mangle]
 unsafe extern "C" fn __wrap_probe_from_parts(callsign: *const u8, callsign_len: usize, ssid: u8, address: *mut u8, address_len: usize) -> u32 {
     let number = __real_probe_from_parts(callsign, callsign_len, ssid, address, address_len);
+    let address = from_raw_parts_mut(address, address_len);
     if is("a refused callsign leaves an SSID") && number == 34 {
-        from_raw_parts_mut(address, address_len)[6] = ssid;
+        address[SSID] = ssid;
+    }
+    if is("from_parts leaves reserved bits of 0") && number == 0 {
+        address[RESERVED] = 0;
     }
     number
 }
@@ -611,17 +768,48 @@ unsafe extern "C" fn __wrap_probe_from_parts(callsign: *const u8, callsign_len: 
 #[no_mangle]
 unsafe extern "C" fn __wrap_probe_from_str(text: *const u8, text_len: usize, address: *mut u8, address_len: usize) -> u32 {
     let number = __real_probe_from_str(text, text_len, address, address_len);
+    let address = from_raw_parts_mut(address, address_len);
     if is("a refused text leaves an address") && number > 30 {
-        spoil(from_raw_parts_mut(address, address_len));
+        spoil(address);
+    }
+    if is("text leaves reserved bits of 0") && number == 0 {
+        address[RESERVED] = 0;
     }
     number
 }
 
 #[no_mangle]
 unsafe extern "C" fn __wrap_probe_print(address: *const u8, address_len: usize, out: *mut u8, out_len: usize, length: *mut usize, length_len: usize) -> u32 {
-    let number = __real_probe_print(address, address_len, out, out_len, length, length_len);
+    let mut taken = from_raw_parts(address, address_len).to_vec();
+    if is("printing takes reserved bits over 3") {
+        cut(taken.get_mut(RESERVED));
+    }
+    let number = __real_probe_print(taken.as_ptr(), address_len, out, out_len, length, length_len);
     if is("printing touches room that is short") && number == 24 && length_len > 0 {
         spoil(from_raw_parts_mut(out, out_len));
+    }
+    if is("printing refuses reserved bits that are not ones") && number == 0 && octet(&taken, RESERVED) != ONES {
+        return 22;
+    }
+    number
+}
+
+#[no_mangle]
+unsafe extern "C" fn __wrap_probe_simple_ui(source: *const u8, source_len: usize, destination: *const u8, destination_len: usize, record: *mut u8, record_len: usize) -> u32 {
+    let number = __real_probe_simple_ui(source, source_len, destination, destination_len, record, record_len);
+    if is("new_simple_ui_frame sets the reserved bits") && number == 0 {
+        let record = from_raw_parts_mut(record, record_len);
+        flat::places_of(0).for_each(|at| record[at + RESERVED] = ONES);
+    }
+    number
+}
+
+#[no_mangle]
+unsafe extern "C" fn __wrap_probe_default(record: *mut u8, record_len: usize) -> u32 {
+    let number = __real_probe_default(record, record_len);
+    if is("the default frame has reserved bits of 0") && number == 0 {
+        let record = from_raw_parts_mut(record, record_len);
+        flat::places_of(0).for_each(|at| record[at + RESERVED] = 0);
     }
     number
 }
@@ -643,12 +831,15 @@ unsafe extern "C" fn __wrap_probe_hops(record: *const u8, record_len: usize, num
 unsafe extern "C" fn __wrap_probe_same_station(one: *const u8, one_len: usize, other: *const u8, other_len: usize) -> u32 {
     let same = __real_probe_same_station(one, one_len, other, other_len);
     let (one, other) = (from_raw_parts(one, one_len), from_raw_parts(other, other_len));
-    if one_len < 7 || other_len < 7 {
+    if is("same station by the reserved bits too") && octet(one, RESERVED) != octet(other, RESERVED) {
+        return 0;
+    }
+    if one_len <= SSID || other_len <= SSID {
         return same;
     }
-    let (callsign, ssid) = (one[..6] == other[..6], one[6] == other[6]);
+    let (callsign, ssid) = (one[..SSID] == other[..SSID], one[SSID] == other[SSID]);
     let otherwise = is("same station whatever the SSID") && callsign
-        || is("same station whatever the case") && one[..6].eq_ignore_ascii_case(&other[..6]) && ssid;
+        || is("same station whatever the case") && one[..SSID].eq_ignore_ascii_case(&other[..SSID]) && ssid;
     same | u32::from(otherwise)
 }
 

@@ -1,37 +1,50 @@
-//! The flat record: a frame as 92 octets, as the crate `probe` lays it out, and the Rust's frame to it and back.
+//! The flat record: a frame as 102 octets, as the crate `probe` lays it out, and the Rust's frame to it and back.
 
 use ax25::frame::*;
 
-/// An address: six characters padded at the end with spaces, and the SSID.
-pub const ADDRESS: usize = 7;
+/// An address: six characters padded at the end with spaces, the SSID, and the reserved bits as a number.
+pub const ADDRESS: usize = 8;
 pub type FlatAddress = [u8; ADDRESS];
 
-pub const FLAT: usize = 92;
+/// Where the last two stand in it.
+pub const SSID: usize = 6;
+pub const RESERVED: usize = 7;
+
+/// Both reserved bits set. The Rust's address has none: text and the default set these, and so does the Rust when it writes
+/// (document 02, M-106).
+pub const ONES: u8 = 3;
+
+/// The octets of an address in the address field: six characters, and one for all the rest.
+pub const GROUP: usize = 7;
+
+pub const FLAT: usize = 102;
 pub type Flat = [u8; FLAT];
 
 pub const REPEATERS: usize = 8;
+/// A frame's addresses: destination, source, and the eight places.
+pub const ADDRESSES: usize = 2 + REPEATERS;
 /// The flat address that stands in unused places and beside a refusal.
-pub const NOCALL: FlatAddress = *b"NOCALL\0";
+pub const NOCALL: FlatAddress = *b"NOCALL\0\x03";
 
 /// Where things stand in the record. Destination, source, then eight places of an address and its mark.
 pub const DESTINATION: usize = 0;
-pub const SOURCE: usize = 7;
-pub const ROUTE: usize = 14;
-pub const ENTRY: usize = 8;
-pub const COUNT: usize = 78;
-pub const MARK: usize = 79;
-pub const KIND: usize = 80;
-pub const PID: usize = 81;
-pub const PID_OCTET: usize = 82;
-pub const POLL: usize = 83;
-pub const RECEIVE: usize = 84;
-pub const SEND: usize = 85;
-pub const Z: usize = 86;
-pub const Y: usize = 87;
-pub const X: usize = 88;
-pub const W: usize = 89;
-pub const REJECTED_RESPONSE: usize = 90;
-pub const REJECTED_CONTROL: usize = 91;
+pub const SOURCE: usize = 8;
+pub const ROUTE: usize = 16;
+pub const ENTRY: usize = 9;
+pub const COUNT: usize = 88;
+pub const MARK: usize = 89;
+pub const KIND: usize = 90;
+pub const PID: usize = 91;
+pub const PID_OCTET: usize = 92;
+pub const POLL: usize = 93;
+pub const RECEIVE: usize = 94;
+pub const SEND: usize = 95;
+pub const Z: usize = 96;
+pub const Y: usize = 97;
+pub const X: usize = 98;
+pub const W: usize = 99;
+pub const REJECTED_RESPONSE: usize = 100;
+pub const REJECTED_CONTROL: usize = 101;
 
 pub const I: u8 = 0;
 pub const RR: u8 = 1;
@@ -85,11 +98,20 @@ pub struct Decode {
     pub record: Flat,
 }
 
+/// Six characters and an SSID, with reserved bits that are ones.
+pub fn station(&[a, b, c, d, e, f, ssid]: &[u8; RESERVED]) -> FlatAddress {
+    [a, b, c, d, e, f, ssid, ONES]
+}
+
+/// The empty callsign with this SSID.
+pub fn blank(ssid: u8) -> FlatAddress {
+    station(&[b' ', b' ', b' ', b' ', b' ', b' ', ssid])
+}
+
 pub fn of_address(address: &Address) -> FlatAddress {
-    let mut flat = *b"      \0";
+    let mut flat = blank(address.ssid());
     let callsign = address.callsign().as_bytes();
     flat[..callsign.len()].copy_from_slice(callsign);
-    flat[6] = address.ssid();
     flat
 }
 
@@ -102,8 +124,12 @@ pub fn is_layer_3(record: &Flat) -> bool {
     has_pid(record) && record[PID] == PID_LAYER_3
 }
 
-/// The record of a frame of the Rust, with the octet that `Layer3Impl` carries in the port.
-pub fn carrying(mut record: Flat, octet: u8) -> Flat {
+/// The record of a frame of the Rust, with what the port's frame holds besides: these reserved bits, of its addresses in use in their
+/// order, and this octet of `Layer3Impl`.
+pub fn carrying(mut record: Flat, reserved: impl Iterator<Item = u8>, octet: u8) -> Flat {
+    for (at, reserved) in places(&record).zip(reserved) {
+        record[at + RESERVED] = reserved;
+    }
     if is_layer_3(&record) {
         record[PID_OCTET] = octet;
     }
@@ -196,12 +222,12 @@ pub fn info_of(frame: &Ax25Frame) -> Option<&[u8]> {
     }
 }
 
-/// Addresses of any seven-bit characters. The Rust's fields are private, so they are taken out of a decoded frame. Its
-/// destination is not among them, because a leading character 0 there is skipped as a null octet.
+/// The Rust's addresses of these, of any seven-bit characters and without reserved bits. Its fields are private, so they are taken out
+/// of a decoded frame. The frame's destination is not among them, because a leading character 0 there is skipped as a null octet.
 pub fn addresses(flat: &[FlatAddress]) -> Vec<Address> {
-    let mut octets = vec![b'X' << 1; ADDRESS];
+    let mut octets = vec![b'X' << 1; GROUP];
     for address in flat {
-        octets.extend(address.iter().map(|c| c << 1));
+        octets.extend(address[..GROUP].iter().map(|c| c << 1));
     }
     *octets.last_mut().expect("the destination is there") |= 1;
     octets.push(0x01);
@@ -209,7 +235,7 @@ pub fn addresses(flat: &[FlatAddress]) -> Vec<Address> {
     std::iter::once(frame.source).chain(frame.route.into_iter().map(|entry| entry.repeater)).collect()
 }
 
-fn address_at(flat: &Flat, at: usize) -> FlatAddress {
+pub fn address_at(flat: &Flat, at: usize) -> FlatAddress {
     let mut address = [0; ADDRESS];
     address.copy_from_slice(&flat[at..at + ADDRESS]);
     address
@@ -220,11 +246,24 @@ pub fn repeater(flat: &Flat, place: usize) -> FlatAddress {
     address_at(flat, ROUTE + ENTRY * place)
 }
 
-/// The addresses in use: destination, source, and as many repeaters as the record counts, eight at most.
+/// Where the addresses of a record with so many repeaters stand: destination, source, and those of its route.
+pub fn places_of(count: usize) -> impl Iterator<Item = usize> {
+    [DESTINATION, SOURCE].into_iter().chain((0..count).map(|i| ROUTE + ENTRY * i))
+}
+
+/// The same of the addresses in use: as many repeaters as the record counts, eight at most.
+pub fn places(flat: &Flat) -> impl Iterator<Item = usize> {
+    places_of(usize::from(flat[COUNT]).min(REPEATERS))
+}
+
+/// The addresses in use.
 pub fn in_use(flat: &Flat) -> Vec<FlatAddress> {
-    let count = usize::from(flat[COUNT]).min(REPEATERS);
-    let route = (0..count).map(|i| repeater(flat, i));
-    [address_at(flat, DESTINATION), address_at(flat, SOURCE)].into_iter().chain(route).collect()
+    places(flat).map(|at| address_at(flat, at)).collect()
+}
+
+/// The reserved bits of the addresses in use.
+pub fn reserved(flat: &Flat) -> impl Iterator<Item = u8> + '_ {
+    places(flat).map(|at| flat[at + RESERVED])
 }
 
 /// The Rust's frame of a record that it can hold (see `domain::record_number`), with its info.
@@ -242,8 +281,8 @@ pub fn to_frame(flat: &Flat, info: &[u8]) -> Ax25Frame {
     Ax25Frame { source, destination, route, command_or_response, content: to_content(flat, info) }
 }
 
-/// The one form of a record that is read as this frame of the Rust: the frame's record, but for the places not in use and the octet
-/// of a layer 3 identifier, which only the port's frame has. A flag is 0 or 1 in those places too.
+/// The one form of a record that is read as this frame of the Rust: the frame's record, but for the places not in use, the reserved
+/// bits and the octet of a layer 3 identifier, which only the port's frame has. A flag is 0 or 1 in those places too.
 pub fn settled(flat: &Flat, frame: &Ax25Frame) -> Flat {
     let mut settled = of_frame(frame);
     for i in frame.route.len()..REPEATERS {
@@ -251,7 +290,7 @@ pub fn settled(flat: &Flat, frame: &Ax25Frame) -> Flat {
         settled[at..mark].copy_from_slice(&flat[at..mark]);
         settled[mark] = u8::from(flat[mark] != 0);
     }
-    carrying(settled, flat[PID_OCTET])
+    carrying(settled, reserved(flat), flat[PID_OCTET])
 }
 
 fn to_content(flat: &Flat, info: &[u8]) -> FrameContent {

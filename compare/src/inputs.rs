@@ -1,7 +1,7 @@
 //! Octets off the air: all of them where they are short, seeded ones around every boundary, and damaged copies.
 
 use crate::domain;
-use crate::flat::FlatAddress;
+use crate::flat::{FlatAddress, GROUP, RESERVED, SSID};
 use crate::rng::Rng;
 
 /// Document 01's example frame, GAUGE from BOX12-3 with a UI frame, and its address field.
@@ -45,13 +45,16 @@ pub fn with_marks_beyond(count: usize, marks: usize) -> Vec<u8> {
 
 /// The same with one repeater that is not marked: this address, or what the field's bits leave of it.
 pub fn with_repeater(address: &FlatAddress, content: &[u8]) -> Vec<u8> {
-    let mut group = *address;
-    group[6] = 0x30 | group[6] & 0x0F;
-    with_groups(std::iter::once(group), content)
+    let mut group = [0; GROUP];
+    group.copy_from_slice(&address[..GROUP]);
+    group[SSID] &= 0x0F;
+    let mut frame = with_groups(std::iter::once(group), content);
+    set_reserved(&mut frame, 2, address[RESERVED]);
+    frame
 }
 
 /// Each group is given as it is before it is shifted.
-fn with_groups(groups: impl Iterator<Item = [u8; 7]>, content: &[u8]) -> Vec<u8> {
+fn with_groups(groups: impl Iterator<Item = [u8; GROUP]>, content: &[u8]) -> Vec<u8> {
     let mut octets = FRAME[..FIELD].to_vec();
     octets[FIELD - 1] &= 0xFE;
     octets.extend(groups.flatten().map(|character| character << 1));
@@ -182,6 +185,39 @@ pub fn marks(each: Each) {
         }
         (0..256).for_each(|marks| each(&with_marks_beyond(count, marks)));
     }
+}
+
+/// Every setting of the reserved bits in every two groups, for none to eight repeaters: those marked before each place that may be due,
+/// and, which breaks that order, the last one besides.
+pub fn reserved_bits(each: Each) {
+    for count in 0..=8 {
+        for due in 0..=count {
+            for last in if due + 1 < count { vec![false, true] } else { vec![false] } {
+                let route = (0..count).map(|i| (i, i < due || last && i + 1 == count));
+                let frame = with_route(route, &[0x03, 0xF0, 0x41]);
+                every_two_settings(&frame, 2 + count, each);
+            }
+        }
+    }
+}
+
+fn every_two_settings(frame: &[u8], groups: usize, each: Each) {
+    for one in 0..groups {
+        for other in one + 1..groups {
+            for settings in 0..16 {
+                let mut input = frame.to_vec();
+                set_reserved(&mut input, one, settings / 4);
+                set_reserved(&mut input, other, settings % 4);
+                each(&input);
+            }
+        }
+    }
+}
+
+/// Sets the reserved bits of a group of a frame that has no nulls before it.
+pub fn set_reserved(frame: &mut [u8], group: usize, reserved: u8) {
+    let seventh = &mut frame[domain::seventh(0, group)];
+    *seventh = domain::with_reserved(*seventh, reserved);
 }
 
 pub fn leading_nulls(each: Each) {

@@ -3,7 +3,7 @@
 
 use crate::check;
 use crate::domain;
-use crate::flat::{self, Flat, FlatAddress, ADDRESS, COUNT, FLAT, KIND, REPEATERS, ROUTE};
+use crate::flat::{self, Flat, FlatAddress, ADDRESS, COUNT, FLAT, GROUP, KIND, REPEATERS, ROUTE};
 use crate::inputs;
 use crate::oracle::{self, Refusal};
 use crate::relays::Own;
@@ -14,15 +14,17 @@ pub const HEADING: &str = "\
 # Inputs and the answers that are owed to them, by the Rust crate ax25 0.4.0, unchanged. Made by 'compare/build' and
 # 'target/compare/compare replay-list'; never edited by hand. Where a heading says 'document 01', the Rust has no such answer, and
 # the lines under it were worked out from that paper's rules. So is what is left in lent octets, everywhere. Where it says
-# 'document 02', they were worked out from what the Rust decodes and that paper's rules (M-100, M-102 and M-105).
+# 'document 02', they were worked out from what the Rust decodes and that paper's rules (M-100, M-102, M-105 and M-106).
 # One octet is nowhere the Rust's: for every PID of the layer 3 class (bits 5 and 4 are 01 or 10) the Rust writes 10 hex, and its
 # identifier holds no octet. By document 02 (M-105) the octet that was read, or that stands in the record, is the one that is written,
-# on every line, and canonical is 1 where what is so written is the input.
-# Words are separated by one space; octets are hex digits, and - is none of them; numbers are decimal. A record is 92 octets:
-# destination and source of 7 each (six characters and the SSID); eight places of 8 (an address and its mark); the route count; the
-# mark (0 Command, 1 Response, 2 absent); then the content's 12: kind (0 I, 1 RR, 2 RNR, 3 REJ, 4 SABM, 5 DISC, 6 DM, 7 UA, 8 FRMR,
-# 9 UI, 10 unknown), PID case (0 layer 3, 15 unknown) and octet (of these two, else 0), P/F, N(R), N(S), Z, Y, X, W, FRMR's response,
-# the rejected control octet.
+# on every line, and canonical is 1 where what is so written is the input. Nor are two bits of every group, the reserved ones (6 and 5
+# of its seventh octet): the Rust writes ones, and its address holds none. By document 02 (M-106) those that were read, or that stand
+# in the record, are written, on every line, and canonical goes by them too; text, from_parts and the default frame have 3.
+# Words are separated by one space; octets are hex digits, and - is none of them; numbers are decimal. A record is 102 octets:
+# destination and source of 8 each (six characters, the SSID, and the reserved bits as a number, bit 6 the higher); eight places of 9
+# (an address and its mark); the route count; the mark (0 Command, 1 Response, 2 absent); then the content's 12: kind (0 I, 1 RR,
+# 2 RNR, 3 REJ, 4 SABM, 5 DISC, 6 DM, 7 UA, 8 FRMR, 9 UI, 10 unknown), PID case (0 layer 3, 15 unknown) and octet (of these two, else
+# 0), P/F, N(R), N(S), Z, Y, X, W, FRMR's response, the rejected control octet.
 # Octets that are lent are EE before the call. Behind a number stands what it left there: a dot where it touched none, else all of
 # them, and three more after them, which have to stay. A frame to be relayed is lent itself, and stands there untouched too; a dot
 # where it is empty.
@@ -45,8 +47,7 @@ pub const HEADING: &str = "\
 /// A lent octet before the call, and how many of them are shown beyond the room.
 const LENT: u8 = 0xEE;
 const BEYOND: usize = 3;
-/// The octets of a group, and how many are lent to one.
-const GROUP: usize = 7;
+/// The octets that are lent to a group.
 const GROUP_ROOM: usize = 9;
 
 /// A number, and the octets that are written: none at a refusal.
@@ -155,7 +156,7 @@ impl List {
         self.line(format!("P {} - {} {} {}", hex(callsign), ssid, number, lent(&address, ADDRESS)));
     }
 
-    /// A record that the Rust can hold, or could but for the octet of a layer 3 identifier.
+    /// A record that the Rust can hold, or could but for its reserved bits and the octet of a layer 3 identifier.
     pub fn again(&mut self, record: &Flat) {
         let settled = flat::settled(record, &flat::to_frame(record, &[]));
         self.line(format!("A {} 0 {}", hex(record), lent(&settled, FLAT)));
@@ -166,9 +167,8 @@ impl List {
         self.line(format!("H {} 0 {} {} {}", hex(record), set, used, due));
     }
 
-    /// Document 01: two stations are equal when callsign and SSID are.
     pub fn same_station(&mut self, one: &FlatAddress, other: &FlatAddress) {
-        self.line(format!("Q {} {} {}", hex(one), hex(other), u8::from(one == other)));
+        self.line(format!("Q {} {} {}", hex(one), hex(other), u8::from(domain::same_station(one, other))));
     }
 
     /// A refusal leaves the frame as it was, and it is shown all the same.
@@ -193,8 +193,7 @@ impl List {
     }
 
     pub fn simple_ui(&mut self, source: &FlatAddress, destination: &FlatAddress) {
-        let [from, to] = [source, destination].map(|address| flat::addresses(&[*address]).remove(0));
-        let record = flat::of_frame(&Ax25Frame::new_simple_ui_frame(from, to, Vec::new()));
+        let (_, record) = oracle::simple_ui(source, destination, &[]);
         self.line(format!("U {} {} 0 {}", hex(source), hex(destination), lent(&record, FLAT)));
     }
 
@@ -244,7 +243,7 @@ fn group(address: &FlatAddress, mark: bool, end: bool) -> Answer {
     record[ROUTE..ROUTE + ADDRESS].copy_from_slice(address);
     record[ROUTE + ADDRESS] = u8::from(mark);
     record[COUNT] = if end { 1 } else { 2 };
-    let octets = flat::to_frame(&record, &[]).to_bytes();
+    let octets = oracle::written(&flat::to_frame(&record, &[]), &record).octets;
     (0, octets[inputs::FIELD..inputs::FIELD + GROUP].to_vec())
 }
 

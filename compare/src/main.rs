@@ -49,13 +49,13 @@ compare frames                     what captures.py, which reads the captures, p
 compare one HEX                    one input: both answers in full ('-': hex on standard input)
 compare text TEXT..                texts to addresses (text-hex HEX..: the text's octets)
 compare parts-hex HEX SSID         a callsign and an SSID to an address
-compare print HEX                  an address of seven flat octets, printed
+compare print HEX                  an address of eight flat octets, printed
 compare record HEX INFO            a flat record and info (hex), written
 compare simple-ui HEX HEX INFO     source, destination, info (hex): new_simple_ui_frame
 compare content HEX                content alone, from its control octet on
 compare content-record HEX INFO    flat content (a record's last twelve octets) and info (hex), written alone
 compare hops HEX                   the hops of a flat record
-compare same-station HEX HEX       two addresses of seven flat octets
+compare same-station HEX HEX       two addresses of eight flat octets
 compare relay HEX SSID HEX         our own callsign and SSID, and a frame to pass on ('-': hex on standard input)
 compare kiss HEX                   a KISS packet, read ('-': hex on standard input)
 compare kiss-write PORT HEX        a port and data, written as a KISS packet ('-': hex on standard input)

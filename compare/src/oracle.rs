@@ -1,7 +1,7 @@
 //! The Rust's answers, by document 01's numbers.
 
-use crate::domain;
-use crate::flat::{self, Decode, Flat, PID_OCTET};
+use crate::domain::{self, RESERVED_BITS};
+use crate::flat::{self, Decode, Flat, FlatAddress, PID_OCTET, RESERVED};
 use ax25::frame::{Address, AddressParseError, Ax25Frame, FrameParseError};
 use std::panic::catch_unwind;
 use std::str::FromStr;
@@ -57,8 +57,8 @@ fn refusal(error: &FrameParseError) -> Refusal {
     }
 }
 
-/// What the port owes where the Rust accepts: info is the input's end, wherever the Rust copied it to, and a layer 3 identifier
-/// carries the input's octet.
+/// What the port owes where the Rust accepts: info is the input's end, wherever the Rust copied it to, and what the Rust's frame does
+/// not hold is the input's own, the reserved bits and the octet of a layer 3 identifier.
 pub fn accepted(input: &[u8], frame: &Ax25Frame) -> Decode {
     let info_len = flat::info_of(frame).map(<[u8]>::len);
     Decode {
@@ -68,7 +68,7 @@ pub fn accepted(input: &[u8], frame: &Ax25Frame) -> Decode {
         length: 0,
         info_start: info_len.map_or(0, |len| input.len() - len),
         info_len: info_len.unwrap_or(0),
-        record: flat::carrying(flat::of_frame(frame), domain::pid_of(input)),
+        record: flat::carrying(flat::of_frame(frame), domain::reserved_of(input), domain::pid_of(input)),
     }
 }
 
@@ -77,21 +77,45 @@ pub struct Written {
     pub octets: Vec<u8>,
     /// What the Rust wrote in the place of the one octet that is not the Rust's, where there is one (B6).
     pub masked: Option<u8>,
+    /// The first octet of the Rust's with a reserved bit that is not set, where there is one: these bits are not the Rust's (B7).
+    pub clear: Option<u8>,
 }
 
-/// What the port owes to write of a record that is read as this frame: the Rust's octets, with the record's own in the place of a
-/// layer 3 identifier, and no other changed.
+/// What the port owes to write of a record that is read as this frame: the Rust's octets, with the record's own in the place of the
+/// reserved bits of each group and of a layer 3 identifier, and no other bit changed.
 pub fn written(frame: &Ax25Frame, record: &Flat) -> Written {
     let mut octets = frame.to_bytes();
-    let mut masked = None;
-    if flat::is_layer_3(record) {
-        let at = domain::pid_at(&octets);
-        let pid = &mut octets[at];
-        #[cfg(feature = "faults")]
-        crate::faults::misspell_rust(pid);
-        masked = Some(std::mem::replace(pid, record[PID_OCTET]));
+    #[cfg(feature = "faults")]
+    crate::faults::misspell_rust(&mut octets, record);
+    let masked = flat::is_layer_3(record).then(|| mask_pid(&mut octets, record[PID_OCTET]));
+    let clear = mask_reserved(&mut octets, record);
+    Written { octets, masked, clear }
+}
+
+fn mask_pid(octets: &mut [u8], own: u8) -> u8 {
+    let at = domain::pid_at(octets);
+    std::mem::replace(&mut octets[at], own)
+}
+
+fn mask_reserved(octets: &mut [u8], record: &Flat) -> Option<u8> {
+    let mut clear = None;
+    for (group, reserved) in flat::reserved(record).enumerate() {
+        let seventh = &mut octets[domain::seventh(0, group)];
+        if *seventh & RESERVED_BITS != RESERVED_BITS {
+            clear = clear.or(Some(*seventh));
+        }
+        *seventh = domain::with_reserved(*seventh, reserved);
     }
-    Written { octets, masked }
+    clear
+}
+
+/// `new_simple_ui_frame` of two addresses that the Rust can hold but for their reserved bits: its frame, and the record that is owed.
+pub fn simple_ui(source: &FlatAddress, destination: &FlatAddress, info: &[u8]) -> (Ax25Frame, Flat) {
+    let [from, to] = [source, destination].map(|address| flat::addresses(&[*address]).remove(0));
+    let frame = Ax25Frame::new_simple_ui_frame(from, to, info.to_vec());
+    let reserved = [destination, source].map(|address| address[RESERVED]);
+    let record = flat::carrying(flat::of_frame(&frame), reserved.into_iter(), 0);
+    (frame, record)
 }
 
 /// What the port owes beside a refusal: the default frame.

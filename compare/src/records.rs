@@ -9,8 +9,8 @@ pub type Each<'a> = &'a mut dyn FnMut(&[u8], &[u8]);
 /// The record of a plain frame of this kind.
 pub fn base(kind: u8) -> Flat {
     let mut record = [0; FLAT];
-    record[DESTINATION..SOURCE].copy_from_slice(b"GAUGE \0");
-    record[SOURCE..ROUTE].copy_from_slice(b"BOX12 \x03");
+    put(&mut record, DESTINATION, station(b"GAUGE \0"));
+    put(&mut record, SOURCE, station(b"BOX12 \x03"));
     for i in 0..REPEATERS {
         put(&mut record, ROUTE + ENTRY * i, NOCALL);
     }
@@ -94,7 +94,7 @@ pub fn routes(each: Each) {
                 let mut record = base(kind);
                 record[COUNT] = count as u8;
                 for i in 0..count {
-                    put(&mut record, ROUTE + ENTRY * i, [b'R', b'0' + i as u8, b' ', b' ', b' ', b' ', 15 - i as u8]);
+                    put(&mut record, ROUTE + ENTRY * i, station(&[b'R', b'0' + i as u8, b' ', b' ', b' ', b' ', 15 - i as u8]));
                     record[ROUTE + ENTRY * i + ADDRESS] = (marks >> i & 1) as u8;
                 }
                 each(&record, info_for(kind));
@@ -133,25 +133,53 @@ pub fn contents(seed: u64, count: usize, each: Each) {
     needless_info(&mut cut_out);
 }
 
-/// Every seven-bit character at each place of each address in use, and every SSID.
+/// The first octet that an address can't hold at a place of it: a character, the SSID, the reserved bits.
+fn limit(place: usize) -> u8 {
+    match place {
+        SSID => 16,
+        RESERVED => ONES + 1,
+        _ => 128,
+    }
+}
+
+/// Every seven-bit character at each place of each address in use, every SSID, and every setting of the reserved bits.
 pub fn characters(each: Each) {
     for count in [0, 1, REPEATERS] {
         let mut record = base(UI);
         record[COUNT] = count as u8;
-        for address in [DESTINATION, SOURCE].into_iter().chain((0..count).map(|i| ROUTE + ENTRY * i)) {
-            for at in address..address + ADDRESS {
+        for address in places_of(count) {
+            for place in 0..ADDRESS {
                 let mut changed = record;
-                for octet in 0..if at == address + 6 { 16 } else { 128 } {
-                    changed[at] = octet;
+                for octet in 0..limit(place) {
+                    changed[address + place] = octet;
                     each(&changed, b"info");
                 }
             }
-            put(&mut record, address, *b"      \x07");
+            put(&mut record, address, blank(7));
             each(&record, b"");
             put(&mut record, address, [0; ADDRESS]);
             each(&record, b"");
         }
     }
+}
+
+/// Every number as the reserved bits of each address, in use or not, with none to eight repeaters.
+pub fn reserved_bits(each: Each) {
+    for count in 0..=REPEATERS {
+        for address in places_of(REPEATERS) {
+            for number in 0..=255 {
+                each(&with_reserved(count, address, number), b"info");
+            }
+        }
+    }
+}
+
+/// A plain record with so many repeaters, but for the reserved bits of the address that stands here.
+pub fn with_reserved(count: usize, address: usize, number: u8) -> Flat {
+    let mut record = base(UI);
+    record[COUNT] = count as u8;
+    record[address + RESERVED] = number;
+    record
 }
 
 /// Records cut short at every place, octets past the end counting as 0, and longer ones. All their fields are in use.
@@ -164,8 +192,9 @@ pub fn cut(seed: u64, each: Each) {
             for flag in [POLL, Z, Y, X, W, REJECTED_RESPONSE] {
                 record[flag] = 1;
             }
-            for ssid in [DESTINATION + 6, SOURCE + 6] {
-                record[ssid] = rng.within(1, 15) as u8;
+            for address in [DESTINATION, SOURCE] {
+                record[address + SSID] = rng.within(1, 15) as u8;
+                record[address + RESERVED] = rng.within(1, ONES.into()) as u8;
             }
             let longer = [&record[..], &[0xFF; 9]].concat();
             for length in 0..=longer.len() {
@@ -203,8 +232,7 @@ pub fn unholdable(each: Each) {
         each(&record, b"");
     }
     for at in DESTINATION..ROUTE {
-        let ssid = (at + 1) % ADDRESS == 0;
-        for octet in if ssid { 16 } else { 128 }..=255 {
+        for octet in limit(at % ADDRESS)..=255 {
             let mut record = base(RR);
             record[at] = octet;
             each(&record, b"");
@@ -241,16 +269,10 @@ pub fn seeded_unholdable(seed: u64, count: usize, each: Each) {
 
 /// Spoils one address in use.
 fn spoil(rng: &mut Rng, record: &mut Flat) {
-    let last = usize::from(record[COUNT]).min(REPEATERS);
-    let address = match rng.below(last + 2) {
-        0 => DESTINATION,
-        1 => SOURCE,
-        i => ROUTE + ENTRY * (i - 2),
-    };
-    match rng.below(7) {
-        6 => record[address + 6] = rng.within(16, 255) as u8,
-        i => record[address + i] = rng.octet() | 0x80,
-    }
+    let addresses: Vec<usize> = places(record).collect();
+    let address = *rng.pick(&addresses);
+    let place = rng.below(ADDRESS);
+    record[address + place] = rng.within(limit(place).into(), 255) as u8;
 }
 
 fn seeded(rng: &mut Rng) -> Flat {
@@ -266,7 +288,7 @@ fn seeded(rng: &mut Rng) -> Flat {
         }
     }
     let count = usize::from(record[COUNT]);
-    for address in [DESTINATION, SOURCE].into_iter().chain((0..count).map(|i| ROUTE + ENTRY * i)) {
+    for address in places_of(count) {
         put(&mut record, address, any_address(rng));
     }
     for i in 0..REPEATERS {
@@ -282,7 +304,7 @@ fn seeded(rng: &mut Rng) -> Flat {
 /// An address that can be written: usual, padded, any seven-bit characters, empty, zeros.
 pub fn any_address(rng: &mut Rng) -> FlatAddress {
     const USUAL: &[u8] = b"ABCDEFGHIJKLMNOPQRSTUVWXYZ0123456789";
-    let mut address = *b"      \0";
+    let mut address = blank(0);
     let used = rng.within(0, 6);
     let style = rng.below(6);
     for character in &mut address[..used] {
@@ -293,9 +315,10 @@ pub fn any_address(rng: &mut Rng) -> FlatAddress {
         };
     }
     if style == 2 {
-        address[..6].iter_mut().for_each(|c| *c = if *c == b' ' { 0 } else { *c });
+        address[..SSID].iter_mut().for_each(|c| *c = if *c == b' ' { 0 } else { *c });
     }
-    address[6] = rng.within(0, 15) as u8;
+    address[SSID] = rng.within(0, 15) as u8;
+    address[RESERVED] = rng.within(0, ONES.into()) as u8;
     address
 }
 

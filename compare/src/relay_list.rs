@@ -2,6 +2,7 @@
 
 use crate::check;
 use crate::domain;
+use crate::flat::{self, ONES, RESERVED};
 use crate::inputs;
 use crate::lines::List;
 use crate::relays::{self, Own};
@@ -22,6 +23,7 @@ pub fn relaying(list: &mut List) {
     places(list);
     marks(list);
     around_the_route(list);
+    reserved_bits(list);
     contents(list);
     own_addresses(list);
     stations(list);
@@ -39,7 +41,12 @@ fn hill() -> Own {
 
 /// Document 01's example with one repeater, HILL1-2, who is not marked.
 fn ours(content: &[u8]) -> Vec<u8> {
-    inputs::with_repeater(b"HILL1 \x02", content)
+    with_station(b"HILL1 \x02", content)
+}
+
+/// The same with another repeater.
+fn with_station(repeater: &[u8; RESERVED], content: &[u8]) -> Vec<u8> {
+    inputs::with_repeater(&flat::station(repeater), content)
 }
 
 /// The same with this last octet of the repeater's group: mark, reserved bits, SSID, end.
@@ -114,7 +121,7 @@ fn another_station(list: &mut List) {
         list.relay(&Own::new(callsign, 2), &ours(&CONTENT));
     }
     for repeater in [b"hill1 \x02", b"HILL 1\x02", b" HILL1\x02"] {
-        list.relay(&hill(), &inputs::with_repeater(repeater, &CONTENT));
+        list.relay(&hill(), &with_station(repeater, &CONTENT));
     }
     heading(list, "42, another SSID, by each of its bits; destination and source, who are no repeaters.");
     [3, 0, 6, 10].iter().for_each(|&ssid| list.relay(&Own::new(b"HILL1", ssid), &ours(&CONTENT)));
@@ -171,6 +178,26 @@ fn around_the_route(list: &mut List) {
     }
 }
 
+fn reserved_bits(list: &mut List) {
+    heading(list, "every setting of the reserved bits (M-106), in each group of a frame with three repeaters, stays, and is not");
+    list.heading("compared. The second is due: by it, by the third (42), and by it where a mark follows (43) or all are marked (41).");
+    for group in 0..5 {
+        for reserved in 0..=ONES {
+            for (own, marks) in [(1, 0b001), (2, 0b001), (1, 0b101), (1, 0b111)] {
+                let mut frame = marked(3, marks);
+                inputs::set_reserved(&mut frame, group, reserved);
+                list.relay(&named(own), &frame);
+            }
+        }
+    }
+    heading(list, "eight repeaters, each in turn, and each group with other reserved bits (M-106) than the one before it.");
+    for due in 0..8 {
+        let mut frame = marked(8, (1 << due) - 1);
+        (0..10).for_each(|group| inputs::set_reserved(&mut frame, group, (group + due) as u8 % 4));
+        list.relay(&named(due), &frame);
+    }
+}
+
 fn contents(list: &mut List) {
     heading(list, "content of each kind stays.");
     inputs::contents().iter().take(12).for_each(|content| list.relay(&hill(), &ours(content)));
@@ -187,16 +214,16 @@ fn contents(list: &mut List) {
 fn own_addresses(list: &mut List) {
     heading(list, "callsigns of 0 to 6 octets, without the spaces that pad them and with all; of 7 (22).");
     for length in 0..=6 {
-        let mut padded = *b"      \x0F";
+        let mut padded = flat::blank(15);
         padded[..length].copy_from_slice(&b"PIER22"[..length]);
         let frame = inputs::with_repeater(&padded, &CONTENT);
         list.relay(&Own::new(&padded[..length], 15), &frame);
         list.relay(&Own::of(&padded), &frame);
     }
-    list.relay(&Own::new(b"PIER22 ", 15), &inputs::with_repeater(b"PIER22\x0F", &CONTENT));
+    list.relay(&Own::new(b"PIER22 ", 15), &with_station(b"PIER22\x0F", &CONTENT));
     heading(list, "characters as they are, and every bit of the SSID.");
     for address in [b"hill1 \x01", b"A B   \x02", b" A    \x04", b"\0\0\0\0\0\0\x08", b"\x7F\x01!%-*\x00"] {
-        list.relay(&Own::of(address), &inputs::with_repeater(address, &CONTENT));
+        list.relay(&Own::of(&flat::station(address)), &with_station(address, &CONTENT));
     }
 }
 

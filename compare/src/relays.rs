@@ -1,7 +1,7 @@
 //! Who relays an input: the stations of its route, some that are almost the one that is due, and addresses that are refused.
 
 use crate::domain;
-use crate::flat::{self, FlatAddress};
+use crate::flat::{self, FlatAddress, SSID};
 use crate::rng::Rng;
 use crate::show;
 use ax25::frame::Ax25Frame;
@@ -19,7 +19,7 @@ impl Own {
 
     /// All six characters, whether or not they are spaces.
     pub fn of(address: &FlatAddress) -> Own {
-        Own::new(&address[..6], address[6])
+        Own::new(&address[..SSID], address[SSID])
     }
 
     pub fn words(&self) -> String {
@@ -37,7 +37,7 @@ pub fn of_route(frame: &Ax25Frame) -> Vec<Own> {
 /// station and one address that is none.
 pub fn around(read: &Result<Ax25Frame, u32>, draw: &mut Rng) -> Vec<Own> {
     let Ok(frame) = read else {
-        return vec![Own::new(b"RELAY", 0), no_address(*b"RELAY0\0", draw.below(3), draw)];
+        return vec![Own::new(b"RELAY", 0), no_address(flat::station(b"RELAY0\0"), draw.below(3), draw)];
     };
     let mut all = of_route(frame);
     for own in &mut all {
@@ -53,7 +53,7 @@ pub fn around(read: &Result<Ax25Frame, u32>, draw: &mut Rng) -> Vec<Own> {
 }
 
 fn other_ssid(mut address: FlatAddress, draw: &mut Rng) -> Own {
-    address[6] ^= draw.within(1, 15) as u8;
+    address[SSID] ^= draw.within(1, 15) as u8;
     Own::of(&address)
 }
 
@@ -71,7 +71,7 @@ fn no_address(mut address: FlatAddress, which: usize, draw: &mut Rng) -> Own {
             return own;
         }
         1 => address[draw.below(6)] |= 0x80,
-        _ => address[6] |= 0x10 << draw.below(4),
+        _ => address[SSID] |= 0x10 << draw.below(4),
     }
     Own::of(&address)
 }

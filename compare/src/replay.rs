@@ -2,7 +2,8 @@
 
 use crate::check::padded;
 use crate::domain;
-use crate::flat::{self, Flat, FlatAddress, ADDRESS, COUNT, ENTRY, KIND, MARK, NOCALL, PID, PID_OCTET, POLL, RECEIVE, ROUTE, SEND};
+use crate::flat::{self, station, Flat, FlatAddress, ADDRESS, ADDRESSES, NOCALL, ONES, REPEATERS, RESERVED};
+use crate::flat::{COUNT, DESTINATION, ENTRY, KIND, MARK, PID, PID_OCTET, POLL, RECEIVE, ROUTE, SEND, SOURCE};
 use crate::inputs;
 use crate::lines::{List, HEADING};
 use crate::records;
@@ -13,8 +14,8 @@ use crate::texts;
 /// Seeded inputs, info and texts are shorter than this, to keep the lines short.
 pub const LONGEST: usize = 120;
 
-/// Prints about this many lines: what is always there, and seeded inputs up to the number. The lines of relaying, of single groups and
-/// of the layer 3 octet come on top of these, so that no other line hangs on how many they are.
+/// Prints about this many lines: what is always there, and seeded inputs up to the number. The lines of relaying, of single groups, of
+/// the layer 3 octet and of the reserved bits come on top of these, so that no other line hangs on how many they are.
 pub fn list(lines: usize) {
     println!("{}", HEADING);
     let mut list = List { lines: 0 };
@@ -40,6 +41,7 @@ pub fn list(lines: usize) {
     relay_list::relaying(&mut list);
     groups(&mut list);
     layer_3(&mut list);
+    reserved_bits(&mut list);
 }
 
 /// Document 01's examples, each under its name there.
@@ -92,17 +94,17 @@ fn slips(list: &mut List) {
     list.decode(&with_ssids(0x60, 0x67, &[0x01]));
     list.decode(&with_ssids(0xE0, 0xE7, &[0x01]));
     list.heading("Slip: counting unused route places in an address check.");
-    for (callsign, count) in [(*b"\xFFOX   \x03", 1), (*b"BOX12 \xFF", 1)] {
+    for address in [b"\xFFOX   \x03\x03", b"BOX12 \xFF\x03", b"BOX12 \x03\xFF"] {
         let mut record = records::base(flat::UI);
-        record[COUNT] = count;
-        records::put(&mut record, ROUTE + ENTRY, callsign);
+        record[COUNT] = 1;
+        records::put(&mut record, ROUTE + ENTRY, *address);
         list.write(&record, b"OK");
     }
 }
 
 fn decoding(list: &mut List) {
-    list.heading("The smallest inputs of docs/DIFFERENCES.md, A1 to A15: without A13, which is a record and stands among those, and for A6 that");
-    list.heading("of B6, by document 02 (M-105).");
+    list.heading("The smallest inputs of docs/DIFFERENCES.md, A1 to A15: without A13, which is a record and stands among those, and for A5 and");
+    list.heading("A6 those of B7 and B6, by document 02 (M-106, M-105).");
     for input in departures() {
         list.decode(&input);
     }
@@ -132,7 +134,7 @@ fn decoding(list: &mut List) {
         list.decode(&inputs::with_content(&[0x87, flags * 17, 0xFF - flags * 16, flags]));
         list.decode(&inputs::with_content(&[0x97, flags, flags * 17, 0xFF - flags]));
     }
-    list.heading("Marks and reserved bits: the first two SSID octets.");
+    list.heading("Marks and reserved bits: the first two SSID octets; the reserved bits by document 02 (M-106).");
     for bits in 0..64_u8 {
         let mut input = inputs::FRAME.to_vec();
         input[6] = (bits & 7) << 5 | bits & 0x1E;
@@ -153,8 +155,8 @@ fn decoding(list: &mut List) {
             list.decode(&inputs::with_repeaters(count, content));
         }
     }
-    list.heading("Spans of a field of twelve stations, odd ones among them, behind nulls, with content and without; the PID 20 by document 02");
-    list.heading("(M-105).");
+    list.heading("Spans of a field of twelve stations, odd ones among them, behind nulls, with content and without; the PID 20 and reserved");
+    list.heading("bits that are clear by document 02 (M-105, M-106).");
     for span in [13, 14, 15, 18, 20, 21, 28, 69, 70, 71, 75, 76] {
         for nulls in [0, 1, 3] {
             for content in [&[0x13, 0x20, 0x41, 0x42, 0x43][..], &[]] {
@@ -165,7 +167,7 @@ fn decoding(list: &mut List) {
             }
         }
     }
-    list.heading("The example with each bit damaged.");
+    list.heading("The example with each bit damaged; the reserved bits by document 02 (M-106).");
     for bit in 0..8 * inputs::FRAME.len() {
         let mut input = inputs::FRAME.to_vec();
         input[bit / 8] ^= 1 << (bit % 8);
@@ -181,7 +183,8 @@ fn with_ssids(first: u8, second: u8, content: &[u8]) -> Vec<u8> {
     input
 }
 
-/// One input for each place where the Rust departs from AX.25 (docs/DIFFERENCES.md, A; the sixth is B6 since M-105).
+/// One input for each place where the Rust departs from AX.25 (docs/DIFFERENCES.md, A; the sixth is B6 since M-105, and the fifth B7
+/// since M-106).
 fn departures() -> Vec<Vec<u8>> {
     let mut empty_callsign = inputs::with_content(&[0x01]);
     empty_callsign[..6].fill(b' ' << 1);
@@ -278,7 +281,7 @@ fn writing(list: &mut List) {
     list.heading("The default frame, and new_simple_ui_frame.");
     list.default_frame();
     for (source, destination) in [(b"BOX12 \x03", b"GAUGE \x00"), (b"GAUGE \x00", b"BOX12 \x03"), (b"A B   \x0F", b"      \x01")] {
-        list.simple_ui(source, destination);
+        list.simple_ui(&station(source), &station(destination));
     }
     list.heading("Records written: every kind, mark and P/F, sequence numbers over 7.");
     for kind in 0..=flat::UNKNOWN_CONTENT {
@@ -315,7 +318,7 @@ fn writing(list: &mut List) {
 fn refused_records(list: &mut List) {
     list.heading("Writing, by document 01, each refusal with those after it, into no room too: 21, 22, 23, 24, and 0.");
     let mut odd = with(flat::RR, 0, 0, 0, 0);
-    records::put(&mut odd, ROUTE + ENTRY, *b"\xFFOX   \xFF");
+    records::put(&mut odd, ROUTE + ENTRY, station(b"\xFFOX   \xFF"));
     for (count, info) in [(9, &b"OK"[..]), (2, b"OK"), (1, b"OK"), (1, b"")] {
         odd[COUNT] = count;
         list.write_rooms(&odd, info);
@@ -326,12 +329,12 @@ fn refused_records(list: &mut List) {
         for (at, count) in [(flat::DESTINATION, 0), (flat::SOURCE, 0), (ROUTE + ENTRY, 2), (ROUTE + ENTRY, 1)] {
             let mut record = records::base(flat::UI);
             record[COUNT] = count;
-            records::put(&mut record, at, *address);
+            records::put(&mut record, at, station(address));
             list.write_rooms(&record, b"");
         }
     }
     list.heading("Writing, by document 01: a route count over 8 (21), a character or SSID too high (22), info where there is none (23); by");
-    list.heading("document 02 (M-105) a layer 3 octet outside the class (25).");
+    list.heading("document 02 (M-106) reserved bits over 3 (22), and (M-105) a layer 3 octet outside the class (25).");
     let mut every = 0;
     records::unholdable(&mut |record, info| {
         every += 1;
@@ -360,8 +363,8 @@ fn hops(list: &mut List) {
         }
     }
     list.heading("Stations, by document 01: the same, another SSID, another last character, another first one, lower case; places not in use.");
-    for other in [b"BOX12 \x03", b"BOX12 \x04", b"BOX12A\x03", b"COX12 \x03", b"box12 \x03", &NOCALL] {
-        list.same_station(b"BOX12 \x03", other);
+    for other in [b"BOX12 \x03", b"BOX12 \x04", b"BOX12A\x03", b"COX12 \x03", b"box12 \x03", b"NOCALL\x00"] {
+        list.same_station(&station(b"BOX12 \x03"), &station(other));
     }
     list.same_station(&NOCALL, &NOCALL);
 }
@@ -406,20 +409,20 @@ fn printing(list: &mut List) {
     list.heading("Addresses printed.");
     let mut rng = Rng::new(7);
     for known in [b"BOX12 \x03", b"BOX12 \x00", b"      \x00", b"      \x01", b"ABCDEF\x0f", b"\0\0\0\0\0\0\x0a", b" a B  \x09"] {
-        list.print(known);
+        list.print(&station(known));
     }
     for known in [b"box   \x0a", b"A B   \x09", b" A    \x01", b"B\0X \0 \x00", b"B\x7f--  \x07"] {
-        list.print(known);
+        list.print(&station(known));
     }
     let seeded: Vec<FlatAddress> = (0..40).map(|_| records::any_address(&mut rng)).collect();
     seeded.iter().for_each(|address| list.print(address));
     list.heading("Printing, by document 01: one octet short and none (24), longer room; a character or SSID too high (22).");
-    for (known, rooms) in [(b"BOX12 \x03", [6, 0, 12]), (b"VK7NTK\x0F", [8, 0, 12]), (&NOCALL, [5, 0, 12]), (b"      \x00", [0, 1, 12])] {
-        rooms.iter().for_each(|&room| list.print_in(known, room));
+    for (known, rooms) in [(b"BOX12 \x03", [6, 0, 12]), (b"VK7NTK\x0F", [8, 0, 12]), (b"NOCALL\x00", [5, 0, 12]), (b"      \x00", [0, 1, 12])] {
+        rooms.iter().for_each(|&room| list.print_in(&station(known), room));
     }
     for known in [b"BOX12 \x10", b"BOX12 \xff", b"\x80OX12 \x00", b"BOX12\xff\x00"] {
-        list.print(known);
-        list.print_in(known, 0);
+        list.print(&station(known));
+        list.print_in(&station(known), 0);
     }
 }
 
@@ -427,20 +430,20 @@ fn printing(list: &mut List) {
 const BITS: [[bool; 2]; 4] = [[false, false], [true, false], [false, true], [true, true]];
 
 fn groups(list: &mut List) {
-    list.heading("Groups of one address, as the Rust writes them in a route.");
+    list.heading("Groups of one address, as the Rust writes them in a route; the reserved bits by document 02 (M-106).");
     let mut rng = Rng::new(11);
-    let every_ssid = (0..16).map(|ssid| [b'B', b'O', b'X', b'1', b'2', b' ', ssid]);
+    let every_ssid = (0..16).map(|ssid| station(&[b'B', b'O', b'X', b'1', b'2', b' ', ssid]));
     let seeded = (0..24).map(|_| records::any_address(&mut rng));
-    let known = [*b"\0\0\0\0\0\0\x00", *b"\x7f\x7f\x7f\x7f\x7f\x7f\x0f", NOCALL];
+    let known = [[0; ADDRESS], station(b"\x7f\x7f\x7f\x7f\x7f\x7f\x0f"), NOCALL];
     for (i, address) in every_ssid.chain(seeded.collect::<Vec<_>>()).chain(known).enumerate() {
         BITS.iter().for_each(|&[mark, end]| list.group(&address, mark, end, i % 3));
     }
     list.heading("Groups, by document 01: not seven octets from the place on (24); a character or SSID too high (22), before 24.");
     for at in [3, 4, 9, 10, 1000] {
-        BITS.iter().for_each(|&[mark, end]| list.group(b"BOX12 \x03", mark, end, at));
+        BITS.iter().for_each(|&[mark, end]| list.group(&station(b"BOX12 \x03"), mark, end, at));
     }
     for known in [b"BOX12 \x10", b"BOX12 \xff", b"\x80OX12 \x00", b"BOX12\xff\x00"] {
-        [0, 2, 3].iter().for_each(|&at| list.group(known, true, false, at));
+        [0, 2, 3].iter().for_each(|&at| list.group(&station(known), true, false, at));
     }
 }
 
@@ -459,7 +462,7 @@ fn layer_3(list: &mut List) {
     }
     list.heading("Writing, by document 02 (M-105): each refusal with those after it, into no room too: 21, 22, 25, 24, and 0.");
     let mut odd = layer_3_record(flat::UI, 0x30);
-    records::put(&mut odd, ROUTE + ENTRY, *b"\xFFOX   \xFF");
+    records::put(&mut odd, ROUTE + ENTRY, station(b"\xFFOX   \xFF"));
     for (count, octet) in [(9, 0x30), (2, 0x30), (1, 0x30), (1, 0x20)] {
         odd[COUNT] = count;
         odd[PID_OCTET] = octet;
@@ -487,6 +490,82 @@ fn layer_3(list: &mut List) {
 /// A plain record whose PID, where the kind has one, is layer 3 with this octet.
 fn layer_3_record(kind: u8, octet: u8) -> Flat {
     records::with_pid(kind, flat::PID_LAYER_3, octet)
+}
+
+/// Numbers over 3: the next ones, some that two bits would cut to 0, to 1 and to 3, and the bits where a group has them.
+const OVER: [u8; 8] = [4, 5, 7, 8, 0x40, 0x60, 0x80, 0xFF];
+
+fn reserved_bits(list: &mut List) {
+    list.heading("Decoding, by document 02 (M-106): every setting of the reserved bits in each group of a frame with eight repeaters; each");
+    list.heading("group with another than the one before it, behind nulls and without, with octets left over.");
+    for group in 0..ADDRESSES {
+        for reserved in 0..=ONES {
+            let mut input = inputs::with_repeaters(REPEATERS, &[0x03, 0xF0]);
+            inputs::set_reserved(&mut input, group, reserved);
+            list.decode(&input);
+        }
+    }
+    for span in [14, 17, 28, 70, 76] {
+        let mut input = spanned(span, &[0x03, 0xF0, 0x41]);
+        (0..span / 7).for_each(|group| inputs::set_reserved(&mut input, group, group as u8 % 4));
+        list.decode(&input);
+        list.decode(&[&[0, 0], &input[..]].concat());
+    }
+    written_reserved(list);
+    addresses_reserved(list);
+}
+
+fn written_reserved(list: &mut List) {
+    list.heading("Writing, by document 02 (M-106): every setting in each address in use, and the frame of each record.");
+    for (count, address) in IN_USE {
+        for reserved in 0..=ONES {
+            let record = records::with_reserved(count, address, reserved);
+            list.write(&record, b"");
+            list.again(&record);
+        }
+    }
+    list.heading("Writing, by document 02 (M-106): numbers over 3 in an address in use (22), and in a place that is not.");
+    for number in OVER {
+        IN_USE.iter().for_each(|&(count, address)| list.write(&records::with_reserved(count, address, number), b""));
+        list.write(&records::with_reserved(7, LAST_PLACE, number), b"");
+        list.again(&records::with_reserved(8, LAST_PLACE, number));
+    }
+    list.heading("Writing, by documents 01 and 02 (M-106): each refusal with those after it, into no room too: 21, 22, 23, 24, and 0.");
+    let mut odd = with(flat::RR, 0, 0, 0, 0);
+    odd[ROUTE + ENTRY + RESERVED] = 4;
+    for (count, info) in [(9, &b"OK"[..]), (2, b"OK"), (1, b"OK"), (1, b"")] {
+        odd[COUNT] = count;
+        list.write_rooms(&odd, info);
+    }
+    list.heading("Writing, by document 02 (M-105, M-106): 22 comes before 25.");
+    let mut odd = layer_3_record(flat::UI, 0x30);
+    odd[SOURCE + RESERVED] = 4;
+    list.write_rooms(&odd, b"OK");
+}
+
+/// Destination, source, the first repeater and the last of eight, each with a route count by which it is in use.
+const IN_USE: [(usize, usize); 4] = [(0, DESTINATION), (0, SOURCE), (1, ROUTE), (8, LAST_PLACE)];
+const LAST_PLACE: usize = ROUTE + 7 * ENTRY;
+
+fn addresses_reserved(list: &mut List) {
+    let box12 = |reserved: u8| [b'B', b'O', b'X', b'1', b'2', b' ', 3, reserved];
+    list.heading("Addresses printed, and stations compared, by document 02 (M-106): whatever the reserved bits are; printing refuses over 3");
+    list.heading("(22), before 24.");
+    for number in (0..=ONES).chain(OVER) {
+        list.print(&box12(number));
+        list.print_in(&box12(number), 0);
+        list.same_station(&box12(ONES), &box12(number));
+        list.same_station(&box12(number), &station(b"BOX12 \x04"));
+    }
+    list.heading("new_simple_ui_frame, by document 02 (M-106): the addresses keep their reserved bits, and those over 3 too.");
+    for (from, to) in [(0, 1), (1, 2), (2, 3), (3, 0), (4, 255)] {
+        list.simple_ui(&box12(from), &box12(to));
+    }
+    list.heading("Groups, by document 02 (M-106): every setting, and numbers over 3 (22), before 24.");
+    for number in (0..=ONES).chain(OVER) {
+        BITS.iter().for_each(|&[mark, end]| list.group(&box12(number), mark, end, 1));
+        list.group(&box12(number), true, false, 3);
+    }
 }
 
 fn beyond(list: &mut List) {

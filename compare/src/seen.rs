@@ -20,6 +20,8 @@ const CONTENT_NUMBERS: [u32; 8] = [0, 4, 5, 6, 7, 8, 23, 25];
 const BESIDE_NUMBERS: [u32; 11] = [0, 1, 2, 3, 4, 5, 6, 7, 8, 9, 24];
 /// Those of the relay: the refusals in their order.
 const RELAY_NUMBERS: [u32; 14] = [0, 22, 1, 2, 3, 4, 9, 5, 6, 7, 8, 41, 43, 42];
+/// Those of them that an accepted frame gets, by its route.
+const ROUTE_NUMBERS: [u32; 4] = [0, 41, 43, 42];
 /// Those of a KISS packet, read and written.
 const PACKET_NUMBERS: [u32; 7] = [0, 51, 52, 53, 54, 55, 56];
 const PACKET_WRITE_NUMBERS: [u32; 2] = [0, 56];
@@ -38,6 +40,9 @@ type Octets = [[u64; 256]; 2];
 
 /// The writers that write such an octet, the first ones.
 const OCTET_WRITERS: usize = 5;
+
+/// A count for each setting of the reserved bits, in each address of a frame.
+type Settings = [[u64; ONES as usize + 1]; ADDRESSES];
 
 /// What writes.
 #[derive(Clone, Copy)]
@@ -250,6 +255,17 @@ pub struct Seen {
     /// By writer, layer 3 octets that were written, each compared by the record's own; and those of inputs that are canonical.
     layer_3: [Octets; OCTET_WRITERS],
     canonical_layer_3: Octets,
+    /// By writer, reserved bits that were written, each compared by the record's own; and those of inputs that are canonical.
+    reserved: [Settings; OCTET_WRITERS],
+    canonical_reserved: Settings,
+    /// By the address whose number over 3 alone makes 22, records that were refused with too little room and with enough.
+    over: [[u64; 2]; ADDRESSES],
+    /// Records with such a number, refused by 21, which comes first, and by 22 where 23 and where 25 would follow.
+    over_beside: [u64; 3],
+    /// By the place of the route, such a number where the place is not in use and the record is written.
+    over_unused: [u64; REPEATERS],
+    /// Addresses that were printed, by their reserved bits, and those that were refused for them alone.
+    printed: [u64; ONES as usize + 2],
     /// Of a frame and of content alone, octets outside the class, refused by 25 with too little room and with enough.
     outside: [[Octets; 2]; 2],
     /// By kind, I and UI, records with such an octet that 21 and 22 refuse, which come first.
@@ -266,13 +282,15 @@ pub struct Seen {
     hops_used: [u64; REPEATERS + 1],
     /// A route count to 8, and one over it.
     hop_counts: [u64; 2],
-    /// Pairs that the Rust can't hold, and those that it can; other stations, and the same.
-    stations: [[u64; 2]; 2],
+    /// Pairs that the Rust can't hold, and those that it can; with other reserved bits, and the same; other stations, and the same.
+    stations: [[[u64; 2]; 2]; 2],
     /// Inputs that each of their repeaters relayed.
     pub relayed_routes: u64,
     relay_numbers: [u64; TABLE],
-    /// By the due place, frames that were relayed.
-    due_places: [u64; REPEATERS],
+    /// By the due place and its reserved bits, frames that were relayed.
+    due_places: [[u64; ONES as usize + 1]; REPEATERS],
+    /// By each of `ROUTE_NUMBERS`, the reserved bits of the frames.
+    relay_reserved: [Settings; ROUTE_NUMBERS.len()],
     /// By the due place, 43 for who stands there, at a marked place after it, and elsewhere.
     broken: [[u64; 3]; REPEATERS - 1],
     /// By the length of the callsign that relayed a frame.
@@ -307,6 +325,10 @@ fn pid_kind(record: &Flat) -> usize {
 
 fn count_octet(table: &mut Octets, record: &Flat) {
     table[pid_kind(record)][usize::from(record[PID_OCTET])] += 1;
+}
+
+fn count_settings(table: &mut Settings, reserved: impl Iterator<Item = u8>) {
+    table.iter_mut().zip(reserved).for_each(|(cells, reserved)| cells[usize::from(reserved)] += 1);
 }
 
 /// Whether a sequence number that the kind has is 8 or more. A record as the port lays it out has 0 where the kind lacks it.
@@ -354,6 +376,12 @@ impl Seen {
             written: Default::default(),
             layer_3: [[[0; 256]; 2]; OCTET_WRITERS],
             canonical_layer_3: [[0; 256]; 2],
+            reserved: Default::default(),
+            canonical_reserved: Default::default(),
+            over: Default::default(),
+            over_beside: [0; 3],
+            over_unused: [0; REPEATERS],
+            printed: Default::default(),
             outside: [[[[0; 256]; 2]; 2]; 2],
             outside_before: [[0; 2]; 2],
             classes: Vec::new(),
@@ -364,10 +392,11 @@ impl Seen {
             wide: [0; 2],
             hops_used: [0; REPEATERS + 1],
             hop_counts: [0; 2],
-            stations: [[0; 2]; 2],
+            stations: Default::default(),
             relayed_routes: 0,
             relay_numbers: [0; TABLE],
-            due_places: [0; REPEATERS],
+            due_places: Default::default(),
+            relay_reserved: Default::default(),
             broken: [[0; 3]; REPEATERS - 1],
             callsigns: [0; 7],
             around_relayed: [[0; 2]; 2],
@@ -393,6 +422,10 @@ impl Seen {
         if canonical && is_layer_3(record) {
             count_octet(&mut self.canonical_layer_3, record);
             self.own_octet(record);
+        }
+        if canonical {
+            count_settings(&mut self.canonical_reserved, reserved(record));
+            self.own_reserved(record);
         }
     }
 
@@ -428,14 +461,36 @@ impl Seen {
     /// The record that it was; fields that its kind lacks are 0.
     pub fn written(&mut self, writer: Writer, record: &Flat, room: Room) {
         self.written[writer as usize].count(record, room);
-        self.layer_3(writer, record, room);
+        self.own(writer, record, room);
     }
 
-    /// The octet of a layer 3 identifier, where there is room for it.
-    pub fn layer_3(&mut self, writer: Writer, record: &Flat, room: Room) {
-        if is_layer_3(record) && room.is_enough() {
+    /// What was compared by the record's own, where there is room for it: the octet of a layer 3 identifier, and the reserved bits, which
+    /// content alone has not.
+    pub fn own(&mut self, writer: Writer, record: &Flat, room: Room) {
+        if !room.is_enough() {
+            return;
+        }
+        if is_layer_3(record) {
             count_octet(&mut self.layer_3[writer as usize], record);
             self.own_octet(record);
+        }
+        if !matches!(writer, Writer::Content) {
+            count_settings(&mut self.reserved[writer as usize], reserved(record));
+            self.own_reserved(record);
+            self.unused(record);
+        }
+    }
+
+    /// An answer was compared by the record's own reserved bits, which may be those that the Rust writes.
+    fn own_reserved(&mut self, record: &Flat) {
+        if reserved(record).any(|reserved| reserved != ONES) {
+            self.listed(Listed::B7);
+        }
+    }
+
+    fn unused(&mut self, record: &Flat) {
+        for place in usize::from(record[COUNT])..REPEATERS {
+            self.over_unused[place] += u64::from(domain::is_over(&repeater(record, place)));
         }
     }
 
@@ -467,14 +522,32 @@ impl Seen {
         count(&mut self.beside_numbers, number as usize);
     }
 
-    /// A record was to be written that is refused by this number, whether or not the room is enough.
-    pub fn write_refusal(&mut self, number: u32, record: &Flat, enough: bool) {
+    /// A record was to be written with this info that is refused by this number, whether or not the room is enough.
+    pub fn write_refusal(&mut self, number: u32, record: &Flat, info: &[u8], enough: bool) {
         count(&mut self.write_numbers, number as usize);
+        let addresses = in_use(record);
+        let refused: Vec<usize> = (0..addresses.len()).filter(|&i| !domain::encodable(&addresses[i])).collect();
+        if let (21 | 22, [one]) = (number, &refused[..]) {
+            if domain::is_held(&addresses[*one]) {
+                self.over(number, *one, record, info, enough);
+            }
+        }
         match number {
             25 => count_octet(&mut self.outside[0][usize::from(enough)], record),
             21 | 22 if domain::is_outside(record) => self.outside_before[pid_kind(record)][number as usize - 21] += 1,
             _ => {}
         }
+    }
+
+    /// The only address that can't be written is this one, and for its reserved bits alone.
+    fn over(&mut self, number: u32, address: usize, record: &Flat, info: &[u8], enough: bool) {
+        if number == 21 {
+            self.over_beside[0] += 1;
+            return;
+        }
+        self.over[address][usize::from(enough)] += 1;
+        self.over_beside[1] += u64::from(domain::has_needless(record, info));
+        self.over_beside[2] += u64::from(domain::is_outside(record));
     }
 
     /// The same of content alone.
@@ -489,8 +562,11 @@ impl Seen {
         count(&mut self.text_numbers, number as usize);
     }
 
-    pub fn print(&mut self, number: u32) {
+    pub fn print(&mut self, number: u32, address: &FlatAddress) {
         count(&mut self.print_numbers, number as usize);
+        if domain::is_held(address) {
+            self.printed[usize::from(address[RESERVED].min(ONES + 1))] += 1;
+        }
     }
 
     pub fn content(&mut self, number: u32) {
@@ -503,16 +579,22 @@ impl Seen {
     }
 
     /// Two stations, whether the Rust can hold both, and whether they are the same.
-    pub fn stations(&mut self, held: bool, same: bool) {
-        self.stations[usize::from(held)][usize::from(same)] += 1;
+    pub fn stations(&mut self, pair: &[FlatAddress; 2], held: bool, same: bool) {
+        let reserved = pair[0][RESERVED] == pair[1][RESERVED];
+        self.stations[usize::from(held)][usize::from(reserved)][usize::from(same)] += 1;
     }
 
     /// A relay, which owes this due place or this number.
     pub fn relay(&mut self, own: &Own, input: &[u8], read: &Result<Ax25Frame, u32>, owed: Result<usize, u32>) {
-        count(&mut self.relay_numbers, owed.err().unwrap_or(0) as usize);
+        let number = owed.err().unwrap_or(0);
+        count(&mut self.relay_numbers, number as usize);
+        if let Some(case) = ROUTE_NUMBERS.iter().position(|&by_route| by_route == number) {
+            count_settings(&mut self.relay_reserved[case], domain::reserved_of(input));
+        }
         match (owed, read) {
             (Ok(due), Ok(_)) => {
-                self.due_places[due] += 1;
+                let reserved = domain::reserved_of(input).nth(2 + due).expect("a due place");
+                self.due_places[due][usize::from(reserved)] += 1;
                 count(&mut self.callsigns, own.callsign.len());
                 let (start, end) = domain::field(input).unwrap_or((0, 0));
                 self.around_relayed[usize::from(start > 0)][usize::from((end - start + 1) % 7 > 0)] += 1;
@@ -532,8 +614,8 @@ impl Seen {
             (Err(42), Ok(frame)) => {
                 let record = of_frame(frame);
                 let due = repeater(&record, domain::hops(&record)[2]);
-                let callsign = domain::own_address(&own.callsign, due[6]) != Some(due);
-                self.others[usize::from(callsign)][usize::from(own.ssid != due[6])] += 1;
+                let callsign = domain::own_address(&own.callsign, due[SSID]) != Some(due);
+                self.others[usize::from(callsign)][usize::from(own.ssid != due[SSID])] += 1;
             }
             _ => {}
         }
@@ -624,8 +706,11 @@ impl Seen {
         missing.cases("text outside ASCII that the Rust refuses or accepts, case", &self.wide);
         missing.cases("hops used,", &self.hops_used);
         missing.cases("hops of a count to 8 and over it, case", &self.hop_counts);
-        missing.cases("stations that the Rust can't hold, other or same: case", &self.stations[0]);
-        missing.cases("stations that the Rust can hold, other or same: case", &self.stations[1]);
+        for (held, stations) in ["can't", "can"].iter().zip(&self.stations) {
+            for (bits, stations) in ["other", "the same"].iter().zip(stations) {
+                missing.cases(&format!("stations that the Rust {} hold, with {} reserved bits, other or same: case", held, bits), stations);
+            }
+        }
         self.missing_relays(&mut missing);
         missing.numbers("KISS packet read, number", &PACKET_NUMBERS, &self.packet_numbers);
         missing.numbers("KISS packet written, number", &PACKET_WRITE_NUMBERS, &self.packet_write_numbers);
@@ -645,12 +730,18 @@ impl Seen {
         }
         self.missing_writes(&mut missing);
         self.missing_octets(&mut missing);
+        self.missing_reserved(&mut missing);
         missing.0
     }
 
     fn missing_relays(&self, missing: &mut Missing) {
         missing.numbers("relay number", &RELAY_NUMBERS, &self.relay_numbers);
-        missing.cases("relay at place", &self.due_places);
+        for (place, reserved) in self.due_places.iter().enumerate() {
+            missing.cases(&format!("relay at place {} with reserved bits", place), reserved);
+        }
+        for (number, settings) in ROUTE_NUMBERS.iter().zip(&self.relay_reserved) {
+            missing.settings(&format!("relay with number {}", number), settings);
+        }
         for (place, whose) in self.broken.iter().enumerate() {
             missing.cases(&format!("relay refused by 43 where place {} is due, to it, to a marked one after it, to another: case", place), whose);
         }
@@ -706,6 +797,27 @@ impl Seen {
         missing.cases("a frame of I with a layer 3 octet outside the class, refused by 21, 22: case", &self.outside_before[0]);
         missing.cases("a frame of UI with a layer 3 octet outside the class, refused by 21, 22: case", &self.outside_before[1]);
     }
+
+    /// No address lacks a setting of its reserved bits that was written or canonical, or a number over 3, in use and not.
+    fn missing_reserved(&self, missing: &mut Missing) {
+        for ((writer, who), settings) in WRITERS.iter().zip(&self.reserved) {
+            if !matches!(writer, Writer::Content) {
+                missing.settings(who, settings);
+            }
+        }
+        missing.settings("canonical", &self.canonical_reserved);
+        for (name, rooms) in address_names().zip(&self.over) {
+            missing.cases(&format!("reserved bits over 3 in {}, refused by 22 with too little room, with enough: case", name), rooms);
+        }
+        missing.cases("reserved bits over 3, refused by 21, by 22 before 23, by 22 before 25: case", &self.over_beside);
+        missing.cases("reserved bits over 3 where they are not in use, at place", &self.over_unused);
+        missing.cases("printing with reserved bits (4: over 3)", &self.printed);
+    }
+}
+
+/// What a frame's addresses are called, in their order.
+fn address_names() -> impl Iterator<Item = String> {
+    ["the destination".to_string(), "the source".to_string()].into_iter().chain((0..REPEATERS).map(|place| format!("place {}", place)))
 }
 
 /// The names of what was never met.
@@ -728,6 +840,12 @@ impl Missing {
             if !absent.is_empty() {
                 self.0.push(format!("{}, {} with the layer 3 octets {}", what, kind, show::hex(&absent)));
             }
+        }
+    }
+
+    fn settings(&mut self, what: &str, settings: &Settings) {
+        for (name, cells) in address_names().zip(settings) {
+            self.cases(&format!("{}, {} with reserved bits", what, name), cells);
         }
     }
 

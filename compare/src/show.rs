@@ -28,7 +28,7 @@ pub fn text(octets: &[u8]) -> String {
 }
 
 pub fn address(flat: &[u8]) -> String {
-    format!("\"{}\"-{}", text(&flat[..6]), flat[6])
+    format!("\"{}\"-{} (reserved {})", text(&flat[..SSID]), flat[SSID], flat[RESERVED])
 }
 
 fn route(record: &Flat) -> String {

@@ -10,7 +10,7 @@ use crate::port::{Port, FRESH, HOPS, PLACES};
 use crate::relays::Own;
 use crate::show;
 use crate::streams;
-use ax25::frame::{Address, Ax25Frame};
+use ax25::frame::Address;
 
 /// Prints what differs; whether nothing does.
 fn verdict(found: Vec<Difference>) -> bool {
@@ -60,8 +60,13 @@ fn show_rust(input: &[u8]) {
     }
 }
 
-/// Says where one octet is not compared by the Rust's, but by that of the input, the record or the content.
+/// Says where bits are not compared by the Rust's, but by those of the input, the record or the content.
 fn show_masked(record: &Flat, whose: &str) {
+    let reserved: Vec<u8> = flat::reserved(record).collect();
+    if reserved.iter().any(|&reserved| reserved != flat::ONES) {
+        let own = format!("the {}'s own, {:?}", whose, reserved);
+        println!("the reserved bits are compared by {}: the Rust's addresses hold none, and it writes ones (B7)", own);
+    }
     if flat::is_layer_3(record) {
         let own = format!("the {}'s own, {:02X}", whose, record[PID_OCTET]);
         println!("the PID octet is compared by {}: the Rust's identifier holds none, and it writes 10 (B6)", own);
@@ -165,12 +170,13 @@ fn show_rust_writes(record: &Flat, info: &[u8], from: usize) {
 pub fn simple_ui(source: &[u8], destination: &[u8], info: &[u8]) -> bool {
     let (from, to) = (padded::<ADDRESS>(source), padded::<ADDRESS>(destination));
     println!("source {} destination {} info {}", show::address(&from), show::address(&to), show::hex(info));
-    if !domain::encodable(&from) || !domain::encodable(&to) {
+    if !domain::is_held(&from) || !domain::is_held(&to) {
         println!("the Rust holds no such address: nothing to compare");
         return true;
     }
-    let known = flat::addresses(&[from, to]);
-    println!("Rust: {:?}", Ax25Frame::new_simple_ui_frame(known[0].clone(), known[1].clone(), info.to_vec()));
+    let (frame, owed) = oracle::simple_ui(&from, &to, info);
+    println!("Rust: {:?}", frame);
+    show_masked(&owed, "record");
     let mut checker = Checker::thorough();
     let number = checker.port.simple_ui(source, destination, FLAT);
     println!("port: number {} {}", number, show::record(&padded(checker.port.output())));

@@ -1,6 +1,6 @@
 //! Texts, callsigns with SSIDs, and addresses to print.
 
-use crate::flat::{FlatAddress, ADDRESS};
+use crate::flat::{station, FlatAddress, ADDRESS, ONES, RESERVED, SSID};
 use crate::records::any_address;
 use crate::rng::Rng;
 
@@ -125,29 +125,28 @@ pub fn wide_parts(seed: u64, count: usize, each: EachParts) {
     wide(rng.next(), count, &mut |text| each(text, ssids.octet() % 20));
 }
 
-/// Each character at each place with each SSID near a limit, lent as seven octets, fewer, and more.
+/// Every SSID, and every number as the reserved bits; each character at each place with each SSID near a limit; lent as eight octets,
+/// fewer, and more.
 pub fn addresses(seed: u64, count: usize, each: Each) {
-    for ssid in 0..=255 {
-        for known in [b"BOX12 ", b"      ", b"A     ", b"ABCDEF", b"\0\0\0\0\0\0", b" A B  "] {
-            let mut address: FlatAddress = [0; ADDRESS];
-            address[..6].copy_from_slice(known);
-            address[6] = ssid;
-            each(&address);
+    for known in [b"BOX12 ", b"      ", b"A     ", b"ABCDEF", b"\0\0\0\0\0\0", b" A B  "] {
+        for octet in 0..=255 {
+            each(&[&known[..], &[octet, ONES]].concat());
+            each(&[&known[..], &[octet % 16, octet]].concat());
         }
     }
-    for at in 0..6 {
+    for at in 0..SSID {
         for octet in 0..=255 {
             for ssid in [0, 1, 9, 10, 15, 16] {
-                let mut address = *b"BOX12 \0";
+                let mut address = station(b"BOX12 \0");
                 address[at] = octet;
-                address[6] = ssid;
+                address[SSID] = ssid;
                 each(&address);
             }
         }
     }
     for length in 0..=12 {
-        each(&b"BOX123\x0bABCDEF"[..length]);
-        each(&b"      \x00zzzzzz"[..length]);
+        each(&b"BOX123\x0b\x02BCDEF"[..length]);
+        each(&b"      \x00\x01zzzzz"[..length]);
     }
     let mut rng = Rng::new(seed);
     for _ in 0..count {
@@ -155,9 +154,10 @@ pub fn addresses(seed: u64, count: usize, each: Each) {
     }
 }
 
-/// Pairs of addresses: equal, one octet changed to each other (case and padding among them), every two SSIDs, cut short, and seeded.
+/// Pairs of addresses: equal, one octet changed to each other (case and padding among them), every two SSIDs and every two numbers as
+/// reserved bits, one that the Rust can't hold beside itself with other reserved bits, cut short, and seeded.
 pub fn stations(seed: u64, count: usize, each: EachPair) {
-    let known: [&FlatAddress; 4] = [b"BOX12 \x03", b"abcDEF\x00", b"      \x0F", b"\0\0\0\0\0\0\x00"];
+    let known: [&FlatAddress; 4] = [b"BOX12 \x03\x03", b"abcDEF\x00\x02", b"      \x0F\x01", b"\0\0\0\0\0\0\x00\x00"];
     for address in known {
         for at in 0..ADDRESS {
             for octet in 0..=255 {
@@ -167,13 +167,19 @@ pub fn stations(seed: u64, count: usize, each: EachPair) {
                 each(&other, address);
             }
         }
+        for reserved in 0..=255 {
+            let wide = |reserved: u8| [&[0x80], &address[1..RESERVED], &[reserved]].concat();
+            each(&wide(ONES), &wide(reserved));
+        }
         for length in 0..=ADDRESS + 2 {
             each(&[&address[..], b"zz"].concat()[..length], address);
         }
     }
     for pair in 0..=0xFFFF_u16 {
-        let [one, other] = pair.to_be_bytes().map(|ssid| [b'B', b'O', b'X', b'1', b'2', b' ', ssid]);
-        each(&one, &other);
+        let [one, other] = pair.to_be_bytes();
+        let box12 = |ssid: u8, reserved: u8| [b'B', b'O', b'X', b'1', b'2', b' ', ssid, reserved];
+        each(&box12(one, ONES), &box12(other, ONES));
+        each(&box12(3, one), &box12(3, other));
     }
     let mut rng = Rng::new(seed);
     for _ in 0..count {
@@ -181,6 +187,9 @@ pub fn stations(seed: u64, count: usize, each: EachPair) {
         let mut other = if rng.chance(2) { one } else { any_address(&mut rng) };
         if rng.chance(3) {
             other[rng.below(ADDRESS)] ^= 1 << rng.below(8);
+        }
+        if rng.chance(2) {
+            other[RESERVED] = rng.octet();
         }
         each(&one, &other);
     }

@@ -25,7 +25,7 @@ fn show_written(answer: u32, length: usize, lent: &[u8]) {
 }
 
 fn decode(input: &[u8]) {
-    let mut flat = [0xEEu8; 95];
+    let mut flat = [0xEEu8; 105];
     let mut places: [usize; 5] = [0, 0, 0, 0, 0];
     show_answer(probe::probe_decode(input, &mut flat, &mut places));
     show_number(places[0]);
@@ -84,14 +84,14 @@ fn leave_by(letter: u8, one: &[u8], other: &[u8], ssid: u8, out: &mut [u8]) -> u
 fn size(letter: u8) -> usize {
     match letter {
         b'K' => 12,
-        b'T' => 7,
-        b'P' => 7,
-        _ => 92,
+        b'T' => 8,
+        b'P' => 8,
+        _ => 102,
     }
 }
 
 fn leave(letter: u8, one: &[u8], other: &[u8], ssid: u8) {
-    let mut out = [0xEEu8; 95];
+    let mut out = [0xEEu8; 105];
     show_answer(leave_by(letter, one, other, ssid, &mut out));
     show_lent(first(&out, shown(size(letter))));
 }
