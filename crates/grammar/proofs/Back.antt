@@ -50,7 +50,7 @@ groups-drop : (route : List RouteEntry) (total n : ℕ) (r : List ℕ) → drop 
 groups-drop route total n r = drop-at (groupsOf route total n) r (7 * n) (groups-length route total n)
 
 -- the group of repeater i among the groups
-pub group-in : (route : List RouteEntry) (total n i : ℕ) (r : List ℕ) → i < n
+group-in : (route : List RouteEntry) (total n i : ℕ) (r : List ℕ) → i < n
     → groupAt (groupsOf route total n ++ r) (7 * i) ≡ groupOf (repeaterAt route i .repeater) (repeaterAt route i .«has_repeated») (eqb (suc i) total)
 unfolding groupsOf
 group-in route total zero i r h = absurd (not-suc-le-zero h)
@@ -97,7 +97,7 @@ module _ (f : Ax25Frame) (i : List ℕ) (p : Plain f i) where
   pub after-dest : drop 7 (spell f i) ≡ src ++ tail
   after-dest = rw in-order (drop-at dest (src ++ tail) 7 (group-length _ _ _))
 
-  pub after-src : drop 14 (spell f i) ≡ tail
+  after-src : drop 14 (spell f i) ≡ tail
   after-src = sym (drop-drop 7 7 (spell f i)) ∙ rw after-dest (drop-at src tail 7 (group-length _ _ _))
 
   pub after-field : drop (14 + 7 * n) (spell f i) ≡ front (f .content) ++ i

@@ -1,7 +1,7 @@
 -- A fact of every octet, by one test that is computed at each of the 256.
 use Prim.Native.Nat.{ℕ, zero, suc, _<_, _+_}
-use mathlib.Core.Path.{_≡_, refl, subst, sym}
-use mathlib.Core.Bool.{Bool, true, false, false≢true, not, _&&_, _||_, Bool·beq}
+use mathlib.Core.Path.{_≡_, subst, sym}
+use mathlib.Core.Bool.{Bool, true, false, false≢true, not, _&&_, _||_}
 use mathlib.Core.List.{List, [], _∷_}
 use mathlib.Core.Logic.{⊎-elim}
 use native.Mathlib.Omega.{arith}
@@ -40,16 +40,6 @@ octet-test f t b h = below f 256 t b h
 -- two functions agree at every octet: `octet-same f g tt b h`
 pub octet-same : (f g : ℕ → ℕ) → T (every (λ n. eqb (f n) (g n)) 256) → (b : ℕ) → b < 256 → f b ≡ g b
 octet-same f g t b h = eqb→eq (f b) (g b) (octet-test (λ n. eqb (f n) (g n)) t b h)
-
--- two tests agree at every octet
-pub octet-agree : (f g : ℕ → Bool) → T (every (λ n. Bool·beq (f n) (g n)) 256) → (b : ℕ) → b < 256 → f b ≡ g b
-octet-agree f g t b h = agree (f b) (g b) (octet-test (λ n. Bool·beq (f n) (g n)) t b h)
-  where
-    agree : (x y : Bool) → T (Bool·beq x y) → x ≡ y
-    agree true true t = refl
-    agree true false t = absurd t
-    agree false true t = absurd t
-    agree false false t = refl
 
 -- wherever the one test passes, the other does
 pub octet-where : (f g : ℕ → Bool) → T (every (λ n. not (f n) || g n) 256) → (b : ℕ) → b < 256 → f b ≡ true → g b ≡ true
