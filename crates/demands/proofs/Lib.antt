@@ -5,3 +5,4 @@ pub mod Examples
 pub mod OneResult
 pub mod Relay
 pub mod Due
+pub mod Unseen

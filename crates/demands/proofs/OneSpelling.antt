@@ -9,7 +9,6 @@ use Rattle.octets.specs.Splice.{splice}
 use Rattle.octets.proofs.Splice.{splice-none}
 use Rattle.decode.specs.Answer.{isAccepted}
 use Rattle.decode.specs.Read.{decode, infoIn}
-use Rattle.frame.specs.Spell.{withMark}
 use Rattle.grammar.proofs.Back.{unique}
 use Rattle.spelling.specs.Canonical.{again}
 use Rattle.respelling.specs.Reencode.{reencode, reencoded}
@@ -24,7 +23,7 @@ pub one-spelling : (s : List ℕ) → Octets s → OneSpelling s
 one-spelling s o = record {
   exact = (
     (λ e. let w = canonical-plain s o e in
-        record { frame = withMark (decode s .frame); info = infoIn s (decode s); plain = w .0; spells = w .1 }),
+        record { frame = decode s .frame; info = infoIn s (decode s); plain = w .1; spells = w .2 }),
     (λ w. rw (w .spells) at (spell-canonical (w .frame) (w .info) (w .plain))),
   );
   one = λ a b. unique (a .frame) (b .frame) (a .info) (b .info) (a .plain) (b .plain) (a .spells ∙ sym (b .spells));

@@ -4,3 +4,4 @@ pub mod Shape
 pub mod Examples
 pub mod Relay
 pub mod Due
+pub mod Unseen

@@ -2,7 +2,7 @@
 use Prim.Native.Nat.{ℕ, zero, suc, _+_, _-_, _*_, _≤_, _<_}
 use mathlib.Core.Path.{_≡_, refl, ap, sym, _∙_}
 use mathlib.Core.Bool.{Bool, true, false, true≢false, false≢true, _&&_}
-use mathlib.Core.List.{List, _++_, append-assoc}
+use mathlib.Core.List.{List, _++_}
 use native.Mathlib.Omega.{arith}
 use borrow.Author.Tests.{lt-ltb, eqb-true, eqb-false, leb-true, leb-false}
 use lib.Dec.{eqb, leb, eqb·suc-suc, eqb·zero-suc, eqb·suc-zero}
@@ -81,10 +81,11 @@ zero-sym : (n : ℕ) → eqb 0 n ≡ eqb n 0
 zero-sym zero = refl
 zero-sym (suc n) = eqb·zero-suc n ∙ sym (eqb·suc-zero n)
 
-rejoin : (s : List ℕ) (n : ℕ) → (take 7 s ++ (take 7 (drop 7 s) ++ take (7 * n) (drop 14 s))) ++ drop (14 + 7 * n) s ≡ s
-rejoin s n =
-    simp append-assoc
-    (rw (← drop-drop (7 * n) 14 s, take-append-drop (7 * n) (drop 14 s), ← drop-drop 7 7 s, take-append-drop 7 (drop 7 s), take-append-drop 7 s))
+-- an address field's octets are those of its groups
+field-parts : (s : List ℕ) (n : ℕ) → take 7 s ++ (take 7 (drop 7 s) ++ take (7 * n) (drop 14 s)) ≡ take (14 + 7 * n) s
+field-parts s n =
+    let q : 14 + 7 * n ≡ 7 + (7 + 7 * n) = omega arith in
+    rw (q, take-add 7 (7 + 7 * n) s, take-add 7 (7 * n) (drop 7 s), drop-drop 7 7 s)
 
 module _ (s : List ℕ) (o : Octets s) (n : ℕ) (end : endOf s ≡ 13 + 7 * n) (inside : endOf s < length s) (few : n ≤ 8) where
   -- the low bit of a group's seventh octet
@@ -117,25 +118,26 @@ module _ (s : List ℕ) (o : Octets s) (n : ℕ) (end : endOf s ≡ 13 + 7 * n) 
       rw (routes-again m (omega arith), route-at s 14 n m h few, q, take-add (7 * m) 7 (drop 14 s), drop-drop (7 * m) 14 s)
       (ap (λ (x : List ℕ). take (7 * m) (drop 14 s) ++ x) (rw at (group-again (suc (suc m)) (omega arith) (eqb (suc m) n) (eqb·suc-suc (suc m) n))))
 
-  spell-again : (k : FrameContent) (i : List ℕ) → startOf s ≡ 0 → marked (commandOf (parsedAt s 0 .«high_bit») (parsedAt s 7 .«high_bit»)) ≡ true
-      → front k ++ i ≡ drop (14 + 7 * n) s → spell (frameAt s (startOf s) n k) i ≡ s
+  -- the address field is spelled again as it was read, whatever follows it
+  pub spell-again : (k : FrameContent) (i : List ℕ) → startOf s ≡ 0 → marked (frameAt s (startOf s) n k .«command_or_response») ≡ true
+      → spell (frameAt s (startOf s) n k) i ≡ take (14 + 7 * n) s ++ (front k ++ i)
   unfolding spell addressField frameAt
-  spell-again k i start m tail =
-      let b = marks-back (parsedAt s 0 .«high_bit») (parsedAt s 7 .«high_bit») m in
+  spell-again k i start m =
+      let b = marks-back (parsedAt s 0 .«high_bit») (parsedAt s 7 .«high_bit») (rw start at m) in
       rw (
         start,
         b .0,
         b .1,
-        tail,
         group-again 0 (omega arith) false (eqb·zero-suc n),
         group-again 1 (omega arith) (eqb n 0) (eqb·suc-suc 0 n ∙ zero-sym n),
         routes-again n (omega arith),
+        field-parts s n,
       )
-      (rejoin s n)
+      refl
 
 module _ (s : List ℕ) (o : Octets s) (a : Accepts s (decode s)) where
   -- info stands after control and PID
-  info-tail : infoIn s (decode s) ≡ infoOf (a .kind) (drop (endOf s + 1) s)
+  pub info-tail : infoIn s (decode s) ≡ infoOf (a .kind) (drop (endOf s + 1) s)
   unfolding acceptedWith frameAt
   info-tail = rw (a .made)
       (by (hasInfo (a .kind))
@@ -143,7 +145,7 @@ module _ (s : List ℕ) (o : Octets s) (a : Accepts s (decode s)) where
       (take-all (length s - (endOf s + 1 + 2)) (drop (endOf s + 1 + 2) s) (rw length-drop (omega arith))))
       (λ e. simp e))
 
-  made-frame : decode s .frame ≡ frameAt s (startOf s) (a .count) (a .kind)
+  pub made-frame : decode s .frame ≡ frameAt s (startOf s) (a .count) (a .kind)
   unfolding acceptedWith
   made-frame = ap (λ (d : Decoded). d .frame) (a .made)
 
@@ -176,7 +178,8 @@ module _ (s : List ℕ) (o : Octets s) (a : Accepts s (decode s)) where
       let tail : front (a .kind) ++ infoIn s (decode s) ≡ drop (14 + 7 * n) s =
       ap (λ (y : List ℕ). front (a .kind) ++ y) info-tail ∙ x ∙ ap (λ (j : ℕ). drop j s) at in
       rw made-frame
-      (spell-again s o n end (a .end-in) (a .few) (a .kind) (infoIn s (decode s)) start (t3 .0) tail)
+      (spell-again s o n end (a .end-in) (a .few) (a .kind) (infoIn s (decode s)) start (rw start (t3 .0))
+      ∙ rw (tail, take-append-drop (14 + 7 * n) s) refl)
 
 -- the mark of a group, by its last octet in the input
 pub parsed-mark : (s : List ℕ) (at : ℕ) → parsedAt s at .«high_bit» ≡ markSet (getD s (at + 6) 0)

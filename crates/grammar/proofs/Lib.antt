@@ -8,3 +8,4 @@ pub mod Refused
 pub mod Marks
 pub mod Parts
 pub mod Stations
+pub mod Unseen

@@ -16,12 +16,13 @@ ghost use Rattle.decode.specs.Read.{startOf, decode};
 ghost use Rattle.frame.specs.Frame.{writeNumber, defaultFrame};
 ghost use Rattle.frame.specs.Spell.{spell};
 ghost use Rattle.grammar.specs.Stations.{Reserves};
-ghost use Rattle.spelling.specs.Canonical.{again};
+ghost use Rattle.spelling.specs.Canonical.{again, canonical};
 ghost use Rattle.respelling.specs.declared.ReencodeAnswer.the-variants.{Written as Done, Refused, NoRoom};
 ghost use Rattle.octets.specs.Table.{FirstRow};
 ghost use Rattle.demands.specs.Numbers.{decodeTable, writeTable};
 ghost use Rattle.octets.specs.Lent.{starting};
 ghost use Rattle.demands.specs.OneSpelling.{Spelled, Respelled};
+ghost use Rattle.demands.specs.Unseen.{NothingUnseen};
 
 // Demand 3: yes exactly when some plain frame spells the input.
 pub fn canonical(bytes: &[u8]) -> bool
@@ -69,4 +70,34 @@ pub fn respelled(bytes: &[u8], out: &mut [u8]) -> Reencoded
     ensures { λ r. ⌜ (isAccepted (decode (now (bytes .entry)) .answer) ≡ true → Respelled (now (bytes .entry)) (again (now (bytes .entry)))) ⌝ }
 {
     respelling::reencode(bytes, out)
+}
+
+// What the radio desk has of an input: whether it is canonical, and what is decoded of it.
+pub struct Looked {
+    canonical: bool,
+    decoded: Decoded,
+}
+
+pub struct Pair {
+    one: Looked,
+    other: Looked,
+}
+
+// Document 02, M-107: nothing is unseen where the one input is canonical and the other as long. All else is as the rules read it.
+pub fn compared(one: &[u8], other: &[u8]) -> Pair
+    ensures { λ r. ⌜ (r .one .canonical ≡ true
+        → NothingUnseen (now (one .entry)) (r .one .decoded) (now (other .entry)) (r .other .decoded) (r .other .canonical)) ⌝ }
+    ensures { λ r. ⌜ (r .one .canonical ≡ canonical (now (one .entry))) × (r .one .decoded ≡ decode (now (one .entry)))
+        × (r .other .canonical ≡ canonical (now (other .entry))) × (r .other .decoded ≡ decode (now (other .entry))) ⌝ }
+{
+    Pair {
+        one: Looked {
+            canonical: spelling::is_canonical(one),
+            decoded: reading::from_bytes(one),
+        },
+        other: Looked {
+            canonical: spelling::is_canonical(other),
+            decoded: reading::from_bytes(other),
+        },
+    }
 }

@@ -140,16 +140,16 @@ same false true t = absurd t
 same false false t = refl
 
 module _ (z y x w : Bool) where
-  z-back : bit 3 (flagged z y x w) ≡ z
+  pub z-back : bit 3 (flagged z y x w) ≡ z
   z-back = same _ _ (bits-always (λ z y x w. Bool·beq (bit 3 (flagged z y x w)) z) tt z y x w)
 
-  y-back : bit 2 (flagged z y x w) ≡ y
+  pub y-back : bit 2 (flagged z y x w) ≡ y
   y-back = same _ _ (bits-always (λ z y x w. Bool·beq (bit 2 (flagged z y x w)) y) tt z y x w)
 
-  x-back : bit 1 (flagged z y x w) ≡ x
+  pub x-back : bit 1 (flagged z y x w) ≡ x
   x-back = same _ _ (bits-always (λ z y x w. Bool·beq (bit 1 (flagged z y x w)) x) tt z y x w)
 
-  w-back : bit 0 (flagged z y x w) ≡ w
+  pub w-back : bit 0 (flagged z y x w) ≡ w
   w-back = same _ _ (bits-always (λ z y x w. Bool·beq (bit 0 (flagged z y x w)) w) tt z y x w)
 
 pub flags-below : (z y x w : Bool) → flagged z y x w < 16

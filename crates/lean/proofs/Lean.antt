@@ -24,14 +24,16 @@ use Rattle.content.specs.declared.FrameContent.{FrameContent}
 use Rattle.content.specs.declared.FrameContent.the-variants as kind
 
 -- an octet that is taken apart and put together again
-numbered-again : (b : ℕ) → b < 256 → numbered (receiveOf b) (pollOf b) (sKind b) ≡ b
+pub numbered-again : (b : ℕ) → b < 256 → numbered (receiveOf b) (pollOf b) (sKind b) ≡ b
 numbered-again b h = octet-same (λ n. numbered (receiveOf n) (pollOf n) (sKind n)) (λ n. n) tt b h
 
-sent-again : (b : ℕ) → b < 256 → field 0 1 b ≡ 0 → numbered (receiveOf b) (pollOf b) (sent (sendOf b)) ≡ b
-sent-again b h e =
-    octet-same (λ n. numbered (receiveOf n) (pollOf n) (sent (sendOf n))) (λ n. n / 2 * 2) tt b h ∙ omega arith
+sent-even : (b : ℕ) → b < 256 → numbered (receiveOf b) (pollOf b) (sent (sendOf b)) ≡ b / 2 * 2
+sent-even b h = octet-same (λ n. numbered (receiveOf n) (pollOf n) (sent (sendOf n))) (λ n. n / 2 * 2) tt b h
 
-unnumbered-again : (b : ℕ) → b < 256 → unnumbered (uKind b) (pollOf b) ≡ b
+pub sent-again : (b : ℕ) → b < 256 → field 0 1 b ≡ 0 → numbered (receiveOf b) (pollOf b) (sent (sendOf b)) ≡ b
+sent-again b h e = sent-even b h ∙ omega arith
+
+pub unnumbered-again : (b : ℕ) → b < 256 → unnumbered (uKind b) (pollOf b) ≡ b
 unnumbered-again b h = octet-same (λ n. unnumbered (uKind n) (pollOf n)) (λ n. n) tt b h
 
 flags-again : (b : ℕ) → b < 256 → field 4 4 b ≡ 0 → flag 3 (bit 3 b) + flag 2 (bit 2 b) + flag 1 (bit 1 b) + flag 0 (bit 0 b) ≡ b
@@ -42,9 +44,9 @@ response-again : (b : Bool) → isResponse (cond b Response Command) ≡ b
 response-again true = refl
 response-again false = refl
 
-copy-again : (b : ℕ) → b < 256 → field 0 1 b ≡ 0 → numbered (receiveOf b) (isResponse (responseOf b)) (sent (sendOf b)) ≡ b
+pub copy-even : (b : ℕ) → b < 256 → numbered (receiveOf b) (isResponse (responseOf b)) (sent (sendOf b)) ≡ b / 2 * 2
 unfolding responseOf
-copy-again b h e = rw (response-again (bit 4 b)) (sent-again b h e)
+copy-even b h = rw (response-again (bit 4 b)) (sent-even b h)
 
 -- a list by its elements
 one-part : (s : List ℕ) (a : ℕ) → length s ≡ 1 → a ≡ getD s 0 0 → a ∷ [] ≡ s
@@ -134,7 +136,7 @@ module _ (s : List ℕ) (o : Octets s) (passed : lean s ≡ true) where
       let tidy = both (eqb (field 4 4 (getD s 1 0)) 0) (eqb (field 0 1 (getD s 2 0)) 0) (sym (lean-frmr s t) ∙ passed) in
       four-parts s _ _ _ _ n (rw t at (unnumbered-again (getD s 0 0) (o 0)))
       (flags-again (getD s 1 0) (o 1) (eqb-true (field 4 4 (getD s 1 0)) 0 (tidy .0)))
-      (copy-again (getD s 2 0) (o 2) (eqb-true (field 0 1 (getD s 2 0)) 0 (tidy .1))) refl
+      (copy-even (getD s 2 0) (o 2) ∙ omega (arith, eqb-true (field 0 1 (getD s 2 0)) 0 (tidy .1))) refl
   lean-exact (ui-frame n t) = info-exact s o (ui-frame n t) refl
 
 low-none : (n : ℕ) (p : Bool) (m : ℕ) → field 0 1 (numbered n p (sent m)) ≡ 0

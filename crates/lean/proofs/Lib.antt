@@ -1,3 +1,4 @@
 pub mod Back
 pub mod Lean
 pub mod Laws
+pub mod Unseen

@@ -1,15 +1,15 @@
 -- A fact of every octet, by one test that is computed at each of the 256.
-use Prim.Native.Nat.{ℕ, zero, suc, _<_, _+_}
-use mathlib.Core.Path.{_≡_, subst, sym}
+use Prim.Native.Nat.{ℕ, zero, suc, _<_, _≤_, _+_, _*_, _/_}
+use mathlib.Core.Path.{_≡_, subst, sym, _∙_}
 use mathlib.Core.Bool.{Bool, true, false, false≢true, not, _&&_, _||_}
 use mathlib.Core.List.{List, [], _∷_}
 use mathlib.Core.Logic.{⊎-elim}
 use native.Mathlib.Omega.{arith}
 use native.Mathlib.Nat.{eq-or-lt-of-le, le-of-suc-le-suc, not-suc-le-zero}
 use lib.Dec.{T, eqb, eqb→eq}
-use lib.ListN.{drop, take}
-use lib.Seq.{getD-drop}
-use Rattle.octets.specs.Octet.{Octets}
+use lib.ListN.{length, getD, drop, take}
+use lib.Seq.{getD-drop, ext-getD}
+use Rattle.octets.specs.Octet.{Octets, bit, flag}
 use Rattle.octets.proofs.Choice.{so}
 
 -- the test passes at every number below n
@@ -49,6 +49,32 @@ octet-where f g t b h e = follows (f b) (g b) (octet-test (λ n. not (f n) || g 
     follows true y t e = so y t
     follows false y t e = absurd (false≢true e)
 
+-- an octet by its bits: two with the same bits from 1 on are the same but for bit 0, and with that they are the same
+abbrev upper : ℕ → ℕ
+upper b =
+    flag 7 (bit 7 b) + flag 6 (bit 6 b) + flag 5 (bit 5 b) + flag 4 (bit 4 b) + flag 3 (bit 3 b) + flag 2 (bit 2 b) + flag 1 (bit 1 b)
+
+module _ (a b : ℕ) (h : a < 256) (l : b < 256) where
+  pub upper-bits : ((j : ℕ) → 1 ≤ j → j < 8 → bit j a ≡ bit j b) → a / 2 * 2 ≡ b / 2 * 2
+  upper-bits f =
+      octet-same (λ n. n / 2 * 2) upper tt a h
+      ∙ rw (
+        f 7 (omega arith) (omega arith),
+        f 6 (omega arith) (omega arith),
+        f 5 (omega arith) (omega arith),
+        f 4 (omega arith) (omega arith),
+        f 3 (omega arith) (omega arith),
+        f 2 (omega arith) (omega arith),
+        f 1 (omega arith) (omega arith),
+      )
+      (sym (octet-same (λ n. n / 2 * 2) upper tt b l))
+
+  pub all-bits : ((j : ℕ) → j < 8 → bit j a ≡ bit j b) → a ≡ b
+  all-bits f =
+      octet-same (λ n. n) (λ n. n / 2 * 2 + flag 0 (bit 0 n)) tt a h
+      ∙ rw (upper-bits (λ j _ m. f j m), f 0 (omega arith))
+      (sym (octet-same (λ n. n) (λ n. n / 2 * 2 + flag 0 (bit 0 n)) tt b l))
+
 -- the test passes either way
 abbrev pub always : (Bool → Bool) → Bool
 always f = f true && f false
@@ -68,6 +94,10 @@ bits-always f t z y x w =
 -- what is left of octets is octets
 pub octets-drop : (s : List ℕ) (n : ℕ) → Octets s → Octets (drop n s)
 octets-drop s n o k = rw getD-drop (o (n + k))
+
+-- as many octets with the same bits are the same octets
+pub octets-same : (s t : List ℕ) → Octets s → Octets t → length s ≡ length t → ((k j : ℕ) → j < 8 → bit j (getD s k 0) ≡ bit j (getD t k 0)) → s ≡ t
+octets-same s t o p l f = ext-getD 0 s t l (λ k _. all-bits (getD s k 0) (getD t k 0) (o k) (p k) (f k))
 
 -- each element below 256, one by one
 abbrev pub Each : List ℕ → Type 0

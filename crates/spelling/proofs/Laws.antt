@@ -1,6 +1,6 @@
 -- The canonical check is exact, and an accepted input spelled again is canonical: the facts that the demands state.
 use Prim.Native.Nat.{ℕ, _+_, _*_, _≤_, _<_}
-use mathlib.Core.Path.{_≡_, _∙_}
+use mathlib.Core.Path.{_≡_, ap, sym, subst, _∙_}
 use mathlib.Core.Bool.{true, false}
 use mathlib.Core.List.{List}
 use lib.ListN.{length, drop}
@@ -22,13 +22,19 @@ use Rattle.grammar.proofs.Direct.{direct-spelled, direct-again}
 use Rattle.grammar.proofs.Stations.{reserved-again}
 use Rattle.spelling.specs.Canonical.{again, canonical}
 
--- a canonical input is what some plain frame spells
+-- a canonical input is accepted, and its frame, which is plain, spells it
 pub canonical-plain : (s : List ℕ) → Octets s → canonical s ≡ true
-    → Plain (withMark (decode s .frame)) (infoIn s (decode s)) × (spell (withMark (decode s .frame)) (infoIn s (decode s)) ≡ s)
+    → (isAccepted (decode s .answer) ≡ true) × Plain (decode s .frame) (infoIn s (decode s)) × (spell (decode s .frame) (infoIn s (decode s)) ≡ s)
 unfolding canonical again
 canonical-plain s o e =
     let h = both (isAccepted (decode s .answer)) _ e in
-    (read s o (h .0) .plain, mark-spell _ _ ∙ same-eq _ s (h .1))
+    let i : List ℕ = infoIn s (decode s) in
+    let r = read s o (h .0) in
+    let spells : spell (decode s .frame) i ≡ s = same-eq _ s (h .1) in
+    -- the frame that was read of it is the one with a mark, so that it has one
+    let whole : decode s .frame ≡ withMark (decode s .frame) =
+    ap (λ (t : List ℕ). decode t .frame) (sym (mark-spell (decode s .frame) i ∙ spells)) ∙ frame-spell _ i (r .plain) ∙ use-mark _ (r .kept) in
+    (h .0, subst (λ (f : Ax25Frame). Plain f i) (sym whole) (r .plain), spells)
 
 -- what a plain frame spells is re-encoded as itself
 again-spell : (f : Ax25Frame) (i : List ℕ) → Plain f i → again (spell f i) ≡ spell f i
@@ -49,7 +55,7 @@ module _ (s : List ℕ) (o : Octets s) where
       → canonical s ≡ direct s (decode s .frame .«route_count»)
   canonical-direct a =
       equal (canonical s) _
-      (λ e. let w = canonical-plain s o e in rw (w .1) at (direct-spelled _ _ (w .0)))
+      (λ e. let w = canonical-plain s o e in rw (w .2) at (direct-spelled _ _ (w .1)))
       (λ e. again-canonical a (direct-again s o (accepts s a) e))
 
   -- of a kind with info re-encoding keeps every octet after the address field

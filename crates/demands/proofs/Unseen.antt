@@ -1,0 +1,104 @@
+-- Document 02, M-107, proved: what is read alike at equal length is the same octets, save for excepted bits, and nothing less is excepted.
+use Prim.Native.Nat.{ℕ, _+_, _-_, _*_, _<_}
+use mathlib.Core.Path.{_≡_, refl, ap, sym, _∙_}
+use mathlib.Core.Bool.{true, false}
+use mathlib.Core.List.{List, [], _∷_, map}
+use native.Mathlib.Omega.{arith}
+use borrow.Author.Tests.{leb-true, leb-false, le-leb, lt-leb}
+use lib.Dec.{leb}
+use lib.ListN.{length, getD}
+use Rattle.octets.specs.First.{first}
+use Rattle.octets.specs.Octet.{Octets, bit}
+use Rattle.octets.specs.Same.{same}
+use Rattle.octets.proofs.Choice.{by, and-false}
+use Rattle.octets.proofs.Octet.{all-bits, octets-same}
+use Rattle.protocol.specs.Pid.{among, pidOf}
+use Rattle.address.specs.Address.{noCall}
+use Rattle.address.specs.Group.{addressOf, markOf, ssidOctet, groupOf}
+use Rattle.content.specs.declared.FrameReject.{FrameReject}
+use Rattle.content.specs.declared.FrameContent.the-variants as kind
+use Rattle.parse.specs.Content.{iOf, sOf, uiOf, responseOf, frmrOf, uOf, contentOf}
+use Rattle.lean.specs.Unseen.{unseen}
+use Rattle.lean.proofs.Unseen.{only-frmr}
+use Rattle.frame.specs.Frame.{noEntry, noRoute, simpleUi, defaultFrame}
+use Rattle.frame.specs.Spell.{groupsOf, addressField, spell, marked}
+use Rattle.frame.specs.declared.Ax25Frame.{Ax25Frame}
+use Rattle.decode.specs.Answer.{isAccepted}
+use Rattle.decode.specs.Read.{endOf, parsedAt, entryAt, placeAt, routeAt, frameAt, refusedWith, acceptedWith, withContent, decodeField, decode, infoIn}
+use Rattle.grammar.proofs.Back.{spelled-end}
+use Rattle.grammar.proofs.Plain.{read}
+use Rattle.grammar.proofs.Unseen.{SpelledAlike, spelled-alike, read-alike, info-alike}
+use Rattle.spelling.specs.Canonical.{again, canonical}
+use Rattle.spelling.proofs.Laws.{canonical-plain}
+use Rattle.demands.specs.Unseen.{Alike, SameSave, NothingUnseen, exceptions, reject, rejects, beside, unseenAt, longer, seen}
+
+module _ (s t : List ℕ) (o : Octets s) (p : Octets t) (c : canonical s ≡ true) where
+  abbrev f : Ax25Frame
+  f = decode s .frame
+
+  abbrev after : ℕ
+  after = 14 + 7 * f .«route_count»
+
+  accepted : isAccepted (decode s .answer) ≡ true
+  accepted = canonical-plain s o c .0
+
+  spells : spell f (infoIn s (decode s)) ≡ s
+  spells = canonical-plain s o c .2
+
+  -- its content starts there
+  ends : endOf s + 1 ≡ after
+  ends =
+      let e : endOf s ≡ 13 + 7 * f .«route_count» =
+      rw spells at (spelled-end f (infoIn s (decode s)) (canonical-plain s o c .1)) in
+      omega arith
+
+  same-frame : isAccepted (decode t .answer) ≡ true → Alike s (decode s) t (decode t) → decode t .frame ≡ f
+  same-frame e a = sym (read t p e .kept) ∙ a .frame ∙ read s o accepted .kept
+
+  -- what the frame and the info of t spell is s
+  spelled : Alike s (decode s) t (decode t) → spell (decode t .frame) (infoIn t (decode t)) ≡ s
+  spelled a = rw (same-frame (a .accepted) a, a .info) spells
+
+  fits : length t ≡ length s → (a : Alike s (decode s) t (decode t)) → SpelledAlike t f s
+  fits l a =
+      let m : marked (decode t .frame .«command_or_response») ≡ true = rw (same-frame (a .accepted) a) (canonical-plain s o c .1 .mark) in
+      let w : length (spell (decode t .frame) (infoIn t (decode t))) ≡ length t = rw (spelled a) (sym l) in
+      rw (spelled a, same-frame (a .accepted) a) at (spelled-alike t p (a .accepted) m w)
+
+  same-save : length t ≡ length s → Alike s (decode s) t (decode t) → SameSave f s t
+  same-save l a k j h x =
+      by (leb after k)
+      (λ e. let at : after + (k - after) ≡ k = omega (arith, leb-true after k e) in
+      sym (rw at at (fits l a .content (k - after) j h (rw e at x))))
+      (λ e. ap (bit j) (sym (fits l a .field k (leb-false after k e))))
+
+  octets : length t ≡ length s → Alike s (decode s) t (decode t) → ((r : FrameReject) → f .content ≡ kind.FrameReject r → ⊥) → t ≡ s
+  octets l a n = octets-same t s p o l (λ k j h. same-save l a k j h (rw (only-frmr (f .content) n (k - after) j) (and-false (leb after k))))
+
+  tight : length t ≡ length s → SameSave f s t → Alike s (decode s) t (decode t)
+  tight l x =
+      let field : (k : ℕ) → k < endOf s + 1 → getD t k 0 ≡ getD s k 0 =
+      λ k h. let before : k < after = rw (← ends) h in
+      all-bits (getD t k 0) (getD s k 0) (p k) (o k) (λ j b. x k j b (rw (lt-leb after k before) refl)) in
+      let content : (i j : ℕ) → j < 8 → unseen (f .content) i j ≡ false → bit j (getD t (endOf s + 1 + i) 0) ≡ bit j (getD s (endOf s + 1 + i) 0) =
+      λ i j b u. let back : after + i - after ≡ i = omega arith in
+      rw ends (x (after + i) j b (rw (le-leb after (after + i) (omega arith), back) u)) in
+      let d = read-alike s t o p accepted l field content in
+      record { accepted = rw d accepted; frame = rw d refl; info = info-alike s t o p accepted l field content }
+
+  one : canonical t ≡ true → Alike s (decode s) t (decode t) → t ≡ s
+  one e a = sym (canonical-plain t p e .2) ∙ spelled a
+
+  pub nothing-unseen : NothingUnseen s (decode s) t (decode t) (canonical t)
+  nothing-unseen = record { same = same-save; octets = octets; tight = tight; canonical = one }
+
+-- tight, by computing: the five inputs differ from the FRMR in one excepted bit each, which are all there are, and decode as it does
+pub rejects-alike : (canonical reject ≡ true) × (map beside rejects ≡ map unseenAt (exceptions reject))
+unfolding first same among pidOf noCall addressOf markOf ssidOctet groupOf responseOf frmrOf uOf contentOf noEntry noRoute simpleUi defaultFrame parsedAt entryAt placeAt routeAt frameAt refusedWith acceptedWith withContent decodeField decode groupsOf addressField spell again canonical unseen
+rejects-alike = (refl, refl)
+
+-- lengths are needed: each of the longer inputs is read as the canonical one
+pub lengths-needed : (map (λ (b : List ℕ × List ℕ). canonical (b .0)) longer ≡ true ∷ true ∷ true ∷ [])
+    × (map (λ (b : List ℕ × List ℕ). seen (b .1)) longer ≡ map (λ (b : List ℕ × List ℕ). seen (b .0)) longer)
+unfolding first same among pidOf noCall addressOf markOf ssidOctet groupOf iOf sOf uiOf uOf contentOf noEntry noRoute simpleUi defaultFrame parsedAt entryAt placeAt routeAt frameAt refusedWith acceptedWith withContent decodeField decode groupsOf addressField spell again canonical
+lengths-needed = (refl, refl)

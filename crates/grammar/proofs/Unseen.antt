@@ -1,0 +1,185 @@
+-- What decoding does not look at, of octets that are as many: an accepted input as long as what its frame spells is that, save for unseen
+-- bits of its content; and an input that differs from an accepted one in such bits alone is read alike.
+use Prim.Native.Nat.{ℕ, _+_, _*_, _≤_, _<_}
+use mathlib.Core.Path.{_≡_, refl, ap, sym, subst, _∙_}
+use mathlib.Core.Bool.{true, false}
+use mathlib.Core.List.{List, _++_}
+use native.Mathlib.Omega.{arith}
+use borrow.Author.Tests.{ltb-true}
+use lib.Dec.{ltb}
+use lib.ListN.{length, length-append, length-drop, getD, take, drop, List·getD-append}
+use lib.Seq.{drop-drop, getD-take, getD-drop, getD-append-add, length-take-le, ext-getD}
+use Rattle.octets.specs.Octet.{Octets, bit}
+use Rattle.octets.proofs.Choice.{by}
+use Rattle.octets.proofs.First.{first-passes, first-before, first-is}
+use Rattle.octets.proofs.Octet.{octets-drop, octets-same}
+use Rattle.octets.proofs.Place.{getD-part}
+use Rattle.content.specs.Spell.{hasInfo, front, spellContent}
+use Rattle.content.specs.declared.FrameContent.{FrameContent}
+use Rattle.parse.specs.Content.{contentOf}
+use Rattle.parse.specs.declared.ContentAnswer.the-variants.{Accepted}
+use Rattle.lean.specs.Lean.{infoOf}
+use Rattle.lean.specs.Unseen.{unseen}
+use Rattle.lean.proofs.Laws.{content-fits, content-kept}
+use Rattle.lean.proofs.Unseen.{content-bits, unseen-read, info-seen}
+use Rattle.frame.specs.Spell.{spell, marked}
+use Rattle.frame.specs.declared.Ax25Frame.{Ax25Frame}
+use Rattle.frame.proofs.Write.{spell-length}
+use Rattle.decode.specs.Answer.{isAccepted}
+use Rattle.decode.specs.Read.{nonzero, startOf, endOf, groupAt, parsedAt, entryAt, placeAt, routeAt, frameAt, acceptedWith, withContent, decodeField, decode, infoIn}
+use Rattle.decode.proofs.Accepts.{Accepts, accepts}
+use Rattle.grammar.proofs.Direct.{spell-again, info-tail, made-frame}
+
+-- of an accepted input as long as what its frame spells
+module _ (s : List ℕ) (o : Octets s) (a : Accepts s (decode s))
+    (m : marked (decode s .frame .«command_or_response») ≡ true) (l : length (spell (decode s .frame) (infoIn s (decode s))) ≡ length s) where
+  abbrev n : ℕ
+  n = a .count
+
+  abbrev k : FrameContent
+  k = a .kind
+
+  abbrev c : List ℕ
+  c = drop (endOf s + 1) s
+
+  again-room : length (front k) + length (infoOf k c) ≤ length c
+  again-room =
+      by (hasInfo k)
+      (λ e. let w = ap (λ (x : List ℕ). length x) (content-kept c (octets-drop s (endOf s + 1) o) k (a .read) e) in
+      omega (arith, w, length-append (front k) (infoOf k c)))
+      (λ e. rw e (omega (arith, content-fits c k (a .read))))
+
+  -- nothing stands before the address field, left over in it, or after the content
+  exact : (startOf s ≡ 0) × (endOf s ≡ 13 + 7 * n) × (length (front k ++ infoOf k c) ≡ length c)
+  unfolding frameAt
+  exact =
+      let long = a .long in
+      let counted = a .counted in
+      let inside = a .end-in in
+      let rest = length-drop (endOf s + 1) s in
+      let join = length-append (front k) (infoOf k c) in
+      let w : 14 + 7 * n + length (front k) + length (infoOf k c) ≡ length s =
+      sym (rw (made-frame s o a, info-tail s o a) at (spell-length (decode s .frame) (infoIn s (decode s)))) ∙ rw (made-frame s o a, info-tail s o a) at l in
+      (omega (arith, again-room), omega (arith, again-room), omega (arith, again-room))
+
+  -- what it is, and what its frame spells, by the octets after the address field
+  spelled : spell (decode s .frame) (infoIn s (decode s)) ≡ take (14 + 7 * n) s ++ spellContent k (infoOf k c)
+  spelled =
+      let x = exact in
+      rw (made-frame s o a, info-tail s o a)
+      (spell-again s o n (x .1) (a .end-in) (a .few) k (infoOf k c) (x .0) (rw (made-frame s o a) at m))
+
+  field-long : length (take (14 + 7 * n) s) ≡ 14 + 7 * n
+  field-long = let x = exact in let inside = a .end-in in length-take-le (14 + 7 * n) s (omega arith)
+
+  spelled-field : (p : ℕ) → p < 14 + 7 * n → getD (spell (decode s .frame) (infoIn s (decode s))) p 0 ≡ getD s p 0
+  spelled-field p h =
+      rw spelled
+      (List·getD-append (take (14 + 7 * n) s) _ 0 p (rw field-long h) ∙ getD-take (14 + 7 * n) s p 0 h)
+
+  spelled-content : (i j : ℕ) → j < 8 → unseen k i j ≡ false
+      → bit j (getD (spell (decode s .frame) (infoIn s (decode s))) (14 + 7 * n + i) 0) ≡ bit j (getD s (14 + 7 * n + i) 0)
+  spelled-content i j h u =
+      let x = exact in
+      let at : 14 + 7 * n ≡ endOf s + 1 = omega arith in
+      let there : getD (spell (decode s .frame) (infoIn s (decode s))) (14 + 7 * n + i) 0 ≡ getD (spellContent k (infoOf k c)) i 0 =
+      rw spelled
+      (ap (λ (y : ℕ). getD (take (14 + 7 * n) s ++ spellContent k (infoOf k c)) (y + i) 0) (sym field-long)
+      ∙ getD-append-add (take (14 + 7 * n) s) (spellContent k (infoOf k c)) i 0) in
+      rw there (content-bits c (octets-drop s (endOf s + 1) o) k (a .read) (x .2) i j h u
+      ∙ ap (bit j) (getD-drop (endOf s + 1) s i 0 ∙ ap (λ (y : ℕ). getD s (y + i) 0) (sym at)))
+
+-- the same said of the decoded frame
+pub record SpelledAlike (s : List ℕ) (f : Ax25Frame) (t : List ℕ) : Type 0 where
+  pub field : (p : ℕ) → p < 14 + 7 * f .«route_count» → getD t p 0 ≡ getD s p 0
+  pub content : (i j : ℕ) → j < 8 → unseen (f .content) i j ≡ false
+      → bit j (getD t (14 + 7 * f .«route_count» + i) 0) ≡ bit j (getD s (14 + 7 * f .«route_count» + i) 0)
+
+pub spelled-alike : (s : List ℕ) → Octets s → isAccepted (decode s .answer) ≡ true → marked (decode s .frame .«command_or_response») ≡ true
+    → length (spell (decode s .frame) (infoIn s (decode s))) ≡ length s → SpelledAlike s (decode s .frame) (spell (decode s .frame) (infoIn s (decode s)))
+unfolding frameAt
+spelled-alike s o e m l =
+    let a = accepts s e in
+    subst (λ (f : Ax25Frame). SpelledAlike s f (spell (decode s .frame) (infoIn s (decode s)))) (sym (made-frame s o a))
+    (record { field = spelled-field s o a m l; content = spelled-content s o a m l })
+
+-- what is read of another input, as long, that has the octets of the address field, and content that is read as the same
+module _ (s t : List ℕ) (a : Accepts s (decode s)) (l : length t ≡ length s) (field : (p : ℕ) → p < endOf s + 1 → getD t p 0 ≡ getD s p 0)
+    (c : contentOf (drop (endOf s + 1) t) ≡ Accepted (a .kind)) where
+  same-start : startOf t ≡ startOf s
+  same-start =
+      let inside : startOf s < endOf s + 1 = let long = a .long in omega arith in
+      first-is nonzero t 0 (startOf s) (rw l (a .start-in))
+      (rw (field (startOf s) inside) (first-passes nonzero s 0 (a .start-in)))
+      (λ p h. rw (field p (omega arith)) (first-before nonzero s 0 p h))
+
+  same-end : endOf t ≡ endOf s
+  same-end =
+      first-is (bit 0) t 0 (endOf s) (rw l (a .end-in))
+      (rw (field (endOf s) (omega arith)) (first-passes (bit 0) s 0 (a .end-in)))
+      (λ p h. rw (field p (omega arith)) (first-before (bit 0) s 0 p h))
+
+  same-group : (at : ℕ) → at + 7 ≤ endOf s + 1 → groupAt t at ≡ groupAt s at
+  same-group at h =
+      let inside = a .end-in in
+      let x : length (groupAt t at) ≡ 7 = length-take-le 7 (drop at t) (rw (length-drop, l) (omega arith)) in
+      let y : length (groupAt s at) ≡ 7 = length-take-le 7 (drop at s) (rw length-drop (omega arith)) in
+      ext-getD 0 (groupAt t at) (groupAt s at) (x ∙ sym y)
+      (λ p b. let p7 : p < 7 = rw x at b in
+      getD-part 7 at t p 0 p7 ∙ field (at + p) (omega arith) ∙ sym (getD-part 7 at s p 0 p7))
+
+  same-place : (i : ℕ) → placeAt t (startOf s + 14) (a .count) i ≡ placeAt s (startOf s + 14) (a .count) i
+  unfolding placeAt entryAt parsedAt
+  same-place i =
+      by (ltb i (a .count))
+      (λ e. let long = a .long in
+      let counted = a .counted in
+      let inner = ltb-true i (a .count) e in
+      rw (e, same-group (startOf s + 14 + 7 * i) (omega arith)) refl)
+      (λ e. rw e refl)
+
+  same-frame : frameAt t (startOf s) (a .count) (a .kind) ≡ frameAt s (startOf s) (a .count) (a .kind)
+  unfolding frameAt parsedAt routeAt
+  same-frame =
+      let long = a .long in
+      simp (same-group (startOf s) (omega arith), same-group (startOf s + 7) (omega arith), same-place)
+
+  same-decode : decode t ≡ decode s
+  unfolding decode decodeField withContent
+  same-decode = rw (same-start, same-end, l, c, a .read, a .counted, same-frame) (rw l refl)
+
+-- an input that differs from an accepted one in unseen bits of its content alone is read alike: all that decoding gives, and the info octets
+module _ (s t : List ℕ) (o : Octets s) (p : Octets t) (e : isAccepted (decode s .answer) ≡ true) (l : length t ≡ length s)
+    (field : (q : ℕ) → q < endOf s + 1 → getD t q 0 ≡ getD s q 0)
+    (content : (i j : ℕ) → j < 8 → unseen (decode s .frame .content) i j ≡ false
+    → bit j (getD t (endOf s + 1 + i) 0) ≡ bit j (getD s (endOf s + 1 + i) 0)) where
+  abbrev y : Accepts s (decode s)
+  y = accepts s e
+
+  abbrev x : ℕ
+  x = endOf s + 1
+
+  kind-is : decode s .frame .content ≡ y .kind
+  unfolding frameAt
+  kind-is = ap (λ (f : Ax25Frame). f .content) (made-frame s o y)
+
+  bits : (i j : ℕ) → j < 8 → unseen (y .kind) i j ≡ false → bit j (getD (drop x t) i 0) ≡ bit j (getD (drop x s) i 0)
+  bits i j h u = rw (getD-drop x t i 0, getD-drop x s i 0) (content i j h (rw kind-is u))
+
+  rest : length (drop x t) ≡ length (drop x s)
+  rest = length-drop x t ∙ rw l (sym (length-drop x s))
+
+  pub read-alike : decode t ≡ decode s
+  read-alike =
+      same-decode s t y l field
+      (unseen-read (drop x s) (drop x t) (octets-drop s x o) (octets-drop t x p) rest (y .kind) (y .read) bits)
+
+  pub info-alike : infoIn t (decode t) ≡ infoIn s (decode s)
+  unfolding acceptedWith frameAt
+  info-alike =
+      rw read-alike (rw (y .made)
+      (by (hasInfo (y .kind))
+      (λ h. let same : drop x t ≡ drop x s =
+      octets-same (drop x t) (drop x s) (octets-drop t x p) (octets-drop s x o) rest (λ i j b. bits i j b (info-seen (y .kind) h i j)) in
+      simp h (rw (← drop-drop 2 x t, ← drop-drop 2 x s, same) refl))
+      (λ h. simp h)))
