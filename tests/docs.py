@@ -120,6 +120,7 @@ def statements():
         'A serial line (document 02, M-104)',
         'The layer 3 octet (document 02, M-105)',
         'The reserved bits (document 02, M-106)',
+        'Nothing unseen at equal length (document 02, M-107)',
         'Smaller statements that stand for themselves',
     )
     for title in titles:
