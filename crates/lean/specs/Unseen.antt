@@ -16,6 +16,6 @@ unseen (kind.SetAsynchronousBalancedMode k) i j = false
 unseen (kind.Disconnect k) i j = false
 unseen (kind.DisconnectedMode k) i j = false
 unseen (kind.UnnumberedAcknowledge k) i j = false
-unseen (kind.FrameReject k) i j = eqb i 1 && leb 4 j || eqb i 2 && eqb j 0
+unseen (kind.FrameReject k) i j = (eqb i 1 && leb 4 j) || (eqb i 2 && eqb j 0)
 unseen (kind.UnnumberedInformation k) i j = false
 unseen kind.UnknownContent i j = false
