@@ -73,7 +73,7 @@ impl Both {
     /// How another input stands to this one, which is accepted.
     fn outcome(&self, other: &Both) -> Outcome {
         match (&self.port, &other.port) {
-            _ if self.octets.len() != other.octets.len() => Outcome::Length,
+            _ if self.octets.len() != other.octets.len() => if self.agrees(other) { Outcome::Length } else { Outcome::Neither },
             _ if self.octets == other.octets => Outcome::Same,
             (_, Err(_)) => Outcome::Refused,
             (one, other) if one == other => Outcome::Unseen,
@@ -895,7 +895,7 @@ impl Checker {
         }
         let outcome = one.outcome(other);
         self.seen.pairs.outcome(way, outcome);
-        if outcome != Outcome::Length {
+        if one.octets.len() == other.octets.len() {
             let bits = domain::differing(&one.octets, &other.octets);
             self.of_one_length(way, one, other, &bits);
             if let (Way::Bit, [(at, bit)], Ok(shown)) = (way, &bits[..], &one.port) {

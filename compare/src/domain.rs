@@ -198,10 +198,17 @@ pub fn mark_at(input: &[u8], place: usize) -> usize {
 /// Some bits of some octets: the place of each octet, and which of its bits.
 pub type Bits = Vec<(usize, u8)>;
 
-/// The control octet of an input that has an address field and something after it, and its place.
+/// The control octet of an input that has one, and its place: it follows the address field.
 fn control_of(input: &[u8]) -> Option<(usize, u8)> {
     let at = field(input)?.1 + 1;
     input.get(at).map(|&control| (at, control))
+}
+
+/// Where a PID of the layer 3 class stands, in I or in UI.
+pub fn layer_3_at(input: &[u8]) -> Option<usize> {
+    let (control_at, control) = control_of(input)?;
+    let has_pid = control % 2 == 0 || control & 0xEF == 0x03;
+    Some(control_at + 1).filter(|&at| has_pid && input.get(at).map_or(false, |&octet| is_of_class(octet)))
 }
 
 /// The bits of an input that may be others in one with the same frame and length: in FRMR, the high four of the first info octet and the
@@ -213,16 +220,13 @@ pub fn excepted(input: &[u8]) -> Bits {
     }
 }
 
-/// The bits of an input that the Rust's frame lacks and the port's has, beside another input (B7 and B6): the reserved bits of each
-/// address, and the PID octet of I or UI, where it is of the layer 3 class in both.
+/// The bits of an input that the Rust's frame does not show, and the port's does, beside another of the same length: the reserved bits of
+/// each address (B7), and the PID octet where both have one of the layer 3 class (B6).
 pub fn lacked(input: &[u8], other: &[u8]) -> Bits {
-    let groups = 2 + repeaters(input);
     let start = field(input).map_or(0, |(start, _)| start);
-    let mut bits: Bits = (0..groups).map(|group| (seventh(start, group), RESERVED_BITS)).collect();
-    let pid = control_of(input).filter(|(_, control)| control % 2 == 0 || control & 0xEF == 0x03).map(|(at, _)| at + 1);
-    let both_of_class = |at: &usize| [input, other].iter().all(|octets| octets.get(*at).map_or(false, |&octet| is_of_class(octet)));
-    bits.extend(pid.filter(both_of_class).map(|at| (at, 0xFF)));
-    bits
+    let reserved = (0..2 + repeaters(input)).map(|group| (seventh(start, group), RESERVED_BITS));
+    let pid = layer_3_at(input).filter(|&at| is_of_class(other[at])).map(|at| (at, 0xFF));
+    reserved.chain(pid).collect()
 }
 
 /// The bits in which two inputs of one length differ.

@@ -241,17 +241,10 @@ fn octet(record: &[u8], at: usize) -> u8 {
     record.get(at).copied().unwrap_or(0)
 }
 
-/// Where a PID of the layer 3 class stands in a frame.
-fn layer_3_at(frame: &[u8]) -> Option<usize> {
-    let control = frame.iter().position(|&octet| octet % 2 == 1)? + 1;
-    let has_pid = octet(frame, control) % 2 == 0 || octet(frame, control) & 0xEF == 0x03;
-    Some(control + 1).filter(|&at| has_pid && domain::is_of_class(octet(frame, at)))
-}
-
 /// The faults of writing a layer 3 frame, by their names: 10 for its PID, and a bit changed in the octet before its control, in its
 /// control and in its first info octet.
 fn misspell(frame: &mut [u8], [ten, before, control, info]: [&str; 4]) {
-    let Some(at) = layer_3_at(frame) else {
+    let Some(at) = domain::layer_3_at(frame) else {
         return;
     };
     if is(ten) {
@@ -365,7 +358,7 @@ unsafe extern "C" fn __wrap_ax25_canonical(input: *const u8, input_len: usize) -
     if is("reserved bits that are not ones are canonical whatever else") && has_clear(octets) {
         return 1;
     }
-    match layer_3_at(octets) {
+    match domain::layer_3_at(octets) {
         Some(at) if is("layer 3 is canonical as 10 alone") && octets[at] != RUST_LAYER_3 => 0,
         Some(_) if is("layer 3 is canonical whatever else") => u32::from(__real_ax25_decode(input, input_len) == 0),
         _ if is("a frame with eight repeaters is not canonical") && domain::repeaters(octets) == REPEATERS => 0,

@@ -44,30 +44,33 @@ pub enum Outcome {
     Frame,
     /// The same frame with other info.
     Info,
-    /// Another length, whatever the frame.
+    /// Another length with the same frame and info.
     Length,
+    /// Another length, and refused or not the same.
+    Neither,
 }
 
-pub const OUTCOMES: [(Outcome, &str); 6] = [
+pub const OUTCOMES: [(Outcome, &str); 7] = [
     (Outcome::Same, "the same octets"),
     (Outcome::Unseen, "the same but for excepted bits"),
     (Outcome::Refused, "refused"),
     (Outcome::Frame, "another frame"),
     (Outcome::Info, "other info"),
-    (Outcome::Length, "another length"),
+    (Outcome::Length, "another length with the same frame and info"),
+    (Outcome::Neither, "another length and not the same"),
 ];
 
 /// Each way with how it has to come out at least once in a run; the other outcomes it can't have.
 pub const WAYS: [(Way, &str, &[Outcome]); 9] = [
     (Way::Bit, "one bit changed", &[Outcome::Unseen, Outcome::Refused, Outcome::Frame, Outcome::Info]),
     (Way::Excepted, "excepted bits set", &[Outcome::Same, Outcome::Unseen]),
-    (Way::Reencoded, "off the air, beside its re-encoding", &[Outcome::Same, Outcome::Unseen, Outcome::Frame, Outcome::Length]),
+    (Way::Reencoded, "re-encoded as that", &[Outcome::Same, Outcome::Unseen, Outcome::Frame, Outcome::Length, Outcome::Neither]),
     (Way::Damaged, "damaged", &[Outcome::Same, Outcome::Unseen, Outcome::Refused, Outcome::Frame, Outcome::Info]),
     (Way::Written, "written by the port", &[Outcome::Same, Outcome::Frame, Outcome::Info]),
     (Way::Moved, "octets moved", &[Outcome::Same, Outcome::Refused, Outcome::Frame, Outcome::Info]),
     (Way::Field, "one field given anew", &[Outcome::Same, Outcome::Frame]),
     (Way::Longer, "made longer", &[Outcome::Length]),
-    (Way::Earlier, "canonical, beside an earlier one", &[Outcome::Same]),
+    (Way::Earlier, "canonical too, with the frame of that", &[Outcome::Same]),
 ];
 
 /// A canonical input, and others.
@@ -121,7 +124,7 @@ fn spelled(record: &Flat, info: &[u8]) -> Vec<u8> {
     oracle::written(&to_frame(record, info), record).octets
 }
 
-/// Seeded canonical frames, each with others made of it in each way; and as many inputs off the air, each beside its re-encoding.
+/// Seeded canonical frames, each with others made of it in each way; and as many inputs off the air, each beside what it is re-encoded as.
 pub fn seeded(seed: u64, count: usize, each: Each) {
     let (mut rng, mut port) = (Rng::new(seed), Port::new());
     for _ in 0..count {
@@ -131,12 +134,14 @@ pub fn seeded(seed: u64, count: usize, each: Each) {
         let info = records::seeded_info(&mut rng, kind);
         let frame = spelled(&record, &info);
         let mut others = vec![
-            (Way::Excepted, with_excepted(&mut rng, &frame)),
             (Way::Damaged, damaged(&mut rng, &frame)),
             (Way::Moved, moved(&mut rng, &frame)),
             (Way::Field, with_field(&mut rng, &frame)),
             (Way::Longer, longer(&mut rng, &frame, (RR..=UA).contains(&kind))),
         ];
+        if kind == FRMR {
+            others.push((Way::Excepted, with_excepted(&mut rng, &frame)));
+        }
         let (almost, other) = almost(&mut rng, &record, &info);
         let records = [(&record, &info), (&almost, &other)];
         others.extend(records.iter().filter_map(|(record, info)| Some((Way::Written, written(&mut port, record, info)?))));
@@ -161,7 +166,7 @@ fn reencoded(port: &mut Port, input: &[u8]) -> Option<Vec<u8>> {
     (number == 0).then(|| port.output().to_vec())
 }
 
-/// In FRMR any of the excepted bits set.
+/// FRMR with any of the excepted bits set.
 fn with_excepted(rng: &mut Rng, frame: &[u8]) -> Vec<u8> {
     let mut octets = frame.to_vec();
     for (at, bits) in domain::excepted(frame) {
@@ -245,11 +250,10 @@ fn with_field(rng: &mut Rng, frame: &[u8]) -> Vec<u8> {
     let mut octets = frame.to_vec();
     let group = rng.below(2 + domain::repeaters(frame));
     let at = domain::seventh(0, group);
-    let layer_3 = domain::lacked(frame, frame).into_iter().find(|(_, bits)| *bits == 0xFF);
-    match (rng.below(4), layer_3) {
+    match (rng.below(4), domain::layer_3_at(frame)) {
         (0, _) => octets[at] = domain::with_reserved(octets[at], rng.within(0, ONES.into()) as u8),
         (1, _) => octets[at] = octets[at] & 0xE1 | rng.octet() & 0x1E,
-        (2, Some((pid, _))) => octets[pid] = rng.octet() & 0xCF | *rng.pick(&[0x10, 0x20]),
+        (2, Some(pid)) => octets[pid] = rng.octet() & 0xCF | *rng.pick(&[0x10, 0x20]),
         // Of the first two marks one alone is set.
         _ if group < 2 => [0, 1].iter().for_each(|&group| octets[domain::seventh(0, group)] ^= 0x80),
         _ => octets[at] ^= 0x80,
