@@ -73,8 +73,9 @@ impl Both {
     /// How another input stands to this one, which is accepted.
     fn outcome(&self, other: &Both) -> Outcome {
         match (&self.port, &other.port) {
-            _ if self.octets.len() != other.octets.len() => if self.agrees(other) { Outcome::Length } else { Outcome::Neither },
-            _ if self.octets == other.octets => Outcome::Same,
+            (one, two) if other.octets.len() != self.octets.len() && one == two => Outcome::Length,
+            _ if other.octets.len() != self.octets.len() => Outcome::Neither,
+            _ if other.octets == self.octets => Outcome::Same,
             (_, Err(_)) => Outcome::Refused,
             (one, other) if one == other => Outcome::Unseen,
             (Ok(one), Ok(other)) if one.record == other.record => Outcome::Info,
@@ -903,8 +904,8 @@ impl Checker {
             }
         }
         if one.agrees(other) && other.canonical && one.octets != other.octets {
-            let owed = || "one canonical input alone has this frame and info".to_string();
-            self.differ("two canonical inputs", owed, |_| format!("both canonical: {} and {}", show::hex(&one.octets), show::hex(&other.octets)));
+            let owed = || "one input alone is canonical with this frame and info".to_string();
+            self.differ("two canonical inputs", owed, |_| format!("{} and {}", show::hex(&one.octets), show::hex(&other.octets)));
         }
         self.finish()
     }

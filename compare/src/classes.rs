@@ -513,8 +513,8 @@ fn kiss_streams(checker: &mut Checker, report: &mut Report, scale: usize, seeds:
     });
 }
 
-/// The same inputs go through the comparison with the Rust first, in classes of their own, so that the others find by themselves what they
-/// are there for.
+/// Canonical inputs beside others. All of them go through the comparison with the Rust first, in classes of their own, so that those of
+/// pairs find by themselves what they are there for.
 fn unseen(checker: &mut Checker, report: &mut Report, scale: usize, seeds: &mut Rng) {
     let [a, b] = [0; 2].map(|_: u64| seeds.next());
     let mut run = |name: &str, body: &dyn Fn(pairs::Each)| {

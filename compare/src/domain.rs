@@ -1,5 +1,6 @@
 //! Document 01's domain of equality, and what the port owes outside it (docs/DIFFERENCES.md, B); what the hops and the
-//! relay owe, which the Rust lacks; and which bits no frame shows. Written from the words of documents 01 and 02; neither the Rust nor the port is asked.
+//! relay owe, which the Rust lacks; and which bits no frame shows. Written from the words of documents 01 and 02; neither the
+//! Rust nor the port is asked.
 
 use crate::flat::{self, Flat, FlatAddress, ADDRESS, GROUP, ONES, REPEATERS, RESERVED, SSID};
 use crate::flat::{COUNT, ENTRY, FRMR, KIND, PID_OCTET, ROUTE, RR};

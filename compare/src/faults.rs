@@ -5,10 +5,10 @@
 
 use crate::check::{padded, with_plain_addresses};
 use crate::domain::{self, RESERVED_BITS, RUST_LAYER_3};
-use crate::flat::{self, Flat, ABSENT, COMMAND, COUNT, KIND, MARK, POLL, RECEIVE, RNR, RR, SSID, UA, UI, UNKNOWN_CONTENT};
-use crate::flat::{ENTRY, FRMR, GROUP, ONES, PID, PID_LAYER_3, PID_OCTET, PID_UNKNOWN, REJECTED_CONTROL, REPEATERS, RESERVED, ROUTE, SOURCE};
+use crate::flat::{self, Flat, ABSENT, COMMAND, COUNT, KIND, MARK, POLL, RECEIVE, RNR, RR, SSID, UI, UNKNOWN_CONTENT};
+use crate::flat::{ENTRY, GROUP, ONES, PID, PID_LAYER_3, PID_OCTET, PID_UNKNOWN, REJECTED_CONTROL, REPEATERS, RESERVED, ROUTE, SOURCE};
 use crate::kiss::{FEND, FESC, LONGEST, PORTS, TFEND, TFESC};
-use crate::port::{Packet, State, PLACES};
+use crate::port::{Packet, State};
 use ax25::frame::{Ax25Frame, FrameContent, ProtocolIdentifier};
 use std::slice::{from_raw_parts, from_raw_parts_mut};
 use std::sync::atomic::{AtomicUsize, Ordering};
@@ -304,24 +304,21 @@ pub fn misread_by_rust(mut frame: Ax25Frame, input: &[u8]) -> Ax25Frame {
     frame
 }
 
-/// Whether the bits of an info octet of FRMR that no frame shows have one of these set: the first, or the second.
+/// Whether one of these excepted bits is set, in FRMR's first info octet or in its second.
 fn has_excepted(frame: &[u8], which: usize, bits: u8) -> bool {
     domain::excepted(frame).get(which).map_or(false, |&(at, excepted)| octet(frame, at) & excepted & bits != 0)
 }
 
-/// A frame as a faulty check might look at it: without its nulls, without the tail of S and U, or without a bit of FRMR.
-unsafe fn looked_at(input: &[u8]) -> Vec<u8> {
+/// A frame as a faulty check might look at it: without a bit of FRMR, without the tail of a kind that has no info, or without its nulls.
+fn looked_at(input: &[u8]) -> Vec<u8> {
     let mut looked_at = input.to_vec();
-    let Some((start, end)) = domain::field(input).filter(|_| __real_ax25_decode(input.as_ptr(), input.len()) == 0) else {
-        return looked_at;
-    };
-    let mut record = [0; flat::FLAT];
-    __real_probe_decode(input.as_ptr(), input.len(), record.as_mut_ptr(), record.len(), [0; PLACES].as_mut_ptr(), PLACES);
-    if is("a frame with a tail is canonical") && (RR..=UA).contains(&record[KIND]) {
-        looked_at.truncate(end + 2);
-    }
-    if is("FRMR is canonical whatever bit 4 of its first info octet is") && record[KIND] == FRMR {
+    let (start, end) = domain::field(input).unwrap_or((0, 0));
+    let control = octet(input, end + 1);
+    if is("FRMR is canonical whatever bit 4 of its first info octet is") && has_excepted(input, 0, 0x10) {
         looked_at[end + 2] &= 0xEF;
+    }
+    if is("a frame with a tail is canonical") && control % 2 == 1 && ![0x03, 0x87].contains(&(control & 0xEF)) {
+        looked_at.truncate(end + 2);
     }
     if is("a frame behind nulls is canonical") {
         looked_at.drain(..start);

@@ -376,9 +376,9 @@ impl Pairs {
     fn missing(&self, missing: &mut Missing) {
         for ((&(way, name, needed), outcomes), &earlier) in WAYS.iter().zip(&self.outcomes).zip(&self.earlier) {
             let absent = needed.iter().filter(|&&outcome| outcomes[outcome as usize] == 0);
-            missing.0.extend(absent.map(|outcome| format!("a canonical input and another, {}: {:?}", name, outcome)));
+            missing.0.extend(absent.map(|&outcome| format!("beside a canonical input, {}: {}", name, OUTCOMES[outcome as usize].1)));
             if needed.contains(&Outcome::Same) && way != Way::Earlier {
-                missing.cases(&format!("two canonical inputs with one frame, the second {}: case", name), &[earlier]);
+                missing.cases(&format!("two canonical inputs with one frame and info, the second {}: case", name), &[earlier]);
             }
         }
         for (&(_, name, bits), counts) in PARTS.iter().zip(&self.parts) {
