@@ -14,7 +14,7 @@ use std::slice::{from_raw_parts, from_raw_parts_mut};
 use std::sync::atomic::{AtomicUsize, Ordering};
 
 /// What each fault does, from 1 on, and words in the name of a class that has to find it.
-const FAULTS: [(&str, &str); 166] = [
+const FAULTS: [(&str, &str); 167] = [
     ("re-encoding writes the address field, then answers 24", "every prefix"),
     ("re-encoding writes the address field, then refuses the content", "every prefix"),
     ("re-encoding into no room at all answers 0", "every prefix"),
@@ -178,6 +178,7 @@ const FAULTS: [(&str, &str); 166] = [
     ("the Rust's frame has the octet of a layer 3 identifier", "unseen: every bit"),
     ("the Rust's frame lacks the mark of the last repeater", "unseen: every bit"),
     ("decoding takes equal marks for a Command", "unseen: canonical frames"),
+    ("decoding leaves out zeros at the end of info", "unseen: canonical frames"),
     ("decoding puts the first two repeaters in order", "unseen: canonical frames"),
     ("a frame with a tail is canonical", "unseen: canonical frames"),
     ("a frame behind nulls is canonical", "unseen: canonical frames"),
@@ -724,6 +725,9 @@ fn misplace_info(places: &mut [usize], input: &[u8]) {
     if is("decoding leaves out info's first octet") && *length > 0 {
         *start += 1;
         *length -= 1;
+    }
+    if is("decoding leaves out zeros at the end of info") {
+        *length -= input[*start..*start + *length].iter().rev().take_while(|&&octet| octet == 0).count();
     }
     if is("decoding gives info's place one octet late") && *length > 0 {
         *start += 1;

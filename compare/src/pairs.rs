@@ -131,7 +131,11 @@ pub fn seeded(seed: u64, count: usize, each: Each) {
         let kind = if rng.chance(4) { FRMR } else { rng.within(I.into(), UI.into()) as u8 };
         let repeaters = rng.within(0, REPEATERS);
         let record = records::marked(&mut rng, kind, repeaters);
-        let info = records::seeded_info(&mut rng, kind);
+        let mut info = records::seeded_info(&mut rng, kind);
+        if rng.chance(4) {
+            // Where zeros at the end are taken away, info's length alone shows it.
+            info.iter_mut().rev().take(3).for_each(|octet| *octet = 0);
+        }
         let frame = spelled(&record, &info);
         let mut others = vec![
             (Way::Damaged, damaged(&mut rng, &frame)),
