@@ -7,6 +7,7 @@ use crate::inputs::{self, FIELD};
 use crate::kiss::{self, FEND, LONGEST};
 use crate::lent::{rooms, Room, Tried, LONGER};
 use crate::oracle::{self, Refusal};
+use crate::pairs::{Outcome, Way};
 use crate::port::{Beside, Fed, Packet, Port, State, FRESH, HOPS, PLACES};
 use crate::records;
 use crate::relays::{self, Own};
@@ -15,6 +16,7 @@ use crate::seen::{Seen, Writer};
 use crate::show;
 use crate::streams;
 use ax25::frame::Ax25Frame;
+use std::collections::HashMap;
 
 /// One thing that differs, with both answers in full.
 #[derive(Clone, Default)]
@@ -34,6 +36,52 @@ pub struct Checker {
     found: Vec<Difference>,
     /// Draws the rooms.
     draw: Rng,
+    /// Canonical inputs of late, by what the port shows of them.
+    canonical: HashMap<Shown, Vec<u8>>,
+}
+
+/// So many canonical inputs are kept.
+const KEPT: usize = 10_000;
+
+/// All that the port's frame and info say of an accepted input: the record, and info by its octets.
+#[derive(Clone, PartialEq, Eq, Hash)]
+pub struct Shown {
+    pub record: Flat,
+    pub info: Vec<u8>,
+}
+
+/// An input as the port and the Rust read it, or the number by which they refuse it.
+pub struct Both {
+    pub octets: Vec<u8>,
+    pub canonical: bool,
+    pub port: Result<Shown, u32>,
+    info_at: usize,
+    rust: Result<Ax25Frame, u32>,
+}
+
+impl Both {
+    /// Whether both are accepted with the same frame and info, by the port.
+    pub fn agrees(&self, other: &Both) -> bool {
+        self.port.is_ok() && self.port == other.port
+    }
+
+    /// The same by the Rust.
+    pub fn agrees_by_rust(&self, other: &Both) -> bool {
+        self.rust.is_ok() && self.rust == other.rust
+    }
+
+    /// How another input stands to this one, which is accepted.
+    fn outcome(&self, other: &Both) -> Outcome {
+        match (&self.port, &other.port) {
+            (one, two) if other.octets.len() != self.octets.len() && one == two => Outcome::Length,
+            _ if other.octets.len() != self.octets.len() => Outcome::Neither,
+            _ if other.octets == self.octets => Outcome::Same,
+            (_, Err(_)) => Outcome::Refused,
+            (one, other) if one == other => Outcome::Unseen,
+            (Ok(one), Ok(other)) if one.record == other.record => Outcome::Info,
+            _ => Outcome::Frame,
+        }
+    }
 }
 
 /// The state is looked at after each piece of a stream of so many octets, and after the last piece of a longer one.
@@ -44,7 +92,8 @@ const CONTENT: usize = FLAT - KIND;
 
 impl Checker {
     pub fn new() -> Checker {
-        Checker { port: Port::new(), seen: Seen::new(), quiet: false, thorough: false, found: Vec::new(), draw: Rng::new(0) }
+        let (port, seen, draw) = (Port::new(), Seen::new(), Rng::new(0));
+        Checker { port, seen, quiet: false, thorough: false, found: Vec::new(), draw, canonical: HashMap::new() }
     }
 
     /// For one input at a time: whatever room showed a difference is among those that are tried.
@@ -817,6 +866,81 @@ impl Checker {
             self.differ(&format!("the state after {}", place()), owes, |_| show::state(state));
         }
         same
+    }
+
+    /// What both make of an input. A difference that this finds stands with those of the next comparison.
+    pub fn both(&mut self, input: &[u8]) -> Both {
+        let canonical = self.port.canonical(input) == 1;
+        let number = self.port.decode(input, FLAT, PLACES);
+        let (info_at, info_len) = (self.port.sizes()[PLACES - 2], self.port.sizes()[PLACES - 1]);
+        let port = if number == 0 { Ok(self.shown(input, info_at, info_len)) } else { Err(number) };
+        Both { octets: input.to_vec(), canonical, port, info_at, rust: decoded(input) }
+    }
+
+    /// What the last decode left of this input.
+    fn shown(&mut self, input: &[u8], info_at: usize, info_len: usize) -> Shown {
+        let info = input.get(info_at..).and_then(|rest| rest.get(..info_len));
+        if info.is_none() {
+            let owed = || format!("in the {} octets of the input", input.len());
+            self.differ("info", owed, |_| format!("{} octets from {} on", info_len, info_at));
+        }
+        Shown { record: padded(self.port.output()), info: info.unwrap_or(&[]).to_vec() }
+    }
+
+    /// A canonical input, and another beside it (document 02, M-107). Where they are of one length, they have the same frame and info just
+    /// where they are the same octets but for excepted bits; and two canonical inputs with the same are the same, whatever their lengths.
+    pub fn pair(&mut self, way: Way, one: &Both, other: &Both) -> Vec<Difference> {
+        if !one.canonical || one.port.is_err() {
+            self.differ("the first input", || "canonical and accepted".to_string(), |_| show::beside(one));
+            return self.finish();
+        }
+        let outcome = one.outcome(other);
+        self.seen.pairs.outcome(way, outcome);
+        if one.octets.len() == other.octets.len() {
+            let bits = domain::differing(&one.octets, &other.octets);
+            self.of_one_length(way, one, other, &bits);
+            if let (Way::Bit, [(at, bit)], Ok(shown)) = (way, &bits[..], &one.port) {
+                self.seen.pairs.bit(&one.octets, &shown.record, *at, *bit);
+            }
+        }
+        if one.agrees(other) && other.canonical && one.octets != other.octets {
+            let owed = || "one input alone is canonical with this frame and info".to_string();
+            self.differ("two canonical inputs", owed, |_| format!("{} and {}", show::hex(&one.octets), show::hex(&other.octets)));
+        }
+        self.finish()
+    }
+
+    /// Two inputs that differ in these bits. What the Rust's frame lacks is reserved bits and the octet of a layer 3 identifier, and nothing
+    /// else.
+    fn of_one_length(&mut self, way: Way, one: &Both, other: &Both, bits: &[(usize, u8)]) {
+        let excepted = domain::excepted(&one.octets);
+        let lacked = domain::lacked(&one.octets, &other.octets);
+        let same = domain::are_among(bits, &excepted);
+        let same_by_rust = domain::are_among(bits, &[excepted, lacked].concat());
+        let say = |same: bool| format!("{} where the bits {} differ", if same { "the same" } else { "not the same" }, show::bits(bits));
+        if one.agrees(other) != same || same && one.info_at != other.info_at {
+            let says = |_: &Checker| format!("{} and {}", show::beside(one), show::beside(other));
+            self.differ("frame and info of two inputs", || say(same), says);
+        }
+        if one.agrees_by_rust(other) != same_by_rust {
+            self.differ("B6 and B7, in the Rust's frames of two inputs", || say(same_by_rust), |_| format!("the Rust: {}", say(!same_by_rust)));
+        }
+        if one.agrees_by_rust(other) && !one.agrees(other) {
+            self.seen.pairs.only_port(way, &one.octets, bits);
+        }
+    }
+
+    /// The canonical input of late that has this one's frame and info, where this one is canonical too. It is kept where there is none.
+    pub fn earlier(&mut self, input: &Both) -> Option<Vec<u8>> {
+        let shown = input.port.as_ref().ok().filter(|_| input.canonical)?;
+        if let Some(earlier) = self.canonical.get(shown) {
+            return Some(earlier.clone());
+        }
+        if self.canonical.len() >= KEPT {
+            self.canonical.clear();
+        }
+        self.canonical.insert(shown.clone(), input.octets.clone());
+        None
     }
 
     /// The refusals that are `probe`'s own: a lent buffer shorter than what is to be left there.

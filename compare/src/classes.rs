@@ -1,7 +1,8 @@
 //! `compare test`: every class of inputs, each through its comparison.
 
-use crate::check::{self, padded, Checker, Difference};
+use crate::check::{self, padded, Both, Checker, Difference};
 use crate::flat::{self, FlatAddress, ONES};
+use crate::pairs::{self, Way};
 use crate::port::{Beside, State, FRESH};
 use crate::relays::{self, Own};
 use crate::report::{self, Line, Report};
@@ -68,6 +69,37 @@ impl Class<'_> {
         self.done(found, || {
             let command = format!("compare relay '{}' {}", show::hex(&own.callsign), own.ssid);
             (format!("{} relays {}", own.words(), show::hex(input)), report::again(&command, input))
+        });
+    }
+
+    /// A canonical input, and others beside it. Each of them that is canonical stands beside an earlier one with the same frame too.
+    fn pairs(&mut self, one: &[u8], others: &mut dyn Iterator<Item = (Way, Vec<u8>)>) {
+        let one = self.checker.both(one);
+        self.earlier(&one);
+        for (way, other) in others {
+            let other = self.checker.both(&other);
+            self.pair(way, &one, &other);
+            if self.earlier(&other) {
+                self.checker.seen.pairs.earlier(way);
+            }
+        }
+    }
+
+    /// Whether there is an earlier canonical input to compare with.
+    fn earlier(&mut self, input: &Both) -> bool {
+        let earlier = self.checker.earlier(input);
+        if let Some(earlier) = &earlier {
+            let earlier = self.checker.both(earlier);
+            self.pair(Way::Earlier, &earlier, input);
+        }
+        earlier.is_some()
+    }
+
+    fn pair(&mut self, way: Way, one: &Both, other: &Both) {
+        let found = self.checker.pair(way, one, other);
+        self.done(found, || {
+            let (one, other) = (show::hex(&one.octets), show::hex(&other.octets));
+            (format!("{} and {}", one, other), format!("compare pair '{}' '{}'", one, other))
         });
     }
 
@@ -230,9 +262,11 @@ pub fn test(scale: usize, seed: u64, only: Option<String>) -> Report {
     frames_passed_on(&mut checker, &mut report, scale, &mut seeds);
     kiss_packets(&mut checker, &mut report, scale, &mut seeds);
     kiss_streams(&mut checker, &mut report, scale, &mut seeds);
+    unseen(&mut checker, &mut report, scale, &mut seeds);
     let missing = checker.seen.missing();
-    class(&mut checker, &mut report, "met: every number, kind, mark, PID, layer 3 octet, reserved bits, route length, room, search, due place, KISS port, cut and listed difference", |c| c.missing(missing));
+    class(&mut checker, &mut report, "met: every number, kind, mark, PID, layer 3 octet, reserved bits, route length, room, search, due place, KISS port, cut, changed bit, pair and listed difference", |c| c.missing(missing));
     report::totals(&mut report, &checker.seen);
+    report::pairs(&mut report, &checker.seen);
     report.extra("seed", seed.to_string());
     report.extra("scale", scale.to_string());
     report
@@ -477,4 +511,21 @@ fn kiss_streams(checker: &mut Checker, report: &mut Report, scale: usize, seeds:
             class.stream_from(&streams::unmade(&mut starts), octets, cut);
         });
     });
+}
+
+/// Canonical inputs beside others. All of them go through the comparison with the Rust first, in classes of their own, so that those of
+/// pairs find by themselves what they are there for.
+fn unseen(checker: &mut Checker, report: &mut Report, scale: usize, seeds: &mut Rng) {
+    let [a, b] = [0; 2].map(|_: u64| seeds.next());
+    let mut run = |name: &str, body: &dyn Fn(pairs::Each)| {
+        class(checker, report, &format!("octets: {}", name), |class| {
+            body(&mut |one, others| {
+                class.octets(one);
+                others.for_each(|(_, other)| class.octets(&other));
+            });
+        });
+        class(checker, report, &format!("unseen: {}", name), |class| body(&mut |one, others| class.pairs(one, others)));
+    };
+    run("every bit of canonical frames", &|each| pairs::every_bit(a, each));
+    run("canonical frames beside others", &|each| pairs::seeded(b, 30_000 * scale, each));
 }

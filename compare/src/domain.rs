@@ -1,5 +1,6 @@
-//! Document 01's domain of equality, and what the port owes outside it (docs/DIFFERENCES.md, B); and what the hops and the
-//! relay owe, which the Rust lacks. Written from the words of documents 01 and 02; neither the Rust nor the port is asked.
+//! Document 01's domain of equality, and what the port owes outside it (docs/DIFFERENCES.md, B); what the hops and the
+//! relay owe, which the Rust lacks; and which bits no frame shows. Written from the words of documents 01 and 02; neither the
+//! Rust nor the port is asked.
 
 use crate::flat::{self, Flat, FlatAddress, ADDRESS, GROUP, ONES, REPEATERS, RESERVED, SSID};
 use crate::flat::{COUNT, ENTRY, FRMR, KIND, PID_OCTET, ROUTE, RR};
@@ -193,4 +194,50 @@ pub fn relayed(input: &[u8], owed: Result<usize, u32>) -> Vec<u8> {
 pub fn mark_at(input: &[u8], place: usize) -> usize {
     let (start, _) = field(input).expect("an address field");
     seventh(start, 2 + place)
+}
+
+/// Some bits of some octets: the place of each octet, and which of its bits.
+pub type Bits = Vec<(usize, u8)>;
+
+/// The control octet of an input that has one, and its place: it follows the address field.
+fn control_of(input: &[u8]) -> Option<(usize, u8)> {
+    let at = field(input)?.1 + 1;
+    input.get(at).map(|&control| (at, control))
+}
+
+/// Where a PID of the layer 3 class stands, in I or in UI.
+pub fn layer_3_at(input: &[u8]) -> Option<usize> {
+    let (control_at, control) = control_of(input)?;
+    let has_pid = control % 2 == 0 || control & 0xEF == 0x03;
+    Some(control_at + 1).filter(|&at| has_pid && input.get(at).map_or(false, |&octet| is_of_class(octet)))
+}
+
+/// The bits of an input that may be others in one with the same frame and length: in FRMR, the high four of the first info octet and the
+/// low one of the second (document 02, M-107).
+pub fn excepted(input: &[u8]) -> Bits {
+    match control_of(input) {
+        Some((at, control)) if control & 0xEF == 0x87 => vec![(at + 1, 0xF0), (at + 2, 0x01)],
+        _ => Bits::new(),
+    }
+}
+
+/// The bits of an input that the Rust's frame does not show, and the port's does, beside another of the same length: the reserved bits of
+/// each address (B7), and the PID octet where both have one of the layer 3 class (B6).
+pub fn lacked(input: &[u8], other: &[u8]) -> Bits {
+    let start = field(input).map_or(0, |(start, _)| start);
+    let reserved = (0..2 + repeaters(input)).map(|group| (seventh(start, group), RESERVED_BITS));
+    let pid = layer_3_at(input).filter(|&at| is_of_class(other[at])).map(|at| (at, 0xFF));
+    reserved.chain(pid).collect()
+}
+
+/// The bits in which two inputs of one length differ.
+pub fn differing(one: &[u8], other: &[u8]) -> Bits {
+    let pairs = one.iter().zip(other).enumerate();
+    pairs.filter(|(_, (one, other))| one != other).map(|(at, (one, other))| (at, one ^ other)).collect()
+}
+
+/// Whether all of some bits are among others.
+pub fn are_among(some: &[(usize, u8)], others: &[(usize, u8)]) -> bool {
+    let others_at = |place: usize| others.iter().filter(|(at, _)| *at == place).fold(0, |all, (_, bits)| all | bits);
+    some.iter().all(|(at, bits)| bits & !others_at(*at) == 0)
 }

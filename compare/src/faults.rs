@@ -1,18 +1,20 @@
 //! Deliberate faults, for `compare/faults` alone: each call of the port is wrapped, and spoils what the proved code answered by the
 //! fault that COMPARE_FAULT names. The linker puts these in the calls' places (`--wrap`) and leaves the port's own under `__real_`.
-//! Two faults are the Rust's: it is held to an octet, and to bits, that the port does not owe.
+//! Four faults are the Rust's: in its writing it is held to an octet, and to bits, that the port does not owe, and in its reading to what
+//! its frame lacks.
 
 use crate::check::{padded, with_plain_addresses};
 use crate::domain::{self, RESERVED_BITS, RUST_LAYER_3};
-use crate::flat::{self, Flat, ABSENT, COUNT, KIND, MARK, RECEIVE, RNR, RR, SSID, UNKNOWN_CONTENT};
-use crate::flat::{GROUP, ONES, PID, PID_LAYER_3, PID_OCTET, PID_UNKNOWN, REPEATERS, RESERVED};
+use crate::flat::{self, Flat, ABSENT, COMMAND, COUNT, KIND, MARK, POLL, RECEIVE, RNR, RR, SSID, UI, UNKNOWN_CONTENT};
+use crate::flat::{ENTRY, GROUP, ONES, PID, PID_LAYER_3, PID_OCTET, PID_UNKNOWN, REJECTED_CONTROL, REPEATERS, RESERVED, ROUTE, SOURCE};
 use crate::kiss::{FEND, FESC, LONGEST, PORTS, TFEND, TFESC};
 use crate::port::{Packet, State};
+use ax25::frame::{Ax25Frame, FrameContent, ProtocolIdentifier};
 use std::slice::{from_raw_parts, from_raw_parts_mut};
 use std::sync::atomic::{AtomicUsize, Ordering};
 
 /// What each fault does, from 1 on, and words in the name of a class that has to find it.
-const FAULTS: [(&str, &str); 149] = [
+const FAULTS: [(&str, &str); 167] = [
     ("re-encoding writes the address field, then answers 24", "every prefix"),
     ("re-encoding writes the address field, then refuses the content", "every prefix"),
     ("re-encoding into no room at all answers 0", "every prefix"),
@@ -162,6 +164,24 @@ const FAULTS: [(&str, &str); 149] = [
     ("the relay sets the reserved bits of the place that it marks", "relay: every setting"),
     ("the relay sets the reserved bits of the destination", "relay: every setting"),
     ("a relay refused by 42 sets the reserved bits of the source", "relay: every setting"),
+    ("decoding passes over the lowest bit of the source's last character", "unseen: every bit"),
+    ("decoding sets the reserved bits of the eighth repeater", "unseen: every bit"),
+    ("decoding passes over UI's P/F", "unseen: every bit"),
+    ("a decoded layer 3 identifier carries the high half of its octet", "unseen: every bit"),
+    ("decoding leaves out info's first octet", "unseen: every bit"),
+    ("decoding gives info's place one octet late", "unseen: every bit"),
+    ("decoding shows bit 5 of FRMR's first info octet", "unseen: every bit"),
+    ("decoding refuses FRMR where the low bit of its second info octet is set", "unseen: every bit"),
+    ("decoding places info in FRMR where bit 4 of its first info octet is set", "unseen: every bit"),
+    ("FRMR is canonical whatever bit 4 of its first info octet is", "unseen: every bit"),
+    ("a frame with eight repeaters is not canonical", "unseen: every bit"),
+    ("the Rust's frame has the octet of a layer 3 identifier", "unseen: every bit"),
+    ("the Rust's frame lacks the mark of the last repeater", "unseen: every bit"),
+    ("decoding takes equal marks for a Command", "unseen: canonical frames"),
+    ("decoding leaves out zeros at the end of info", "unseen: canonical frames"),
+    ("decoding puts the first two repeaters in order", "unseen: canonical frames"),
+    ("a frame with a tail is canonical", "unseen: canonical frames"),
+    ("a frame behind nulls is canonical", "unseen: canonical frames"),
 ];
 
 /// A line for each fault: its number, the words, and what it does.
@@ -222,17 +242,10 @@ fn octet(record: &[u8], at: usize) -> u8 {
     record.get(at).copied().unwrap_or(0)
 }
 
-/// Where a PID of the layer 3 class stands in a frame.
-fn layer_3_at(frame: &[u8]) -> Option<usize> {
-    let control = frame.iter().position(|&octet| octet % 2 == 1)? + 1;
-    let has_pid = octet(frame, control) % 2 == 0 || octet(frame, control) & 0xEF == 0x03;
-    Some(control + 1).filter(|&at| has_pid && domain::is_of_class(octet(frame, at)))
-}
-
 /// The faults of writing a layer 3 frame, by their names: 10 for its PID, and a bit changed in the octet before its control, in its
 /// control and in its first info octet.
 fn misspell(frame: &mut [u8], [ten, before, control, info]: [&str; 4]) {
-    let Some(at) = layer_3_at(frame) else {
+    let Some(at) = domain::layer_3_at(frame) else {
         return;
     };
     if is(ten) {
@@ -276,6 +289,44 @@ fn misspell_reserved(frame: &mut [u8], names: [&str; 3], [mark, ssid]: [&str; 2]
     }
 }
 
+/// What the Rust read, with something that its frame does not have, or without something that it has.
+pub fn misread_by_rust(mut frame: Ax25Frame, input: &[u8]) -> Ax25Frame {
+    let pid = match &mut frame.content {
+        FrameContent::Information(i) => Some(&mut i.pid),
+        FrameContent::UnnumberedInformation(u) => Some(&mut u.pid),
+        _ => None,
+    };
+    if let (Some(pid @ ProtocolIdentifier::Layer3Impl), true) = (pid, is("the Rust's frame has the octet of a layer 3 identifier")) {
+        *pid = ProtocolIdentifier::Unknown(domain::pid_of(input));
+    }
+    if let (Some(last), true) = (frame.route.last_mut(), is("the Rust's frame lacks the mark of the last repeater")) {
+        last.has_repeated = false;
+    }
+    frame
+}
+
+/// Whether one of these excepted bits is set, in FRMR's first info octet or in its second.
+fn has_excepted(frame: &[u8], which: usize, bits: u8) -> bool {
+    domain::excepted(frame).get(which).map_or(false, |&(at, excepted)| octet(frame, at) & excepted & bits != 0)
+}
+
+/// A frame as a faulty check might look at it: without a bit of FRMR, without the tail of a kind that has no info, or without its nulls.
+fn looked_at(input: &[u8]) -> Vec<u8> {
+    let mut looked_at = input.to_vec();
+    let (start, end) = domain::field(input).unwrap_or((0, 0));
+    let control = octet(input, end + 1);
+    if is("FRMR is canonical whatever bit 4 of its first info octet is") && has_excepted(input, 0, 0x10) {
+        looked_at[end + 2] &= 0xEF;
+    }
+    if is("a frame with a tail is canonical") && control % 2 == 1 && ![0x03, 0x87].contains(&(control & 0xEF)) {
+        looked_at.truncate(end + 2);
+    }
+    if is("a frame behind nulls is canonical") {
+        looked_at.drain(..start);
+    }
+    looked_at
+}
+
 /// Whether an input is accepted that has reserved bits which are not ones.
 unsafe fn has_clear(input: &[u8]) -> bool {
     __real_ax25_decode(input.as_ptr(), input.len()) == 0 && domain::reserved_of(input).any(|reserved| reserved != ONES)
@@ -305,10 +356,14 @@ unsafe extern "C" fn __wrap_ax25_canonical(input: *const u8, input_len: usize) -
     if is("reserved bits that are not ones are canonical whatever else") && has_clear(octets) {
         return 1;
     }
-    match layer_3_at(octets) {
+    match domain::layer_3_at(octets) {
         Some(at) if is("layer 3 is canonical as 10 alone") && octets[at] != RUST_LAYER_3 => 0,
         Some(_) if is("layer 3 is canonical whatever else") => u32::from(__real_ax25_decode(input, input_len) == 0),
-        _ => __real_ax25_canonical(input, input_len),
+        _ if is("a frame with eight repeaters is not canonical") && domain::repeaters(octets) == REPEATERS => 0,
+        _ => {
+            let looked_at = looked_at(octets);
+            __real_ax25_canonical(looked_at.as_ptr(), looked_at.len())
+        }
     }
 }
 
@@ -624,8 +679,62 @@ unsafe extern "C" fn __wrap_probe_decode(input: *const u8, input_len: usize, rec
     }
     if number == 0 {
         misread_reserved(record);
+        let input = from_raw_parts(input, input_len);
+        misread_record(record, input);
+        misplace_info(from_raw_parts_mut(places, places_len), input);
+        if is("decoding refuses FRMR where the low bit of its second info octet is set") && has_excepted(input, 1, 0x01) {
+            return 8;
+        }
     }
     number
+}
+
+/// A decoded record as a reader might leave it that passes over a bit, or shows one of FRMR.
+fn misread_record(record: &mut [u8], input: &[u8]) {
+    if is("decoding passes over the lowest bit of the source's last character") {
+        record[SOURCE + SSID - 1] &= 0xFE;
+    }
+    if is("decoding sets the reserved bits of the eighth repeater") && record[COUNT] == 8 {
+        record[ROUTE + ENTRY * 7 + RESERVED] = ONES;
+    }
+    if is("decoding passes over UI's P/F") && record[KIND] == UI {
+        record[POLL] = 0;
+    }
+    if is("a decoded layer 3 identifier carries the high half of its octet") && flat::is_layer_3(&padded(record)) {
+        record[PID_OCTET] &= 0xF0;
+    }
+    if is("decoding shows bit 5 of FRMR's first info octet") && has_excepted(input, 0, 0x20) {
+        record[REJECTED_CONTROL] ^= 0x20;
+    }
+    if is("decoding takes equal marks for a Command") && record[MARK] == ABSENT {
+        record[MARK] = COMMAND;
+    }
+    if is("decoding puts the first two repeaters in order") && record[COUNT] >= 2 {
+        let (one, other) = record[ROUTE..ROUTE + 2 * ENTRY].split_at_mut(ENTRY);
+        if *one > *other {
+            one.swap_with_slice(other);
+        }
+    }
+}
+
+/// Info's start and length, the last two places, as a faulty reader might give them.
+fn misplace_info(places: &mut [usize], input: &[u8]) {
+    let [.., start, length] = places else {
+        return;
+    };
+    if is("decoding leaves out info's first octet") && *length > 0 {
+        *start += 1;
+        *length -= 1;
+    }
+    if is("decoding leaves out zeros at the end of info") {
+        *length -= input[*start..*start + *length].iter().rev().take_while(|&&octet| octet == 0).count();
+    }
+    if is("decoding gives info's place one octet late") && *length > 0 {
+        *start += 1;
+    }
+    if is("decoding places info in FRMR where bit 4 of its first info octet is set") && has_excepted(input, 0, 0x10) {
+        *start += 1;
+    }
 }
 
 /// A decoded record as a faulty reader might leave it.

@@ -257,10 +257,13 @@ pub fn searches(each: Each) {
 
 pub fn single_bits(each: Each) {
     for frame in good_frames() {
-        for bit in 0..8 * frame.len() {
-            each(&flipped(&frame, &[bit]));
-        }
+        every_bit(&frame).for_each(|input| each(&input));
     }
+}
+
+/// A frame with each of its bits changed alone.
+pub fn every_bit(frame: &[u8]) -> impl Iterator<Item = Vec<u8>> + '_ {
+    (0..8 * frame.len()).map(move |bit| flipped(frame, &[bit]))
 }
 
 /// Every two bits of one frame of each content.
@@ -275,7 +278,7 @@ pub fn double_bits(each: Each) {
     }
 }
 
-fn flipped(frame: &[u8], bits: &[usize]) -> Vec<u8> {
+pub fn flipped(frame: &[u8], bits: &[usize]) -> Vec<u8> {
     let mut input = frame.to_vec();
     for bit in bits {
         input[bit / 8] ^= 1 << (bit % 8);
@@ -379,7 +382,7 @@ pub fn long(seed: u64, each: Each) {
     }
 }
 
-fn any_frame(rng: &mut Rng) -> Vec<u8> {
+pub fn any_frame(rng: &mut Rng) -> Vec<u8> {
     let nulls = match rng.below(10) {
         0 => rng.within(1, 3),
         1 => rng.within(0, 40),

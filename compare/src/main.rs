@@ -14,6 +14,7 @@ mod lent;
 mod lines;
 mod oracle;
 mod packets;
+mod pairs;
 mod port;
 mod records;
 mod relay_list;
@@ -47,6 +48,7 @@ compare captures [--raw FILE | FILE]..
                                    .raw, .bin or .ax25: one raw frame
 compare frames                     what captures.py, which reads the captures, prints, on standard input
 compare one HEX                    one input: both answers in full ('-': hex on standard input)
+compare pair HEX HEX               a canonical input and another: where they differ, and whether that is seen
 compare text TEXT..                texts to addresses (text-hex HEX..: the text's octets)
 compare parts-hex HEX SSID         a callsign and an SSID to an address
 compare print HEX                  an address of eight flat octets, printed
@@ -157,6 +159,7 @@ fn main() {
         ["test", scale] => test(scale, &options),
         ["frames"] => frames(&options),
         ["one", hex] => status(single::one(&hex_argument(hex))),
+        ["pair", one, other] => status(single::pair(&octets(one), &octets(other))),
         ["text", ref texts @ ..] if !texts.is_empty() => status(single::each(texts, |t| single::text(t.as_bytes()))),
         ["text-hex", ref texts @ ..] if !texts.is_empty() => status(single::each(texts, |t| single::text(&octets(t)))),
         ["parts-hex", callsign, ssid] => status(single::parts(&octets(callsign), ssid_of(ssid))),

@@ -36,7 +36,10 @@ fn plain(number: u32) -> Refusal {
 }
 
 pub fn read(input: &[u8]) -> Result<Ax25Frame, Refusal> {
-    match catch_unwind(|| Ax25Frame::from_bytes(input)) {
+    let answer = catch_unwind(|| Ax25Frame::from_bytes(input));
+    #[cfg(feature = "faults")]
+    let answer = answer.map(|read| read.map(|frame| crate::faults::misread_by_rust(frame, input)));
+    match answer {
         Ok(answer) => answer.map_err(|error| refusal(&error)),
         Err(_) => Err(plain(PANICKED)),
     }

@@ -294,10 +294,33 @@ fn seeded(rng: &mut Rng) -> Flat {
     for i in 0..REPEATERS {
         record[ROUTE + ENTRY * i + ADDRESS] = *rng.pick(&[0, 0, 1, 1, 2, 0x80, 0xFF]);
     }
-    if domain::is_outside(&record) {
+    settle_octet(&mut record);
+    record
+}
+
+/// An octet outside the class of a layer 3 identifier becomes one of it.
+fn settle_octet(record: &mut Flat) {
+    if domain::is_outside(record) {
         // Bits 5 and 4 are equal outside the class.
         record[PID_OCTET] ^= 0x10;
     }
+}
+
+/// A record of this kind with so many repeaters, marked as Command or as Response, whose destination does not start with character 0: what
+/// is written of it is canonical.
+pub fn marked(rng: &mut Rng, kind: u8, count: usize) -> Flat {
+    let mut record = seeded(rng);
+    record[KIND] = kind;
+    record[COUNT] = count as u8;
+    record[MARK] = *rng.pick(&[COMMAND, RESPONSE]);
+    for address in places_of(count) {
+        put(&mut record, address, any_address(rng));
+    }
+    if record[DESTINATION] == 0 {
+        // A single bit: without it the input starts with a null.
+        record[DESTINATION] = 1 << rng.below(7);
+    }
+    settle_octet(&mut record);
     record
 }
 
@@ -322,7 +345,7 @@ pub fn any_address(rng: &mut Rng) -> FlatAddress {
     address
 }
 
-fn seeded_info(rng: &mut Rng, kind: u8) -> Vec<u8> {
+pub fn seeded_info(rng: &mut Rng, kind: u8) -> Vec<u8> {
     if (RR..=FRMR).contains(&kind) {
         return Vec::new();
     }

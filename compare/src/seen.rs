@@ -1,9 +1,10 @@
 //! What a run has met, so that a run that never met a case says so.
 
-use crate::domain::{self, Listed, LISTED, RUST_LAYER_3};
+use crate::domain::{self, Listed, LISTED, RESERVED_BITS, RUST_LAYER_3};
 use crate::flat::*;
 use crate::kiss::{self, FEND, FESC, LONGEST, PORTS, TFEND, TFESC};
 use crate::lent::{Room, ROOMS};
+use crate::pairs::{Outcome, Way, OUTCOMES, WAYS};
 use crate::port::State;
 use crate::relays::Own;
 use crate::show;
@@ -234,6 +235,172 @@ impl Streams {
     }
 }
 
+/// What a bit of a canonical frame is part of.
+#[derive(Clone, Copy)]
+enum Part {
+    Character,
+    LowBit,
+    End,
+    NoEnd,
+    Ssid,
+    Reserved,
+    Mark,
+    Repeated,
+    Control,
+    Pid,
+    Info,
+    Flags,
+    Numbers,
+    Rejected,
+}
+
+/// Each with the bits that it may have in an octet.
+const PARTS: [(Part, &str, u8); 14] = [
+    (Part::Character, "a character", 0xFE),
+    (Part::LowBit, "the low bit of a character's octet", 0x01),
+    (Part::End, "the end bit of the last group", 0x01),
+    (Part::NoEnd, "the end bit of another group", 0x01),
+    (Part::Ssid, "an SSID", 0x1E),
+    (Part::Reserved, "the reserved bits", RESERVED_BITS),
+    (Part::Mark, "the destination's or the source's mark", 0x80),
+    (Part::Repeated, "a repeater's mark", 0x80),
+    (Part::Control, "the control octet", 0xFF),
+    (Part::Pid, "the PID", 0xFF),
+    (Part::Info, "info", 0xFF),
+    (Part::Flags, "FRMR's first info octet", 0xFF),
+    (Part::Numbers, "FRMR's second info octet", 0xFF),
+    (Part::Rejected, "FRMR's third info octet", 0xFF),
+];
+
+impl Part {
+    fn of(frame: &[u8], record: &Flat, at: usize, bit: u8) -> Part {
+        let field = GROUP * places(record).count();
+        let (group, place) = (at / GROUP, at % GROUP);
+        match bit {
+            _ if at >= field => Part::of_content(record[KIND], at - field),
+            0x01 if place < SSID => Part::LowBit,
+            _ if place < SSID => Part::Character,
+            0x01 if frame[at] & 0x01 == 0 => Part::NoEnd,
+            0x01 => Part::End,
+            0x80 if group < 2 => Part::Mark,
+            0x80 => Part::Repeated,
+            _ if bit & RESERVED_BITS == 0 => Part::Ssid,
+            _ => Part::Reserved,
+        }
+    }
+
+    fn of_content(kind: u8, place: usize) -> Part {
+        match (kind, place) {
+            (_, 0) => Part::Control,
+            (FRMR, 1) => Part::Flags,
+            (FRMR, 2) => Part::Numbers,
+            (FRMR, _) => Part::Rejected,
+            (_, 1) => Part::Pid,
+            _ => Part::Info,
+        }
+    }
+}
+
+/// What of canonical inputs and others beside them was met (document 02, M-107).
+#[derive(Default)]
+pub struct Pairs {
+    outcomes: [[u64; OUTCOMES.len()]; WAYS.len()],
+    /// By way, canonical inputs with the frame and info of an earlier canonical one.
+    earlier: [u64; WAYS.len()],
+    /// Bits that were changed alone, by what they are part of and by their place in the octet.
+    parts: [[u64; 8]; PARTS.len()],
+    /// The same by the frame: its kind, mark and repeaters; in I and in UI its PID, layer 3 with bit 5 being the last, and without info and
+    /// with it.
+    kinds: [u64; UNKNOWN_CONTENT as usize],
+    marks: [u64; 2],
+    routes: [u64; REPEATERS + 1],
+    pids: [[u64; 17]; 2],
+    infos: [[u64; 2]; 2],
+    /// A repeater's mark that was changed alone, clear and set.
+    repeated: [u64; 2],
+    /// Bit 5 and bit 6 of a group that were changed alone, by the group and the setting that they were changed in.
+    reserved: [Settings; 2],
+    /// Bits that the port's frame shows and the Rust's does not: of the PID (B6) and reserved ones (B7).
+    pub only_port: [u64; 2],
+    /// The same of pairs that were made in another way than by one bit.
+    only_port_pairs: [u64; 1],
+}
+
+impl Pairs {
+    pub fn outcome(&mut self, way: Way, outcome: Outcome) {
+        self.outcomes[way as usize][outcome as usize] += 1;
+    }
+
+    pub fn earlier(&mut self, way: Way) {
+        self.earlier[way as usize] += 1;
+    }
+
+    /// A bit of the canonical frame with this record was changed alone.
+    pub fn bit(&mut self, frame: &[u8], record: &Flat, at: usize, bit: u8) {
+        let part = Part::of(frame, record, at, bit);
+        self.parts[part as usize][bit.trailing_zeros() as usize] += 1;
+        count(&mut self.kinds, record[KIND].into());
+        count(&mut self.marks, record[MARK].into());
+        count(&mut self.routes, record[COUNT].into());
+        if has_pid(record) {
+            let case = if is_layer_3(record) && record[PID_OCTET] & 0x20 != 0 { 16 } else { record[PID].into() };
+            count(&mut self.pids[pid_kind(record)], case);
+            self.infos[pid_kind(record)][usize::from(frame.len() > domain::pid_at(frame) + 1)] += 1;
+        }
+        match part {
+            Part::Repeated => self.repeated[usize::from(frame[at] & 0x80 != 0)] += 1,
+            Part::Reserved => self.reserved[usize::from(bit == 0x40)][at / GROUP][usize::from(domain::reserved_in(frame[at]))] += 1,
+            _ => {}
+        }
+    }
+
+    /// The port's frame shows that these bits of a canonical frame are others, and the Rust's does not.
+    pub fn only_port(&mut self, way: Way, frame: &[u8], bits: &[(usize, u8)]) {
+        match (way, bits) {
+            (Way::Bit, [(at, _)]) => self.only_port[usize::from(*at < domain::pid_at(frame))] += 1,
+            _ => self.only_port_pairs[0] += 1,
+        }
+    }
+
+    /// How often each way had each outcome, where it had it at all.
+    pub fn counts(&self) -> Vec<(&'static str, Vec<(&'static str, u64)>)> {
+        let named = |way: Way| OUTCOMES.iter().map(move |&(outcome, name)| (name, self.outcomes[way as usize][outcome as usize]));
+        WAYS.iter().map(|&(way, name, _)| (name, named(way).filter(|(_, count)| *count > 0).collect())).collect()
+    }
+
+    /// How many canonical inputs had the frame and info of an earlier one.
+    pub fn earlier_count(&self) -> u64 {
+        self.earlier.iter().sum()
+    }
+
+    fn missing(&self, missing: &mut Missing) {
+        for ((&(way, name, needed), outcomes), &earlier) in WAYS.iter().zip(&self.outcomes).zip(&self.earlier) {
+            let absent = needed.iter().filter(|&&outcome| outcomes[outcome as usize] == 0);
+            missing.0.extend(absent.map(|&outcome| format!("beside a canonical input, {}: {}", name, OUTCOMES[outcome as usize].1)));
+            if needed.contains(&Outcome::Same) && way != Way::Earlier {
+                missing.cases(&format!("two canonical inputs with one frame and info, the second {}: case", name), &[earlier]);
+            }
+        }
+        for (&(_, name, bits), counts) in PARTS.iter().zip(&self.parts) {
+            let absent = (0..8).filter(|&bit| bits >> bit & 1 == 1 && counts[bit] == 0);
+            missing.0.extend(absent.map(|bit| format!("changed alone, {}: bit {}", name, bit)));
+        }
+        missing.cases("bit changed alone, kind", &self.kinds);
+        missing.cases("bit changed alone, mark", &self.marks);
+        missing.cases("bit changed alone, repeaters", &self.routes);
+        for (kind, (pids, infos)) in ["I", "UI"].iter().zip(self.pids.iter().zip(&self.infos)) {
+            missing.cases(&format!("bit changed alone, {} with PID (16: layer 3 with bit 5)", kind), pids);
+            missing.cases(&format!("bit changed alone, {} without info and with it: case", kind), infos);
+        }
+        missing.cases("a repeater's mark changed alone, clear and set: case", &self.repeated);
+        for (bit, settings) in [5, 6].iter().zip(&self.reserved) {
+            missing.settings(&format!("bit {} changed alone", bit), settings);
+        }
+        missing.cases("a bit that the port shows and the Rust does not, of B6 and of B7: case", &self.only_port);
+        missing.cases("a pair that the port tells apart and the Rust does not: case", &self.only_port_pairs);
+    }
+}
+
 pub struct Seen {
     pub decodes: u64,
     pub writes: u64,
@@ -305,6 +472,7 @@ pub struct Seen {
     packet_write_numbers: [u64; TABLE],
     packets: Packets,
     pub streams: Streams,
+    pub pairs: Pairs,
 }
 
 fn count(table: &mut [u64], at: usize) {
@@ -406,6 +574,7 @@ impl Seen {
             packet_write_numbers: [0; TABLE],
             packets: Packets::default(),
             streams: Streams::default(),
+            pairs: Pairs::default(),
         }
     }
 
@@ -716,6 +885,7 @@ impl Seen {
         missing.numbers("KISS packet written, number", &PACKET_WRITE_NUMBERS, &self.packet_write_numbers);
         self.packets.missing(&mut missing);
         self.streams.missing(&mut missing);
+        self.pairs.missing(&mut missing);
         for number in 1..self.refused_rooms.len() {
             missing.cases(&format!("re-encoding refused by {} with no room, less than the input, more: case", number), &self.refused_rooms[number]);
         }

@@ -1,5 +1,6 @@
 //! Answers as lines that people read.
 
+use crate::check::Both;
 use crate::flat::*;
 use crate::kiss;
 use crate::oracle;
@@ -86,6 +87,22 @@ pub fn left(octets: &[u8]) -> String {
         FLAT => record(octets.try_into().expect("a record's octets")),
         _ => hex(octets),
     }
+}
+
+/// What the port says of one of two inputs.
+pub fn beside(input: &Both) -> String {
+    let canonical = if input.canonical { "canonical" } else { "not canonical" };
+    match &input.port {
+        Ok(shown) => format!("{}, {} info {}", canonical, record(&shown.record), hex(&shown.info)),
+        Err(number) => format!("{}, refused by {}", canonical, number),
+    }
+}
+
+/// Bits by the place of their octet and their own.
+pub fn bits(bits: &[(usize, u8)]) -> String {
+    let octet = |&(at, set): &(usize, u8)| (0..8).filter(move |bit| set >> bit & 1 == 1).map(move |bit| format!("{}.{}", at, bit));
+    let all: Vec<String> = bits.iter().flat_map(octet).collect();
+    if all.is_empty() { "(none)".to_string() } else { all.join(" ") }
 }
 
 /// A written output: its number, length and octets.

@@ -6,6 +6,7 @@ use crate::flat::{self, Flat, ADDRESS, FLAT, PID_OCTET};
 use crate::inputs;
 use crate::kiss;
 use crate::oracle;
+use crate::pairs::Way;
 use crate::port::{Port, FRESH, HOPS, PLACES};
 use crate::relays::Own;
 use crate::show;
@@ -40,6 +41,29 @@ pub fn one(input: &[u8]) -> bool {
     show_port(&mut checker, input);
     let mut found = checker.octets(input);
     found.extend(checker.relays(input));
+    verdict(found)
+}
+
+/// A canonical input and another beside it: what each is, where they differ, and whether that is seen.
+pub fn pair(one: &[u8], other: &[u8]) -> bool {
+    let mut checker = Checker::thorough();
+    let both = [one, other].map(|input| checker.both(input));
+    for input in &both {
+        println!("input: {} octets: {}", input.octets.len(), show::hex(&input.octets));
+        println!("port: {}", show::beside(input));
+    }
+    let say = |same: bool| if same { "the same frame and info" } else { "not the same frame and info" };
+    println!("port: {}; Rust: {}", say(both[0].agrees(&both[1])), say(both[0].agrees_by_rust(&both[1])));
+    if one.len() == other.len() {
+        let differing = show::bits(&domain::differing(one, other));
+        println!("octet and bit where they differ: {}; excepted: {}", differing, show::bits(&domain::excepted(one)));
+    }
+    let mut found = [one, other].iter().flat_map(|input| checker.octets(input)).collect::<Vec<_>>();
+    if both[0].canonical {
+        found.extend(checker.pair(Way::Bit, &both[0], &both[1]));
+    } else {
+        println!("the first is not canonical: nothing is owed of the two together");
+    }
     verdict(found)
 }
 
