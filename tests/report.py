@@ -118,6 +118,13 @@ def streams(part):
     return f"{counts['streams']} KISS streams of {counts['octets']} octets were read in pieces: {counts['packets']} packets given out, {counts['dropped']} dropped."
 
 
+def pairs(part):
+    """Each accepted frame beside what it is re-encoded as (document 02, M-107)."""
+    outcomes = part["pairs"]["re-encoded as that"]
+    said = ", ".join(f"{name} {count} times" for name, count in outcomes.items()) or "none was accepted"
+    return f"Each accepted frame beside what it is re-encoded as: {said}; {part['frames_again']} frames are re-encoded as an earlier one."
+
+
 def rooms(part):
     return "Room lent to writers: " + ", ".join(f"{name} {count} times" for name, count in part["rooms"].items()) + "."
 
@@ -144,7 +151,7 @@ def markdown(report):
         part = report["captures"]
         rows = [(c["file"], c["format"], c["frames"], c["packets"], len(c["passed_over"])) for c in part["captures"]]
         out += table(["file", "format", "frames", "KISS packets", "passed over"], rows)
-        out += ["", f"{part['decodes']} decodes and {part['writes']} writes compared; {part['accepted']} accepted, {part['canonical']} of them canonical. " + relays(part) + " " + packets(part) + " " + streams(part) + " " + listed(part), ""]
+        out += ["", f"{part['decodes']} decodes and {part['writes']} writes compared; {part['accepted']} accepted, {part['canonical']} of them canonical. " + relays(part) + " " + pairs(part) + " " + packets(part) + " " + streams(part) + " " + listed(part), ""]
     else:
         out += ["Not compared.", ""]
     out += ["## The Rust beside the port", ""]

@@ -3,6 +3,7 @@
 use crate::check::Checker;
 use crate::classes::class;
 use crate::kiss;
+use crate::pairs;
 use crate::report::{self, Report};
 use crate::rng::Rng;
 use crate::show;
@@ -25,7 +26,7 @@ struct Read {
     refused: Vec<(String, String)>,
 }
 
-/// Compares every frame and every KISS packet of every capture, and every KISS log as a stream. Also how many captures could not be read;
+/// Compares every frame and every KISS packet of every capture, every KISS log as a stream, and frames with one another. Also how many captures could not be read;
 /// why is printed.
 pub fn compare(list: &str) -> Result<(Report, usize), String> {
     let read = read(list)?;
@@ -39,6 +40,9 @@ pub fn compare(list: &str) -> Result<(Report, usize), String> {
     }
     report::totals(&mut report, &checker.seen);
     println!("frames with a route, relayed by each of their repeaters: {}", checker.seen.relayed_routes);
+    report::pairs(&mut report, &checker.seen);
+    println!("frames that are re-encoded as an earlier one: {}", checker.seen.pairs.again);
+    report.extra("frames_again", checker.seen.pairs.again.to_string());
     report.extra("relayed_routes", checker.seen.relayed_routes.to_string());
     report.extra("captures", report::list(read.captures.iter().map(capture_json)));
     report.extra("refused_captures", report::list(read.refused.iter().map(refused_json)));
@@ -103,6 +107,9 @@ fn compare_one(checker: &mut Checker, report: &mut Report, capture: &Capture) {
         for (place, octets) in &capture.frames {
             class.octets_at(place, octets);
         }
+    });
+    class(checker, report, &format!("unseen: frames of {} ({}), each beside its re-encoding", capture.file, capture.format), |class| {
+        pairs::captured(capture.frames.iter().map(|(_, octets)| octets), &mut |one, others| class.pairs(one, others));
     });
     if !capture.packets.is_empty() {
         class(checker, report, &format!("KISS packets of {} ({})", capture.file, capture.format), |class| {

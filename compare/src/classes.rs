@@ -73,9 +73,11 @@ impl Class<'_> {
     }
 
     /// A canonical input, and others beside it. Each of them that is canonical stands beside an earlier one with the same frame too.
-    fn pairs(&mut self, one: &[u8], others: &mut dyn Iterator<Item = (Way, Vec<u8>)>) {
+    pub fn pairs(&mut self, one: &[u8], others: &mut dyn Iterator<Item = (Way, Vec<u8>)>) {
         let one = self.checker.both(one);
-        self.earlier(&one);
+        if self.earlier(&one) {
+            self.checker.seen.pairs.again += 1;
+        }
         for (way, other) in others {
             let other = self.checker.both(&other);
             self.pair(way, &one, &other);
@@ -267,6 +269,7 @@ pub fn test(scale: usize, seed: u64, only: Option<String>) -> Report {
     class(&mut checker, &mut report, "met: every number, kind, mark, PID, layer 3 octet, reserved bits, route length, room, search, due place, KISS port, cut, changed bit, pair and listed difference", |c| c.missing(missing));
     report::totals(&mut report, &checker.seen);
     report::pairs(&mut report, &checker.seen);
+    report::told_apart(&mut report, &checker.seen);
     report.extra("seed", seed.to_string());
     report.extra("scale", scale.to_string());
     report

@@ -150,10 +150,20 @@ pub fn seeded(seed: u64, count: usize, each: Each) {
         let records = [(&record, &info), (&almost, &other)];
         others.extend(records.iter().filter_map(|(record, info)| Some((Way::Written, written(&mut port, record, info)?))));
         each(&frame, &mut others.into_iter());
-        let input = inputs::any_frame(&mut rng);
-        if let Some(frame) = reencoded(&mut port, &input) {
-            each(&frame, &mut std::iter::once((Way::Reencoded, input)));
-        }
+        beside_again(&mut port, &inputs::any_frame(&mut rng), each);
+    }
+}
+
+/// Frames off the air, each beside what it is re-encoded as.
+pub fn captured<'a>(frames: impl Iterator<Item = &'a Vec<u8>>, each: Each) {
+    let mut port = Port::new();
+    frames.for_each(|frame| beside_again(&mut port, frame, each));
+}
+
+/// An input beside what it is re-encoded as, unless it is refused.
+fn beside_again(port: &mut Port, input: &[u8], each: Each) {
+    if let Some(frame) = reencoded(port, input) {
+        each(&frame, &mut std::iter::once((Way::Reencoded, input.to_vec())));
     }
 }
 

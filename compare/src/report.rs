@@ -147,18 +147,25 @@ pub fn totals(report: &mut Report, seen: &Seen) {
 /// The same of canonical inputs and others beside them.
 pub fn pairs(report: &mut Report, seen: &Seen) {
     let ways = seen.pairs.counts();
-    for (way, outcomes) in &ways {
+    for (way, outcomes) in ways.iter().filter(|(_, outcomes)| !outcomes.is_empty()) {
         let said: Vec<String> = outcomes.iter().map(|(outcome, count)| format!("{}: {}", outcome, count)).collect();
         println!("beside a canonical input, {}: {}", way, said.join(", "));
     }
+    let ways: Vec<(&str, String)> = ways.iter().map(|(way, outcomes)| (*way, named(outcomes))).collect();
+    report.extra("pairs", object(&ways));
+}
+
+/// How often two canonical inputs had one frame, and what the port's frames tell apart and the Rust's don't.
+pub fn told_apart(report: &mut Report, seen: &Seen) {
     let (earlier, [pid, reserved]) = (seen.pairs.earlier_count(), seen.pairs.only_port);
     println!("canonical inputs with the frame and info of an earlier one: {}", earlier);
     println!("bits that the port's frame shows and the Rust's does not: of a layer 3 PID (B6): {}, reserved (B7): {}", pid, reserved);
-    let named = |outcomes: &[(&str, u64)]| counts(outcomes.iter().map(|&(name, count)| (name.to_string(), count)));
-    let ways: Vec<(&str, String)> = ways.iter().map(|(way, outcomes)| (*way, named(outcomes))).collect();
-    report.extra("pairs", object(&ways));
     report.extra("canonical_again", earlier.to_string());
     report.extra("only_port", named(&[("B6", pid), ("B7", reserved)]));
+}
+
+fn named(outcomes: &[(&str, u64)]) -> String {
+    counts(outcomes.iter().map(|&(name, count)| (name.to_string(), count)))
 }
 
 pub fn counts(counts: impl Iterator<Item = (String, u64)>) -> String {

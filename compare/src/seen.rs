@@ -307,6 +307,8 @@ pub struct Pairs {
     outcomes: [[u64; OUTCOMES.len()]; WAYS.len()],
     /// By way, canonical inputs with the frame and info of an earlier canonical one.
     earlier: [u64; WAYS.len()],
+    /// The same of the canonical inputs that the others stand beside.
+    pub again: u64,
     /// Bits that were changed alone, by what they are part of and by their place in the octet.
     parts: [[u64; 8]; PARTS.len()],
     /// The same by the frame: its kind, mark and repeaters; in I and in UI its PID, layer 3 with bit 5 being the last, and without info and
