@@ -1,4 +1,5 @@
--- Document 02, M-107, proved: what is read alike at equal length is the same octets, save for excepted bits, and nothing less is excepted.
+-- Document 02, M-107, proved: what is read alike at equal length is the same octets, save for excepted bits, and those make
+-- no difference.
 use Prim.Native.Nat.{ℕ, _+_, _-_, _*_, _<_}
 use mathlib.Core.Path.{_≡_, refl, ap, sym, _∙_}
 use mathlib.Core.Bool.{true, false}
@@ -39,6 +40,9 @@ module _ (s t : List ℕ) (o : Octets s) (p : Octets t) (c : canonical s ≡ tru
   abbrev after : ℕ
   after = 14 + 7 * f .«route_count»
 
+  abbrev Seen : Type 0
+  Seen = Alike s (decode s) t (decode t)
+
   accepted : isAccepted (decode s .answer) ≡ true
   accepted = canonical-plain s o c .0
 
@@ -52,30 +56,30 @@ module _ (s t : List ℕ) (o : Octets s) (p : Octets t) (c : canonical s ≡ tru
       rw spells at (spelled-end f (infoIn s (decode s)) (canonical-plain s o c .1)) in
       omega arith
 
-  same-frame : isAccepted (decode t .answer) ≡ true → Alike s (decode s) t (decode t) → decode t .frame ≡ f
-  same-frame e a = sym (read t p e .kept) ∙ a .frame ∙ read s o accepted .kept
+  same-frame : Seen → decode t .frame ≡ f
+  same-frame a = sym (read t p (a .accepted) .kept) ∙ a .frame ∙ read s o accepted .kept
 
   -- what the frame and the info of t spell is s
-  spelled : Alike s (decode s) t (decode t) → spell (decode t .frame) (infoIn t (decode t)) ≡ s
-  spelled a = rw (same-frame (a .accepted) a, a .info) spells
+  spelled : Seen → spell (decode t .frame) (infoIn t (decode t)) ≡ s
+  spelled a = rw (same-frame a, a .info) spells
 
-  fits : length t ≡ length s → (a : Alike s (decode s) t (decode t)) → SpelledAlike t f s
+  fits : length t ≡ length s → Seen → SpelledAlike t f s
   fits l a =
-      let m : marked (decode t .frame .«command_or_response») ≡ true = rw (same-frame (a .accepted) a) (canonical-plain s o c .1 .mark) in
+      let m : marked (decode t .frame .«command_or_response») ≡ true = rw (same-frame a) (canonical-plain s o c .1 .mark) in
       let w : length (spell (decode t .frame) (infoIn t (decode t))) ≡ length t = rw (spelled a) (sym l) in
-      rw (spelled a, same-frame (a .accepted) a) at (spelled-alike t p (a .accepted) m w)
+      rw (spelled a, same-frame a) at (spelled-alike t p (a .accepted) m w)
 
-  same-save : length t ≡ length s → Alike s (decode s) t (decode t) → SameSave f s t
+  same-save : length t ≡ length s → Seen → SameSave f s t
   same-save l a k j h x =
       by (leb after k)
       (λ e. let at : after + (k - after) ≡ k = omega (arith, leb-true after k e) in
       sym (rw at at (fits l a .content (k - after) j h (rw e at x))))
       (λ e. ap (bit j) (sym (fits l a .field k (leb-false after k e))))
 
-  octets : length t ≡ length s → Alike s (decode s) t (decode t) → ((r : FrameReject) → f .content ≡ kind.FrameReject r → ⊥) → t ≡ s
+  octets : length t ≡ length s → Seen → ((r : FrameReject) → f .content ≡ kind.FrameReject r → ⊥) → t ≡ s
   octets l a n = octets-same t s p o l (λ k j h. same-save l a k j h (rw (only-frmr (f .content) n (k - after) j) (and-false (leb after k))))
 
-  tight : length t ≡ length s → SameSave f s t → Alike s (decode s) t (decode t)
+  tight : length t ≡ length s → SameSave f s t → Seen
   tight l x =
       let field : (k : ℕ) → k < endOf s + 1 → getD t k 0 ≡ getD s k 0 =
       λ k h. let before : k < after = rw (← ends) h in
@@ -86,7 +90,7 @@ module _ (s t : List ℕ) (o : Octets s) (p : Octets t) (c : canonical s ≡ tru
       let d = read-alike s t o p accepted l field content in
       record { accepted = rw d accepted; frame = rw d refl; info = info-alike s t o p accepted l field content }
 
-  one : canonical t ≡ true → Alike s (decode s) t (decode t) → t ≡ s
+  one : canonical t ≡ true → Seen → t ≡ s
   one e a = sym (canonical-plain t p e .2) ∙ spelled a
 
   pub nothing-unseen : NothingUnseen s (decode s) t (decode t) (canonical t)

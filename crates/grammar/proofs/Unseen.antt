@@ -42,6 +42,9 @@ module _ (s : List ℕ) (o : Octets s) (a : Accepts s (decode s))
   abbrev c : List ℕ
   c = drop (endOf s + 1) s
 
+  abbrev again : List ℕ
+  again = spell (decode s .frame) (infoIn s (decode s))
+
   again-room : length (front k) + length (infoOf k c) ≤ length c
   again-room =
       by (hasInfo k)
@@ -62,8 +65,8 @@ module _ (s : List ℕ) (o : Octets s) (a : Accepts s (decode s))
       sym (rw (made-frame s o a, info-tail s o a) at (spell-length (decode s .frame) (infoIn s (decode s)))) ∙ rw (made-frame s o a, info-tail s o a) at l in
       (omega (arith, again-room), omega (arith, again-room), omega (arith, again-room))
 
-  -- what it is, and what its frame spells, by the octets after the address field
-  spelled : spell (decode s .frame) (infoIn s (decode s)) ≡ take (14 + 7 * n) s ++ spellContent k (infoOf k c)
+  -- its frame spells the address field as it stands, and the content written again
+  spelled : again ≡ take (14 + 7 * n) s ++ spellContent k (infoOf k c)
   spelled =
       let x = exact in
       rw (made-frame s o a, info-tail s o a)
@@ -72,17 +75,17 @@ module _ (s : List ℕ) (o : Octets s) (a : Accepts s (decode s))
   field-long : length (take (14 + 7 * n) s) ≡ 14 + 7 * n
   field-long = let x = exact in let inside = a .end-in in length-take-le (14 + 7 * n) s (omega arith)
 
-  spelled-field : (p : ℕ) → p < 14 + 7 * n → getD (spell (decode s .frame) (infoIn s (decode s))) p 0 ≡ getD s p 0
+  spelled-field : (p : ℕ) → p < 14 + 7 * n → getD again p 0 ≡ getD s p 0
   spelled-field p h =
       rw spelled
       (List·getD-append (take (14 + 7 * n) s) _ 0 p (rw field-long h) ∙ getD-take (14 + 7 * n) s p 0 h)
 
   spelled-content : (i j : ℕ) → j < 8 → unseen k i j ≡ false
-      → bit j (getD (spell (decode s .frame) (infoIn s (decode s))) (14 + 7 * n + i) 0) ≡ bit j (getD s (14 + 7 * n + i) 0)
+      → bit j (getD again (14 + 7 * n + i) 0) ≡ bit j (getD s (14 + 7 * n + i) 0)
   spelled-content i j h u =
       let x = exact in
       let at : 14 + 7 * n ≡ endOf s + 1 = omega arith in
-      let there : getD (spell (decode s .frame) (infoIn s (decode s))) (14 + 7 * n + i) 0 ≡ getD (spellContent k (infoOf k c)) i 0 =
+      let there : getD again (14 + 7 * n + i) 0 ≡ getD (spellContent k (infoOf k c)) i 0 =
       rw spelled
       (ap (λ (y : ℕ). getD (take (14 + 7 * n) s ++ spellContent k (infoOf k c)) (y + i) 0) (sym field-long)
       ∙ getD-append-add (take (14 + 7 * n) s) (spellContent k (infoOf k c)) i 0) in
