@@ -119,10 +119,12 @@ def streams(part):
 
 
 def pairs(part):
-    """Each accepted frame beside what it is re-encoded as (document 02, M-107)."""
-    outcomes = part["pairs"]["re-encoded as that"]
-    said = ", ".join(f"{name} {count} times" for name, count in outcomes.items()) or "none was accepted"
-    return f"Each accepted frame beside what it is re-encoded as: {said}; {part['frames_again']} frames are re-encoded as an earlier one."
+    """How the frames stand to what they are re-encoded as, and to one another (document 02, M-107)."""
+    again, met = (", ".join(f"{name}: {count}" for name, count in part["pairs"][way].items()) or "none" for way in ("re-encoded as that", "met with the same frame and info"))
+    return (
+        f"Beside what it is re-encoded as each accepted frame is: {again}. {part['frames_again']} frames have the frame and info of an earlier one, "
+        f"which for {part['neither_canonical']} of them is no more canonical than they are; beside the canonical one of the two the other is: {met}."
+    )
 
 
 def rooms(part):

@@ -3,7 +3,8 @@
 use crate::check::Checker;
 use crate::classes::class;
 use crate::kiss;
-use crate::pairs;
+use crate::pairs::{self, Desk};
+use crate::port::Port;
 use crate::report::{self, Report};
 use crate::rng::Rng;
 use crate::show;
@@ -26,14 +27,15 @@ struct Read {
     refused: Vec<(String, String)>,
 }
 
-/// Compares every frame and every KISS packet of every capture, every KISS log as a stream, and frames with one another. Also how many captures could not be read;
-/// why is printed.
+/// Compares every frame and every KISS packet of every capture, every KISS log as a stream, and frames with one another. Also how many
+/// captures could not be read; why is printed.
 pub fn compare(list: &str) -> Result<(Report, usize), String> {
     let read = read(list)?;
     let mut checker = Checker::new();
     let mut report = Report::default();
+    let mut desk = Desk::default();
     for capture in &read.captures {
-        compare_one(&mut checker, &mut report, capture);
+        compare_one(&mut checker, &mut report, &mut desk, capture);
     }
     for (file, problem) in &read.refused {
         println!("REFUSED: {}: {}", file, problem);
@@ -41,8 +43,9 @@ pub fn compare(list: &str) -> Result<(Report, usize), String> {
     report::totals(&mut report, &checker.seen);
     println!("frames with a route, relayed by each of their repeaters: {}", checker.seen.relayed_routes);
     report::pairs(&mut report, &checker.seen);
-    println!("frames that are re-encoded as an earlier one: {}", checker.seen.pairs.again);
-    report.extra("frames_again", checker.seen.pairs.again.to_string());
+    println!("frames with the frame and info of an earlier one: {}, neither of the two canonical: {}", desk.again, desk.neither);
+    report.extra("frames_again", desk.again.to_string());
+    report.extra("neither_canonical", desk.neither.to_string());
     report.extra("relayed_routes", checker.seen.relayed_routes.to_string());
     report.extra("captures", report::list(read.captures.iter().map(capture_json)));
     report.extra("refused_captures", report::list(read.refused.iter().map(refused_json)));
@@ -99,7 +102,7 @@ fn refused_json((file, problem): &(String, String)) -> String {
     report::object(&[("file", report::string(file)), ("problem", report::string(problem))])
 }
 
-fn compare_one(checker: &mut Checker, report: &mut Report, capture: &Capture) {
+fn compare_one(checker: &mut Checker, report: &mut Report, desk: &mut Desk, capture: &Capture) {
     for note in &capture.passed_over {
         println!("passed over: {}: {}", capture.file, note);
     }
@@ -108,8 +111,12 @@ fn compare_one(checker: &mut Checker, report: &mut Report, capture: &Capture) {
             class.octets_at(place, octets);
         }
     });
-    class(checker, report, &format!("unseen: frames of {} ({}), each beside its re-encoding", capture.file, capture.format), |class| {
-        pairs::captured(capture.frames.iter().map(|(_, octets)| octets), &mut |one, others| class.pairs(one, others));
+    class(checker, report, &format!("unseen: frames of {} ({}) beside one another", capture.file, capture.format), |class| {
+        let mut port = Port::new();
+        for (_, octets) in &capture.frames {
+            pairs::beside_again(&mut port, octets, &mut |one, others| class.pairs(one, others));
+            class.at_desk(desk, octets);
+        }
     });
     if !capture.packets.is_empty() {
         class(checker, report, &format!("KISS packets of {} ({})", capture.file, capture.format), |class| {

@@ -16,7 +16,6 @@ use crate::seen::{Seen, Writer};
 use crate::show;
 use crate::streams;
 use ax25::frame::Ax25Frame;
-use std::collections::HashMap;
 
 /// One thing that differs, with both answers in full.
 #[derive(Clone, Default)]
@@ -36,12 +35,7 @@ pub struct Checker {
     found: Vec<Difference>,
     /// Draws the rooms.
     draw: Rng,
-    /// Canonical inputs of late, by what the port shows of them.
-    canonical: HashMap<Shown, Vec<u8>>,
 }
-
-/// So many canonical inputs are kept.
-const KEPT: usize = 10_000;
 
 /// All that the port's frame and info say of an accepted input: the record, and info by its octets.
 #[derive(Clone, PartialEq, Eq, Hash)]
@@ -92,8 +86,7 @@ const CONTENT: usize = FLAT - KIND;
 
 impl Checker {
     pub fn new() -> Checker {
-        let (port, seen, draw) = (Port::new(), Seen::new(), Rng::new(0));
-        Checker { port, seen, quiet: false, thorough: false, found: Vec::new(), draw, canonical: HashMap::new() }
+        Checker { port: Port::new(), seen: Seen::new(), quiet: false, thorough: false, found: Vec::new(), draw: Rng::new(0) }
     }
 
     /// For one input at a time: whatever room showed a difference is among those that are tried.
@@ -928,19 +921,6 @@ impl Checker {
         if one.agrees_by_rust(other) && !one.agrees(other) {
             self.seen.pairs.only_port(way, &one.octets, bits);
         }
-    }
-
-    /// The canonical input of late that has this one's frame and info, where this one is canonical too. It is kept where there is none.
-    pub fn earlier(&mut self, input: &Both) -> Option<Vec<u8>> {
-        let shown = input.port.as_ref().ok().filter(|_| input.canonical)?;
-        if let Some(earlier) = self.canonical.get(shown) {
-            return Some(earlier.clone());
-        }
-        if self.canonical.len() >= KEPT {
-            self.canonical.clear();
-        }
-        self.canonical.insert(shown.clone(), input.octets.clone());
-        None
     }
 
     /// The refusals that are `probe`'s own: a lent buffer shorter than what is to be left there.

@@ -2,7 +2,7 @@
 
 use crate::check::{self, padded, Both, Checker, Difference};
 use crate::flat::{self, FlatAddress, ONES};
-use crate::pairs::{self, Way};
+use crate::pairs::{self, Desk, Way};
 use crate::port::{Beside, State, FRESH};
 use crate::relays::{self, Own};
 use crate::report::{self, Line, Report};
@@ -72,29 +72,28 @@ impl Class<'_> {
         });
     }
 
-    /// A canonical input, and others beside it. Each of them that is canonical stands beside an earlier one with the same frame too.
+    /// A canonical input, and others beside it.
     pub fn pairs(&mut self, one: &[u8], others: &mut dyn Iterator<Item = (Way, Vec<u8>)>) {
         let one = self.checker.both(one);
-        if self.earlier(&one) {
-            self.checker.seen.pairs.again += 1;
-        }
         for (way, other) in others {
             let other = self.checker.both(&other);
             self.pair(way, &one, &other);
-            if self.earlier(&other) {
-                self.checker.seen.pairs.earlier(way);
-            }
         }
     }
 
-    /// Whether there is an earlier canonical input to compare with.
-    fn earlier(&mut self, input: &Both) -> bool {
-        let earlier = self.checker.earlier(input);
-        if let Some(earlier) = &earlier {
-            let earlier = self.checker.both(earlier);
-            self.pair(Way::Earlier, &earlier, input);
+    /// A frame as the radio desk meets it: beside an earlier one with the same frame and info, of which either may be canonical.
+    pub fn at_desk(&mut self, desk: &mut Desk, frame: &[u8]) {
+        let frame = self.checker.both(frame);
+        let Some(earlier) = desk.earlier(&frame) else {
+            return;
+        };
+        let earlier = self.checker.both(&earlier);
+        match (earlier.canonical, frame.canonical) {
+            (true, _) => self.pair(Way::Met, &earlier, &frame),
+            (false, true) => self.pair(Way::Met, &frame, &earlier),
+            // Of two that are not canonical nothing is said.
+            (false, false) => desk.neither += 1,
         }
-        earlier.is_some()
     }
 
     fn pair(&mut self, way: Way, one: &Both, other: &Both) {

@@ -14,7 +14,7 @@ use std::slice::{from_raw_parts, from_raw_parts_mut};
 use std::sync::atomic::{AtomicUsize, Ordering};
 
 /// What each fault does, from 1 on, and words in the name of a class that has to find it.
-const FAULTS: [(&str, &str); 167] = [
+const FAULTS: [(&str, &str); 168] = [
     ("re-encoding writes the address field, then answers 24", "every prefix"),
     ("re-encoding writes the address field, then refuses the content", "every prefix"),
     ("re-encoding into no room at all answers 0", "every prefix"),
@@ -173,6 +173,7 @@ const FAULTS: [(&str, &str); 167] = [
     ("decoding shows bit 5 of FRMR's first info octet", "unseen: every bit"),
     ("decoding refuses FRMR where the low bit of its second info octet is set", "unseen: every bit"),
     ("decoding places info in FRMR where bit 4 of its first info octet is set", "unseen: every bit"),
+    ("decoding refuses RNR, which is canonical", "unseen: every bit"),
     ("FRMR is canonical whatever bit 4 of its first info octet is", "unseen: every bit"),
     ("a frame with eight repeaters is not canonical", "unseen: every bit"),
     ("the Rust's frame has the octet of a layer 3 identifier", "unseen: every bit"),
@@ -684,6 +685,9 @@ unsafe extern "C" fn __wrap_probe_decode(input: *const u8, input_len: usize, rec
         misplace_info(from_raw_parts_mut(places, places_len), input);
         if is("decoding refuses FRMR where the low bit of its second info octet is set") && has_excepted(input, 1, 0x01) {
             return 8;
+        }
+        if is("decoding refuses RNR, which is canonical") && record[KIND] == RNR {
+            return 6;
         }
     }
     number

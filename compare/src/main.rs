@@ -43,7 +43,7 @@ extern "C" fn pthread_getattr_np(_thread: usize, _attributes: *mut u8) -> i32 {
 const USAGE: &str = "\
 compare test [SCALE]               every class of inputs; the seeded ones SCALE times as large (1)
 compare captures [--raw FILE | FILE]..
-                                   every frame and every KISS packet of captures, and every KISS log as a stream:
+                                   every frame and KISS packet of captures, every KISS log as a stream, frames beside one another:
                                    pcap and pcapng (link types 3 and 202), KISS logs, hex lines; --raw, or a file named
                                    .raw, .bin or .ax25: one raw frame
 compare frames                     what captures.py, which reads the captures, prints, on standard input

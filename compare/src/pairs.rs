@@ -1,5 +1,6 @@
 //! A canonical input and others beside it (document 02, M-107): canonical frames of every sort, and the ways to make another input of one.
 
+use crate::check::{Both, Shown};
 use crate::domain;
 use crate::flat::*;
 use crate::inputs;
@@ -8,6 +9,7 @@ use crate::oracle;
 use crate::port::Port;
 use crate::records;
 use crate::rng::Rng;
+use std::collections::HashMap;
 
 /// How the other input was made.
 #[derive(Clone, Copy, PartialEq, Debug)]
@@ -28,8 +30,8 @@ pub enum Way {
     Field,
     /// Nulls, leftover octets or a tail added.
     Longer,
-    /// Another canonical input with the same frame and info, met earlier.
-    Earlier,
+    /// As it came: with the frame and info of another of a capture, or given by hand.
+    Met,
 }
 
 /// How two inputs stand to one another.
@@ -60,7 +62,7 @@ pub const OUTCOMES: [(Outcome, &str); 7] = [
     (Outcome::Neither, "another length and not the same"),
 ];
 
-/// Each way with how it has to come out at least once in a run; the other outcomes it can't have.
+/// Each way with how it has to come out at least once in a run of `test`; the other outcomes it need not have.
 pub const WAYS: [(Way, &str, &[Outcome]); 9] = [
     (Way::Bit, "one bit changed", &[Outcome::Unseen, Outcome::Refused, Outcome::Frame, Outcome::Info]),
     (Way::Excepted, "excepted bits set", &[Outcome::Same, Outcome::Unseen]),
@@ -70,11 +72,35 @@ pub const WAYS: [(Way, &str, &[Outcome]); 9] = [
     (Way::Moved, "octets moved", &[Outcome::Same, Outcome::Refused, Outcome::Frame, Outcome::Info]),
     (Way::Field, "one field given anew", &[Outcome::Same, Outcome::Frame]),
     (Way::Longer, "made longer", &[Outcome::Length]),
-    (Way::Earlier, "canonical too, with the frame of that", &[Outcome::Same]),
+    (Way::Met, "met with the same frame and info", &[]),
 ];
 
 /// A canonical input, and others.
 pub type Each<'a> = &'a mut dyn FnMut(&[u8], &mut dyn Iterator<Item = (Way, Vec<u8>)>);
+
+/// The accepted frames of captures by what the port shows of them, as the radio desk compares them: of those with one frame and info the
+/// first, or a canonical one.
+#[derive(Default)]
+pub struct Desk {
+    frames: HashMap<Shown, Vec<u8>>,
+    /// How many had the frame and info of an earlier one.
+    pub again: u64,
+    /// How many of these pairs had no canonical one.
+    pub neither: u64,
+}
+
+impl Desk {
+    /// The earlier frame with this one's frame and info.
+    pub fn earlier(&mut self, frame: &Both) -> Option<Vec<u8>> {
+        let shown = frame.port.as_ref().ok()?;
+        let earlier = self.frames.get(shown).cloned();
+        self.again += u64::from(earlier.is_some());
+        if earlier.is_none() || frame.canonical {
+            self.frames.insert(shown.clone(), frame.octets.clone());
+        }
+        earlier
+    }
+}
 
 /// Canonical frames with each of their bits changed alone: none to eight repeaters, both marks, each kind, in I and UI every PID and info
 /// or none. From frame to frame each group has another setting of its reserved bits.
@@ -154,14 +180,8 @@ pub fn seeded(seed: u64, count: usize, each: Each) {
     }
 }
 
-/// Frames off the air, each beside what it is re-encoded as.
-pub fn captured<'a>(frames: impl Iterator<Item = &'a Vec<u8>>, each: Each) {
-    let mut port = Port::new();
-    frames.for_each(|frame| beside_again(&mut port, frame, each));
-}
-
 /// An input beside what it is re-encoded as, unless it is refused.
-fn beside_again(port: &mut Port, input: &[u8], each: Each) {
+pub fn beside_again(port: &mut Port, input: &[u8], each: Each) {
     if let Some(frame) = reencoded(port, input) {
         each(&frame, &mut std::iter::once((Way::Reencoded, input.to_vec())));
     }

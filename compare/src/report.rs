@@ -155,12 +155,10 @@ pub fn pairs(report: &mut Report, seen: &Seen) {
     report.extra("pairs", object(&ways));
 }
 
-/// How often two canonical inputs had one frame, and what the port's frames tell apart and the Rust's don't.
+/// What the port's frames tell apart and the Rust's don't.
 pub fn told_apart(report: &mut Report, seen: &Seen) {
-    let (earlier, [pid, reserved]) = (seen.pairs.earlier_count(), seen.pairs.only_port);
-    println!("canonical inputs with the frame and info of an earlier one: {}", earlier);
+    let [pid, reserved] = seen.pairs.only_port;
     println!("bits that the port's frame shows and the Rust's does not: of a layer 3 PID (B6): {}, reserved (B7): {}", pid, reserved);
-    report.extra("canonical_again", earlier.to_string());
     report.extra("only_port", named(&[("B6", pid), ("B7", reserved)]));
 }
 

@@ -305,10 +305,6 @@ impl Part {
 #[derive(Default)]
 pub struct Pairs {
     outcomes: [[u64; OUTCOMES.len()]; WAYS.len()],
-    /// By way, canonical inputs with the frame and info of an earlier canonical one.
-    earlier: [u64; WAYS.len()],
-    /// The same of the canonical inputs that the others stand beside.
-    pub again: u64,
     /// Bits that were changed alone, by what they are part of and by their place in the octet.
     parts: [[u64; 8]; PARTS.len()],
     /// The same by the frame: its kind, mark and repeaters; in I and in UI its PID, layer 3 with bit 5 being the last, and without info and
@@ -325,16 +321,12 @@ pub struct Pairs {
     /// Bits that the port's frame shows and the Rust's does not: of the PID (B6) and reserved ones (B7).
     pub only_port: [u64; 2],
     /// The same of pairs that were made in another way than by one bit.
-    only_port_pairs: [u64; 1],
+    only_port_pairs: u64,
 }
 
 impl Pairs {
     pub fn outcome(&mut self, way: Way, outcome: Outcome) {
         self.outcomes[way as usize][outcome as usize] += 1;
-    }
-
-    pub fn earlier(&mut self, way: Way) {
-        self.earlier[way as usize] += 1;
     }
 
     /// A bit of the canonical frame with this record was changed alone.
@@ -360,7 +352,7 @@ impl Pairs {
     pub fn only_port(&mut self, way: Way, frame: &[u8], bits: &[(usize, u8)]) {
         match (way, bits) {
             (Way::Bit, [(at, _)]) => self.only_port[usize::from(*at < domain::pid_at(frame))] += 1,
-            _ => self.only_port_pairs[0] += 1,
+            _ => self.only_port_pairs += 1,
         }
     }
 
@@ -370,21 +362,13 @@ impl Pairs {
         WAYS.iter().map(|&(way, name, _)| (name, named(way).filter(|(_, count)| *count > 0).collect())).collect()
     }
 
-    /// How many canonical inputs had the frame and info of an earlier one.
-    pub fn earlier_count(&self) -> u64 {
-        self.earlier.iter().sum()
-    }
-
     fn missing(&self, missing: &mut Missing) {
-        for ((&(way, name, needed), outcomes), &earlier) in WAYS.iter().zip(&self.outcomes).zip(&self.earlier) {
-            let absent = needed.iter().filter(|&&outcome| outcomes[outcome as usize] == 0);
+        for &(way, name, needed) in &WAYS {
+            let absent = needed.iter().filter(|&&outcome| self.outcomes[way as usize][outcome as usize] == 0);
             missing.0.extend(absent.map(|&outcome| format!("beside a canonical input, {}: {}", name, OUTCOMES[outcome as usize].1)));
-            if needed.contains(&Outcome::Same) && way != Way::Earlier {
-                missing.cases(&format!("two canonical inputs with one frame and info, the second {}: case", name), &[earlier]);
-            }
         }
-        for (&(_, name, bits), counts) in PARTS.iter().zip(&self.parts) {
-            let absent = (0..8).filter(|&bit| bits >> bit & 1 == 1 && counts[bit] == 0);
+        for &(part, name, bits) in &PARTS {
+            let absent = (0..8).filter(|&bit| bits >> bit & 1 == 1 && self.parts[part as usize][bit] == 0);
             missing.0.extend(absent.map(|bit| format!("changed alone, {}: bit {}", name, bit)));
         }
         missing.cases("bit changed alone, kind", &self.kinds);
@@ -399,7 +383,7 @@ impl Pairs {
             missing.settings(&format!("bit {} changed alone", bit), settings);
         }
         missing.cases("a bit that the port shows and the Rust does not, of B6 and of B7: case", &self.only_port);
-        missing.cases("a pair that the port tells apart and the Rust does not: case", &self.only_port_pairs);
+        missing.cases("a pair that the port tells apart and the Rust does not: case", &[self.only_port_pairs]);
     }
 }
 

@@ -60,7 +60,7 @@ pub fn pair(one: &[u8], other: &[u8]) -> bool {
     }
     let mut found = [one, other].iter().flat_map(|input| checker.octets(input)).collect::<Vec<_>>();
     if both[0].canonical {
-        found.extend(checker.pair(Way::Bit, &both[0], &both[1]));
+        found.extend(checker.pair(Way::Met, &both[0], &both[1]));
     } else {
         println!("the first is not canonical: nothing is owed of the two together");
     }

@@ -31,7 +31,7 @@ use Rattle.grammar.proofs.Plain.{read}
 use Rattle.grammar.proofs.Unseen.{SpelledAlike, spelled-alike, read-alike, info-alike}
 use Rattle.spelling.specs.Canonical.{again, canonical}
 use Rattle.spelling.proofs.Laws.{canonical-plain}
-use Rattle.demands.specs.Unseen.{Alike, SameSave, NothingUnseen, exceptions, reject, rejects, beside, unseenAt, longer, seen}
+use Rattle.demands.specs.Unseen.{Alike, NoneExcepted, SameSave, NothingUnseen, exceptions, reject, rejects, beside, unseenAt, longer, seen}
 
 module _ (s t : List ℕ) (o : Octets s) (p : Octets t) (c : canonical s ≡ true) where
   abbrev f : Ax25Frame
@@ -76,8 +76,8 @@ module _ (s t : List ℕ) (o : Octets s) (p : Octets t) (c : canonical s ≡ tru
       sym (rw at at (fits l a .content (k - after) j h (rw e at x))))
       (λ e. ap (bit j) (sym (fits l a .field k (leb-false after k e))))
 
-  octets : length t ≡ length s → Seen → ((r : FrameReject) → f .content ≡ kind.FrameReject r → ⊥) → t ≡ s
-  octets l a n = octets-same t s p o l (λ k j h. same-save l a k j h (rw (only-frmr (f .content) n (k - after) j) (and-false (leb after k))))
+  octets : length t ≡ length s → Seen → NoneExcepted f → t ≡ s
+  octets l a n = octets-same t s p o l (λ k j h. same-save l a k j h (n k j))
 
   tight : length t ≡ length s → SameSave f s t → Seen
   tight l x =
@@ -95,6 +95,12 @@ module _ (s t : List ℕ) (o : Octets s) (p : Octets t) (c : canonical s ≡ tru
 
   pub nothing-unseen : NothingUnseen s (decode s) t (decode t) (canonical t)
   nothing-unseen = record { same = same-save; octets = octets; tight = tight; canonical = one }
+
+-- no frame but an FRMR has excepted bits
+pub frmr-alone : (f : Ax25Frame) → ((r : FrameReject) → f .content ≡ kind.FrameReject r → ⊥) → NoneExcepted f
+frmr-alone f n k j =
+    let after : ℕ = 14 + 7 * f .«route_count» in
+    rw (only-frmr (f .content) n (k - after) j) (and-false (leb after k))
 
 -- tight, by computing: the five inputs differ from the FRMR in one excepted bit each, which are all there are, and decode as it does
 pub rejects-alike : (canonical reject ≡ true) × (map beside rejects ≡ map unseenAt (exceptions reject))

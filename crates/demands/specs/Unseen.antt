@@ -1,5 +1,5 @@
--- Document 02, M-107: nothing unseen at equal length. The radio desk compares captures by their decoded frames; what may differ in
--- octets that are read alike.
+-- Document 02, M-107: nothing unseen at equal length. The radio desk compares captures by their decoded frames: in which bits two inputs
+-- that are read alike may differ.
 use Prim.Native.Nat.{ℕ, zero, suc, _+_, _-_, _*_, _<_}
 use mathlib.Core.Path.{_≡_}
 use mathlib.Core.Bool.{Bool, true, false, cond, not, _&&_, Bool·beq}
@@ -7,8 +7,6 @@ use mathlib.Core.List.{List, [], _∷_, _++_}
 use lib.Dec.{leb}
 use lib.ListN.{length, getD, take}
 use Rattle.octets.specs.Octet.{bit}
-use Rattle.content.specs.declared.FrameReject.{FrameReject}
-use Rattle.content.specs.declared.FrameContent.the-variants as kind
 use Rattle.lean.specs.Unseen.{unseen}
 use Rattle.frame.specs.Spell.{inUse}
 use Rattle.frame.specs.declared.Ax25Frame.{Ax25Frame}
@@ -29,17 +27,21 @@ pub record Alike (s : List ℕ) (d : Decoded) (t : List ℕ) (e : Decoded) : Typ
 abbrev pub excepted : Ax25Frame → ℕ → ℕ → Bool
 excepted f k j = leb (14 + 7 * f .«route_count») k && unseen (f .content) (k - (14 + 7 * f .«route_count»)) j
 
+-- a frame without such places
+abbrev pub NoneExcepted : Ax25Frame → Type 0
+NoneExcepted f = (k j : ℕ) → excepted f k j ≡ false
+
 -- each bit of t is that of s, save for excepted ones
 abbrev pub SameSave : Ax25Frame → List ℕ → List ℕ → Type 0
 SameSave f s t = (k j : ℕ) → j < 8 → excepted f k j ≡ false → bit j (getD t k 0) ≡ bit j (getD s k 0)
 
 -- of a canonical s and any octets t, with what was decoded of each, and whether t is canonical too
 pub record NothingUnseen (s : List ℕ) (d : Decoded) (t : List ℕ) (e : Decoded) (yes : Bool) : Type 0 where
-  -- as long, accepted, with the same frame and info: the same octets, save for excepted bits
+  -- of equal length, accepted, with the same frame and info: the same octets, save for excepted bits
   pub same : length t ≡ length s → Alike s d t e → SameSave (d .frame) s t
-  -- so the same octets in any kind but FRMR
-  pub octets : length t ≡ length s → Alike s d t e → ((r : FrameReject) → d .frame .content ≡ kind.FrameReject r → ⊥) → t ≡ s
-  -- tight: as long, and the same octets save for excepted bits: accepted, with the same frame and info
+  -- so the same octets, where no bit of the frame is excepted
+  pub octets : length t ≡ length s → Alike s d t e → NoneExcepted (d .frame) → t ≡ s
+  -- tight: of equal length, and the same octets save for excepted bits: accepted, with the same frame and info
   pub tight : length t ≡ length s → SameSave (d .frame) s t → Alike s d t e
   -- canonical too, with the same frame and info: the same octets, whatever their lengths
   pub canonical : yes ≡ true → Alike s d t e → t ≡ s
@@ -53,7 +55,7 @@ abbrev pub passing : (ℕ → ℕ → Bool) → List (ℕ × ℕ) → List (ℕ 
 passing test [] = []
 passing test ((k, j) ∷ rest) = cond (test k j) ((k, j) ∷ passing test rest) (passing test rest)
 
--- the excepted bits of an input, and those that two inputs differ in
+-- the excepted bits of an input, and those in which two inputs of one length differ
 abbrev pub exceptions : List ℕ → List (ℕ × ℕ)
 exceptions s = passing (excepted (decode s .frame)) (places (length s))
 
@@ -73,7 +75,8 @@ rejects =
     ∷ (addresses ++ (0x87 ∷ 0x01 ∷ 0x03 ∷ 0x44 ∷ []))
     ∷ []
 
--- where an input differs from it, with all that is decoded; and what that is where it differs in one bit and is read as it
+-- where an input differs from that FRMR, with all that is decoded of it; and what this is for an input that differs in bit b alone and is
+-- read as the FRMR is
 abbrev pub beside : List ℕ → List (ℕ × ℕ) × Decoded
 beside t = (differing reject t, decode t)
 

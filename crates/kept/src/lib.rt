@@ -83,7 +83,7 @@ pub struct Pair {
     other: Looked,
 }
 
-// Document 02, M-107: nothing is unseen where the one input is canonical and the other as long. All else is as the rules read it.
+// Document 02, M-107: where the one input is canonical, `NothingUnseen` holds of it and the other. All is as the definitions say.
 pub fn compared(one: &[u8], other: &[u8]) -> Pair
     ensures { λ r. ⌜ (r .one .canonical ≡ true
         → NothingUnseen (now (one .entry)) (r .one .decoded) (now (other .entry)) (r .other .decoded) (r .other .canonical)) ⌝ }
