@@ -5,3 +5,4 @@ pub mod Examples
 pub mod Relay
 pub mod Due
 pub mod Unseen
+pub mod Old

@@ -1,31 +1,33 @@
 -- An address field is read alike with octets before it, but for its places; and what decoding gives stands in the octets.
 use Prim.Native.Nat.{ℕ, _+_, _-_, _*_, _≤_, _<_}
 use mathlib.Core.Path.{_≡_, refl, ap, sym, _∙_}
-use mathlib.Core.Bool.{cond}
+use mathlib.Core.Bool.{false, false≢true, cond}
 use mathlib.Core.List.{List}
 use native.Mathlib.Omega.{arith}
-use borrow.Author.Tests.{eq-eqb, ne-eqb, eqb-true, eqb-false}
+use borrow.Author.Tests.{eq-eqb, ne-eqb, eqb-true, eqb-false, ltb-false}
 use lib.Dec.{eqb, ltb}
 use lib.ListN.{length, length-drop, drop}
 use lib.Seq.{drop-drop}
 use Rattle.octets.specs.Octet.{bit}
 use Rattle.octets.proofs.Choice.{by, either, equal}
-use Rattle.octets.proofs.First.{first-le}
+use Rattle.octets.proofs.First.{first-le, first-all}
 use Rattle.content.specs.Spell.{hasInfo}
 use Rattle.content.specs.declared.FrameContent.{FrameContent}
 use Rattle.parse.specs.Content.{contentOf}
 use Rattle.parse.specs.declared.ContentAnswer.{ContentAnswer}
 use Rattle.parse.specs.declared.ContentAnswer.the-variants as content
 use Rattle.parse.proofs.Read.{zero-length}
-use Rattle.decode.specs.Answer.{Report, reportOf}
+use Rattle.decode.specs.Answer.{Report, reportOf, numberOf}
 use Rattle.decode.specs.Numbers.{noStart, leadingNull, noEnd, shortField, noContent, manyRepeaters, reported}
-use Rattle.decode.specs.Read.{startOf, endOf, parsedAt, entryAt, placeAt, routeAt, frameAt, refusedWith, acceptedWith, withContent, repeatersOf, decodeField, decode}
+use Rattle.parse.specs.Numbers.{lacksPid, strangeS, strangeU, wrongFrmr}
+use Rattle.decode.specs.Read.{nonzero, startOf, endOf, parsedAt, entryAt, placeAt, routeAt, frameAt, refusedWith, acceptedWith, withContent, repeatersOf, decodeField, decode}
 use Rattle.decode.specs.declared.Decoded.{Decoded}
 use Rattle.decode.specs.declared.DecodeAnswer.{DecodeAnswer}
-use Rattle.decode.specs.declared.DecodeAnswer.the-variants.{OnlyNullBytes, NoEndToAddressField, AddressFieldTooShort, FrameTooShort, TooManyRepeaters}
+use Rattle.decode.specs.declared.DecodeAnswer.the-variants as read
+use Rattle.decode.proofs.Read.{start-past}
 use Rattle.grammar.specs.Moved.{movedAnswer, movedInfo, moved}
 use Rattle.grammar.proofs.Back.{parsed-drop, entry-drop}
-use Rattle.grammar.proofs.Numbers.{decode-report}
+use Rattle.grammar.proofs.Numbers.{decode-report, decode-rows}
 
 module _ (s : List ℕ) (k : ℕ) where
   abbrev t : List ℕ
@@ -86,19 +88,61 @@ module _ (s : List ℕ) (k : ℕ) where
       (λ e. eq-eqb (k + (end + 1)) (length s) (omega (arith, eqb-true (end + 1) (length t) e))) in
       rw (span, at, whole, ← drop-drop (end + 1) k s)
       (by (ltb (end + 1 - 0) 14)
-      (λ a. rw a (ap (λ (n : ℕ). refusedWith (AddressFieldTooShort n (k + end))) first ∙ refused-drop (AddressFieldTooShort 0 end)))
-      (λ a. by (eqb (end + 1) (length t)) (λ b. rw (a, b) (refused-drop (FrameTooShort (length t))))
-      (λ b. by (ltb 8 (repeatersOf 0 end)) (λ c. rw (a, b, c) (refused-drop TooManyRepeaters))
+      (λ a. rw a (ap (λ (n : ℕ). refusedWith (read.AddressFieldTooShort n (k + end))) first ∙ refused-drop (read.AddressFieldTooShort 0 end)))
+      (λ a. by (eqb (end + 1) (length t)) (λ b. rw (a, b) (refused-drop (read.FrameTooShort (length t))))
+      (λ b. by (ltb 8 (repeatersOf 0 end)) (λ c. rw (a, b, c) (refused-drop read.TooManyRepeaters))
       (λ c.
       let rest = length-drop (end + 1) t in
       rw (a, b, c) (content-drop (repeatersOf 0 end) (end + 1) (contentOf (drop (end + 1) t))
       (λ z. omega (arith, zero-length (drop (end + 1) t) z, eqb-false (end + 1) (length t) b)))))))
 
--- octets that start with no null are read without a look for one
-pub decode-at-once : (s : List ℕ) → startOf s ≡ 0
-    → decode s ≡ cond (eqb 0 (length s)) (refusedWith OnlyNullBytes) (cond (eqb (endOf s) (length s)) (refusedWith NoEndToAddressField) (decodeField s 0 (endOf s)))
+-- where no null stands before the start there is no 10, and the address field starts there
+pub decode-at-start : (s : List ℕ) → (eqb (startOf s) (length s) ≡ false → startOf s ≡ 0)
+    → decode s
+    ≡ cond (eqb (startOf s) (length s)) (refusedWith read.OnlyNullBytes)
+    (cond (eqb (endOf s) (length s)) (refusedWith read.NoEndToAddressField) (decodeField s (startOf s) (endOf s)))
 unfolding decode
-decode-at-once s e = rw e refl
+decode-at-start s h = by (eqb (startOf s) (length s)) (λ e. rw e refl) (λ e. rw (e, h e) refl)
+
+-- the same by the number: 10 is given exactly where octets that are not all null start past the first
+leads : (s : List ℕ) → eqb (startOf s) (length s) ≡ false → ltb 0 (startOf s) ≡ leadingNull s
+leads s e = start-past s (omega (arith, eqb-false (startOf s) (length s) e, first-le nonzero s))
+
+pub ten-past : (s : List ℕ) → (numberOf (decode s .answer) ≡ 10 → ⊥) → eqb (startOf s) (length s) ≡ false → startOf s ≡ 0
+ten-past s n e =
+    by (ltb 0 (startOf s))
+    (λ z. absurd (n (decode-rows s ∙ rw (sym (first-all nonzero s) ∙ e, sym (leads s e) ∙ z) refl)))
+    (λ z. omega (arith, ltb-false 0 (startOf s) z))
+
+pub never-ten : (s : List ℕ) → startOf s ≡ 0 → eqb (numberOf (decode s .answer)) 10 ≡ false
+never-ten s h = rw (decode-rows s)
+    (let P : ℕ → Type 0 = λ n. eqb n 10 ≡ false in
+    let c : List ℕ = drop (endOf s + 1) s in
+    either P (noStart s) (λ _. refl)
+    (λ a. either P (leadingNull s)
+    (λ z. absurd (false≢true (rw h at (leads s (first-all nonzero s ∙ a) ∙ z))))
+    (λ _. either P (noEnd s) (λ _. refl)
+    (λ _. either P (shortField s) (λ _. refl)
+    (λ _. either P (noContent s) (λ _. refl)
+    (λ _. either P (manyRepeaters s) (λ _. refl)
+    (λ _. either P (lacksPid c) (λ _. refl)
+    (λ _. either P (strangeS c) (λ _. refl)
+    (λ _. either P (strangeU c) (λ _. refl)
+    (λ _. either P (wrongFrmr c) (λ _. refl) (λ _. refl)))))))))))
+
+-- an answer that is moved keeps its number
+pub moved-number : (k len : ℕ) (a : DecodeAnswer) → numberOf (movedAnswer k len a) ≡ numberOf a
+moved-number k len read.Accepted = refl
+moved-number k len read.OnlyNullBytes = refl
+moved-number k len read.NoEndToAddressField = refl
+moved-number k len (read.AddressFieldTooShort start end) = refl
+moved-number k len (read.FrameTooShort rest) = refl
+moved-number k len read.MissingPidField = refl
+moved-number k len read.UnrecognisedSFieldType = refl
+moved-number k len read.UnrecognisedUFieldType = refl
+moved-number k len read.WrongSizeFrmrInfo = refl
+moved-number k len read.TooManyRepeaters = refl
+moved-number k len read.LeadingNullBytes = refl
 
 -- the details of a refusal: the start is 0, and the end stands in the octets
 pub report-inside : (s : List ℕ) → (reportOf (decode s .answer) .start ≡ 0) × (reportOf (decode s .answer) .end ≤ length s)

@@ -23,6 +23,7 @@ ghost use Rattle.demands.specs.Numbers.{decodeTable, writeTable};
 ghost use Rattle.octets.specs.Lent.{starting};
 ghost use Rattle.demands.specs.OneSpelling.{Spelled, Respelled};
 ghost use Rattle.demands.specs.Unseen.{NothingUnseen};
+ghost use Rattle.demands.specs.Old.{OldCapture};
 
 // Demand 3: yes exactly when some plain frame spells the input.
 pub fn canonical(bytes: &[u8]) -> bool
@@ -43,6 +44,13 @@ pub fn decoded(bytes: &[u8]) -> Decoded
     ensures { λ r. ⌜ r ≡ decode (now (bytes .entry)) ⌝ }
 {
     reading::from_bytes(bytes)
+}
+
+// Document 02, M-108: an old capture is read as it was before leading nulls were refused, and 10 is never given.
+pub fn old_capture(capture: &[u8]) -> Decoded
+    ensures { λ r. ⌜ OldCapture (now (capture .entry)) r ⌝ }
+{
+    old::from_bytes(capture)
 }
 
 // Demand 1: so for the number of writing, and a refusal has length 0 and leaves the buffer as it was. Demand 2: an accepted frame

@@ -4,8 +4,9 @@ ghost use mathlib.Core.Bool.{true, false};
 ghost use mathlib.Core.Logic.{_↔_};
 ghost use Prim.Native.Nat.{_≤_, _<_};
 ghost use lib.ListN.{length};
-ghost use Rattle.decode.specs.Answer.{isAccepted};
+ghost use Rattle.decode.specs.Answer.{numberOf, isAccepted};
 ghost use Rattle.decode.specs.Read.{decode};
+ghost use Rattle.old.specs.Old.{former};
 ghost use Rattle.spelling.specs.Canonical.{again};
 ghost use Rattle.octets.specs.Table.{FirstRow};
 ghost use Rattle.demands.specs.Numbers.{decodeTable};
@@ -19,6 +20,15 @@ pub fn decoded(input: &[u8]) -> u32
     ensures { λ r. ⌜ FirstRow (decodeTable (now (input .entry))) r ⌝ }
 {
     loader::ax25_decode(input)
+}
+
+// Document 02, M-108: the number that the decoder gave before leading nulls were refused, and still gives wherever that is not 10.
+pub fn decoded_old_capture(input: &[u8]) -> u32
+    ensures { λ r. ⌜ r ≡ numberOf (former (now (input .entry)) .answer) ⌝ }
+    ensures { λ r. ⌜ ((numberOf (decode (now (input .entry)) .answer) ≡ 10 → ⊥) → r ≡ numberOf (decode (now (input .entry)) .answer)) ⌝ }
+    ensures { λ r. ⌜ (r ≡ 10 → ⊥) ⌝ }
+{
+    loader::ax25_decode_old_capture(input)
 }
 
 // Demand 3: 1 exactly when some plain frame spells the input, else 0.

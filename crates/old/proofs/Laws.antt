@@ -1,6 +1,6 @@
 -- Old captures are read as they were before leading nulls were refused.
 use Prim.Native.Nat.{ℕ, _+_, _-_, _≤_}
-use mathlib.Core.Path.{_≡_, refl, sym}
+use mathlib.Core.Path.{_≡_, refl, sym, _∙_}
 use mathlib.Core.List.{List, [], _∷_}
 use native.Mathlib.Omega.{arith}
 use borrow.Author.Tests.{eq-eqb, ne-eqb, eqb-true, eqb-false}
@@ -11,7 +11,7 @@ use lib.ListN.{length, length-drop, drop}
 use Rattle.octets.specs.Octet.{bit}
 use Rattle.octets.proofs.Choice.{by}
 use Rattle.octets.proofs.First.{first-le, first-skip}
-use Rattle.decode.specs.Answer.{reportOf, isAccepted}
+use Rattle.decode.specs.Answer.{reportOf, numberOf, isAccepted}
 use Rattle.decode.specs.Read.{nonzero, startOf, endOf, decode}
 use Rattle.decode.specs.declared.Decoded.{Decoded}
 use Rattle.decode.specs.declared.DecodeAnswer.{DecodeAnswer}
@@ -19,7 +19,7 @@ use Rattle.decode.specs.declared.DecodeAnswer.the-variants as read
 use Rattle.decode.proofs.DecodeAnswer.{the-type}
 use Rattle.decode.proofs.Read.{start-le-end}
 use Rattle.grammar.specs.Moved.{movedAnswer, movedInfo, moved}
-use Rattle.grammar.proofs.Moved.{decode-at-once, refused-drop, field-drop, report-inside}
+use Rattle.grammar.proofs.Moved.{decode-at-start, ten-past, never-ten, moved-number, refused-drop, field-drop, report-inside}
 use Rattle.grammar.proofs.Plain.{inside}
 use Rattle.grammar.proofs.Refused.{refused-parts}
 use Rattle.old.specs.Old.{decodeOld, former}
@@ -40,7 +40,7 @@ as-before s =
     let l : length t ≡ length s - k = length-drop k s in
     let some : k ≤ length s = first-le nonzero s in
     let end : endOf s ≡ k + endOf t = ends s in
-    rw (decode-at-once t (starts s))
+    rw (decode-at-start t (λ _. starts s), starts s)
     (by (eqb k (length s))
     (λ e. rw (e, eq-eqb 0 (length t) (omega (arith, eqb-true k (length s) e))) (sym (refused-drop s k read.OnlyNullBytes)))
     (λ e. rw (e, ne-eqb 0 (length t) (λ z. omega (arith, z, eqb-false k (length s) e)))
@@ -49,6 +49,18 @@ as-before s =
     (λ b. let inside = eqb-false (endOf s) (length s) b in
     rw (b, ne-eqb (endOf t) (length t) (λ z. omega (arith, z, inside)), end)
     (sym (field-drop s k (endOf t) (omega (arith, inside, first-le (bit 0) s))))))))
+
+-- the decoder, wherever that does not answer 10
+pub as-decoded : (s : List ℕ) → (numberOf (decode s .answer) ≡ 10 → ⊥) → decodeOld s ≡ decode s
+unfolding former
+as-decoded s n = as-before s ∙ sym (decode-at-start s (ten-past s n))
+
+-- never 10
+pub without-ten : (s : List ℕ) → numberOf (decodeOld s .answer) ≡ 10 → ⊥
+unfolding decodeOld
+without-ten s e =
+    eqb-false (numberOf (decode (drop (startOf s) s) .answer)) 10 (never-ten (drop (startOf s) s) (starts s))
+    (sym (moved-number (startOf s) (length s) (decode (drop (startOf s) s) .answer)) ∙ e)
 
 -- what decodeOld is made of, for the functions' proofs
 pub old-answer : (s : List ℕ) → movedAnswer (startOf s) (length s) (decode (drop (startOf s) s) .answer) ≡ decodeOld s .answer

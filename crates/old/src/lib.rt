@@ -3,7 +3,7 @@
 use decode::DecodeAnswer;
 use decode::Decoded;
 ghost use mathlib.Core.Path.{_≡_};
-ghost use Prim.Native.Nat.{_+_, _≤_};
+ghost use Prim.Native.Nat.{_+_, _^_, _≤_, _<_};
 ghost use Rattle.decode.specs.Answer.{reportOf};
 ghost use Rattle.grammar.specs.Moved.{movedAnswer, movedInfo};
 ghost use Rattle.old.specs.Old.{decodeOld};
@@ -26,8 +26,8 @@ fn moved_answer(answer: DecodeAnswer, nulls: usize, len: usize) -> DecodeAnswer
 }
 
 // Where info starts in the whole; 0 where there is none.
-fn moved_info(at: usize, nulls: usize, len: usize) -> usize
-    requires { ⌜ nulls + at ≤ len ⌝ }
+fn moved_info(at: usize, nulls: usize) -> usize
+    requires { ⌜ nulls + at < 2 ^ 64 ⌝ }
     ensures { λ r. ⌜ r ≡ movedInfo nulls at ⌝ }
 {
     if at == 0 {
@@ -54,7 +54,7 @@ pub fn from_bytes(capture: &[u8]) -> Decoded
     let decoded = reading::from_bytes(&capture[nulls..]);
     let answer = decoded.answer;
     let moved = moved_answer(answer, nulls, capture.len());
-    let info_start = moved_info(decoded.info_start, nulls, capture.len());
+    let info_start = moved_info(decoded.info_start, nulls);
     let frame = decoded.frame;
     Decoded {
         answer: moved,

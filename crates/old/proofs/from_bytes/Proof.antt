@@ -1,5 +1,6 @@
 -- What is decoded of the remainder, moved.
 use mathlib.Core.Path.{_≡_, refl, _∙_}
+use native.Mathlib.Omega.{arith}
 use lib.ListN.{drop}
 use Rattle.octets.proofs.Splice.{part-from}
 use Rattle.decode.specs.Read.{startOf, decode}
@@ -38,7 +39,8 @@ moved-answer-requires c κs = rw (decoded c, nulls (c .before .before)) (places-
 moved-info-requires : tie.Need-moved-info-requires
 moved-info-requires c κs =
     let d = c .before in
-    rw (decoded d, nulls (d .before .before)) (info-inside _)
+    let k = d .before .before .before .before in
+    rw (decoded d, nulls (d .before .before)) (omega (arith, info-inside (k .args .capture .now)))
 
 returns : tie.Need-returns
 returns c =

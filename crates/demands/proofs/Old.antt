@@ -1,0 +1,22 @@
+-- Document 02, M-108, proved: old captures are read as they were.
+use Prim.Native.Nat.{ℕ}
+use mathlib.Core.Path.{_≡_, refl}
+use mathlib.Core.List.{List, map}
+use Rattle.octets.specs.First.{first}
+use Rattle.protocol.specs.Pid.{among, pidOf}
+use Rattle.address.specs.Address.{noCall}
+use Rattle.address.specs.Group.{addressOf, markOf}
+use Rattle.parse.specs.Content.{sOf, uiOf, uOf, contentOf}
+use Rattle.frame.specs.Frame.{noEntry, noRoute, simpleUi, defaultFrame}
+use Rattle.decode.specs.Read.{parsedAt, entryAt, placeAt, routeAt, frameAt, refusedWith, acceptedWith, withContent, decodeField, decode}
+use Rattle.old.specs.Old.{decodeOld}
+use Rattle.old.proofs.Laws.{as-before, as-decoded, without-ten}
+use Rattle.demands.specs.Old.{OldCapture, captured, captures, asRead}
+
+pub old-capture : (s : List ℕ) → OldCapture s (decodeOld s)
+old-capture s = record { before = as-before s; same = as-decoded s; never = without-ten s }
+
+-- each gives its whole result
+pub captures-read : map captured captures ≡ asRead
+unfolding first among pidOf noCall addressOf markOf sOf uiOf uOf contentOf noEntry noRoute simpleUi defaultFrame parsedAt entryAt placeAt routeAt frameAt refusedWith acceptedWith withContent decodeField decode decodeOld
+captures-read = refl
