@@ -84,6 +84,7 @@ static const struct {
     BEHIND_NULLS("a null before nine repeaters", "00 " GAUGE "E0 " BOX12 "66 " THREE THREE HILL1 "64 " HILL1 "64 " HILL1 "65 01", 9),
     BEHIND_NULLS("a null before P12, a tail behind it", "00 " ADDRESS "01 AA", 0),
     BEHIND_NULLS("seven nulls before P5, as many as an address has octets", "00 00 00 00 00 00 00 " FRAME, 0),
+    BEHIND_NULLS("a null in the place of the first character", "00 82 AA 8E 8A 40 E0 " BOX12 "67 01", 3),
     CANONICAL_FRAME("nulls that are not the first octet", "8E 00 00 00 00 00 E0 00 00 00 00 00 00 61 00 00 00"),
 };
 
@@ -333,8 +334,8 @@ static void examine_one(const uint8_t *in, size_t len) {
     examine(in, len, &want, below(3));
 }
 
-/* Prints how often each number up to the last was met, and says whether it was so often or more. */
-static int say_numbers(const char *what, const unsigned long *met, int last, unsigned long least) {
+/* Prints how often each number up to the last was met; gives whether each was, so often or more. */
+static int print_met(const char *what, const unsigned long *met, int last, unsigned long least) {
     int all = 1;
     printf("  %s:", what);
     for (int n = 0; n <= last; n++) {
@@ -369,11 +370,11 @@ static void run_random(unsigned long thousands, uint64_t seed) {
     }
     set_end();
 
-    int all = say_numbers("of these, by number", seen, 10, thousands);
+    int all = print_met("of these, by number", seen, 10, thousands);
     printf("  canonical: %lu, with a reserved bit clear: %lu; accepted and not canonical: %lu\n", seen_canonical, seen_clear,
            seen_rewritten);
     say(all && seen_canonical >= thousands && seen_rewritten >= thousands, "one random input in a thousand or more reaches each number of decoding, canonical or not");
-    say(say_numbers("of those behind nulls, by number as an old capture", seen_behind, 9, (thousands + 1) / 2),
+    say(print_met("of those behind nulls, by number as an old capture", seen_behind, 9, (thousands + 1) / 2),
         "and one in two thousand or more has nulls before each number that an old capture can have");
     say(seen_clear >= thousands && seen_canonical - seen_clear >= thousands,
         "and one in a thousand or more is canonical with a reserved bit clear, and with all of them set");

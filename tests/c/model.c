@@ -164,12 +164,11 @@ static void write_frame(const struct fields *f) {
 }
 
 struct answer model(const uint8_t *in, size_t len) {
-    struct fields f;
+    struct fields f, behind;
     struct answer a = {0, 0, 0, 0, written};
     memset(&f, 0, sizeof f);
-    a.old = read_old(&f, in, len);
-    memset(&f, 0, sizeof f);
     a.number = read_frame(&f, in, len);
+    a.old = read_old(&behind, in, len);
     if (a.number != 0) return a;
     write_frame(&f);
     a.length = written_len;

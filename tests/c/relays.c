@@ -48,6 +48,7 @@ static const struct {
     {"not relayed: nulls alone", "00 00 00", "HILL1", 2, 1, NULL},
     {"not relayed: a null before the frame", "00 " PEERS HILL1 "65 01", "HILL1", 2, 10, NULL},
     {"not relayed: seven nulls before it", "00 00 00 00 00 00 00 " PEERS HILL1 "65 01", "HILL1", 2, 10, NULL},
+    {"not relayed: a null in the place of the first character", "00 82 AA 8E 8A 40 E0 " BOX12 "66 " HILL1 "65 01", "HILL1", 2, 10, NULL},
     {"not relayed: a null before no end of the addresses", "00 " PEERS HILL1 "64 02 20", "HILL1", 2, 10, NULL},
     {"not relayed: a null before SREJ", "00 " PEERS HILL1 "65 0D", "HILL1", 2, 10, NULL},
     {"not relayed: a null before a frame without a repeater", "00 " GAUGE "E0 " BOX12 "67 03 20", "BOX12", 3, 10, NULL},
