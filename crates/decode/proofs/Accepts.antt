@@ -6,9 +6,9 @@ use mathlib.Core.List.{List}
 use native.Mathlib.Omega.{arith}
 use borrow.Author.Tests.{ltb-false, eqb-false}
 use lib.Dec.{eqb, ltb}
-use lib.ListN.{length, drop}
+use lib.ListN.{length, getD, drop}
 use Rattle.octets.specs.Octet.{bit}
-use Rattle.octets.proofs.First.{first-le}
+use Rattle.octets.proofs.First.{first-le, first-passes}
 use Rattle.parse.specs.Content.{contentOf}
 use Rattle.content.specs.declared.FrameContent.{FrameContent}
 use Rattle.parse.specs.declared.ContentAnswer.{ContentAnswer}
@@ -21,13 +21,14 @@ use Rattle.decode.specs.declared.DecodeAnswer.{DecodeAnswer}
 pub record Accepts (s : List ℕ) (d : Decoded) : Type 0 where
   pub count : ℕ
   pub kind : FrameContent
-  pub start-in : startOf s < length s
+  pub start : startOf s ≡ 0
+  pub first : nonzero (getD s 0 0) ≡ true
   pub end-in : endOf s < length s
-  pub long : 14 ≤ endOf s + 1 - startOf s
-  pub counted : repeatersOf (startOf s) (endOf s) ≡ count
+  pub long : 14 ≤ endOf s + 1
+  pub counted : repeatersOf 0 (endOf s) ≡ count
   pub few : count ≤ 8
   pub read : contentOf (drop (endOf s + 1) s) ≡ content.Accepted kind
-  pub made : d ≡ acceptedWith (frameAt s (startOf s) count kind) (endOf s + 1) (length s)
+  pub made : d ≡ acceptedWith (frameAt s 0 count kind) (endOf s + 1) (length s)
 
 module _ (s : List ℕ) where
   unfoldable If : Decoded → Type 0
@@ -41,31 +42,31 @@ module _ (s : List ℕ) where
   unless true a d h g = refuse a h
   unless false a d h g = g refl
 
-  by-content : (n : ℕ) → startOf s < length s → endOf s < length s → 14 ≤ endOf s + 1 - startOf s
-      → repeatersOf (startOf s) (endOf s) ≡ n → n ≤ 8
-      → (a : ContentAnswer) → contentOf (drop (endOf s + 1) s) ≡ a → If (withContent s (startOf s) n (endOf s + 1) a)
+  by-content : (n : ℕ) → startOf s ≡ 0 → endOf s < length s → 14 ≤ endOf s + 1 → repeatersOf 0 (endOf s) ≡ n → n ≤ 8
+      → (a : ContentAnswer) → contentOf (drop (endOf s + 1) s) ≡ a → If (withContent s 0 n (endOf s + 1) a)
   unfolding withContent If
-  by-content n si ei lo co fe (content.Accepted k) e =
-      λ _. record { count = n; kind = k; start-in = si; end-in = ei; long = lo; counted = co; few = fe; read = e; made = refl }
-  by-content n si ei lo co fe content.ContentZeroLength e = refuse _ refl
-  by-content n si ei lo co fe content.MissingPidField e = refuse _ refl
-  by-content n si ei lo co fe content.UnrecognisedSFieldType e = refuse _ refl
-  by-content n si ei lo co fe content.UnrecognisedUFieldType e = refuse _ refl
-  by-content n si ei lo co fe content.WrongSizeFrmrInfo e = refuse _ refl
+  by-content n st ei lo co fe (content.Accepted k) e =
+      λ _. record { count = n; kind = k; start = st; first = rw st at (first-passes nonzero s 0 (rw st (omega arith))); end-in = ei; long = lo; counted = co; few = fe; read = e; made = refl }
+  by-content n st ei lo co fe content.ContentZeroLength e = refuse _ refl
+  by-content n st ei lo co fe content.MissingPidField e = refuse _ refl
+  by-content n st ei lo co fe content.UnrecognisedSFieldType e = refuse _ refl
+  by-content n st ei lo co fe content.UnrecognisedUFieldType e = refuse _ refl
+  by-content n st ei lo co fe content.WrongSizeFrmrInfo e = refuse _ refl
 
   by-tests : If (decode s)
   unfolding decode decodeField
   by-tests =
       unless (eqb (startOf s) (length s)) _ _ refl
+      (λ _. unless (ltb 0 (startOf s)) _ _ refl
       (λ a. unless (eqb (endOf s) (length s)) _ _ refl
-      (λ b. unless (ltb (endOf s + 1 - startOf s) 14) _ _ refl
+      (λ b. unless (ltb (endOf s + 1 - 0) 14) _ _ refl
       (λ c. unless (eqb (endOf s + 1) (length s)) _ _ refl
-      (λ _. unless (ltb 8 (repeatersOf (startOf s) (endOf s))) _ _ refl
-      (λ e. by-content (repeatersOf (startOf s) (endOf s))
-      (omega (arith, eqb-false (startOf s) (length s) a, first-le nonzero s))
+      (λ _. unless (ltb 8 (repeatersOf 0 (endOf s))) _ _ refl
+      (λ e. by-content (repeatersOf 0 (endOf s))
+      (omega (arith, ltb-false 0 (startOf s) a))
       (omega (arith, eqb-false (endOf s) (length s) b, first-le (bit 0) s))
-      (ltb-false _ 14 c) refl (ltb-false 8 _ e)
-      (contentOf (drop (endOf s + 1) s)) refl)))))
+      (omega (arith, ltb-false (endOf s + 1 - 0) 14 c)) refl (ltb-false 8 _ e)
+      (contentOf (drop (endOf s + 1) s)) refl))))))
 
   pub accepts : isAccepted (decode s .answer) ≡ true → Accepts s (decode s)
   unfolding If

@@ -1,20 +1,21 @@
 -- Laws of reading that the functions' proofs share: a route with one repeater more, the start no later than the end, a refused
 -- content.
 use Prim.Native.Nat.{ℕ, zero, suc, _+_, _*_, _%_, _/_, _≤_, _<_}
-use mathlib.Core.Path.{_≡_, refl, ap}
-use mathlib.Core.Bool.{true, false, not}
+use mathlib.Core.Path.{_≡_, refl, ap, _∙_}
+use mathlib.Core.Bool.{true, false, false≢true, not}
 use mathlib.Core.List.{List, [], _∷_}
 use native.Mathlib.Nat.{mod-eq-of-lt}
 use native.Mathlib.Omega.{arith}
-use borrow.Author.Tests.{ne-eqb, eqb-true}
+use borrow.Author.Tests.{ne-eqb, eqb-true, le-leb}
 use types.Run.{OneOf, miss}
 use denote.Enum.Declared.{tagOf}
 use lib.Bits.{and-mask}
+use lib.Dec.{ltb}
 use lib.ListN.{length, getD, set}
 use Rattle.octets.specs.Octet.{Octets, bit}
 use Rattle.octets.specs.First.{first}
 use Rattle.octets.proofs.Bits.{bit-test}
-use Rattle.octets.proofs.First.{first-le, first-sooner, first-same}
+use Rattle.octets.proofs.First.{first-is, first-beyond, first-sooner, first-same}
 use Rattle.content.specs.Spell.{hasInfo}
 use Rattle.content.specs.declared.FrameContent.{FrameContent}
 use Rattle.content.specs.declared.FrameContent.the-variants as kind
@@ -49,9 +50,16 @@ low-nonzero x e = ap not (ne-eqb x 0 (λ z. let o : x / 1 % 2 ≡ 1 = eqb-true _
 pub start-le-end : (s : List ℕ) → startOf s ≤ endOf s
 start-le-end s = first-sooner (bit 0) nonzero low-nonzero s
 
--- no start, no end
-pub null-end : (s : List ℕ) → startOf s ≡ length s → endOf s ≡ length s
-null-end s e = omega (arith, start-le-end s, first-le (bit 0) s)
+-- octets start at once where the first is not null, and past it where it is
+pub some-first : (s : List ℕ) → nonzero (getD s 0 0) ≡ true → 0 < length s
+some-first [] e = absurd (false≢true e)
+some-first (x ∷ s) e = omega arith
+
+pub start-first : (s : List ℕ) → nonzero (getD s 0 0) ≡ true → startOf s ≡ 0
+start-first s e = first-is nonzero s 0 0 (some-first s e) e (λ j l. absurd (omega arith))
+
+pub start-past : (s : List ℕ) → 0 < length s → ltb 0 (startOf s) ≡ not (nonzero (getD s 0 0))
+start-past s h = first-beyond nonzero s 0 0 h ∙ rw (le-leb 0 (startOf s) (omega arith)) refl
 
 -- the code's searches by a mask, on octets: any bit of eight, and bit 0
 pub start-masked : (s : List ℕ) → Octets s → first (masked 0xFF) s ≡ startOf s
@@ -61,8 +69,8 @@ pub end-masked : (s : List ℕ) → first (masked 0x01) s ≡ endOf s
 end-masked s = first-same (masked 0x01) (bit 0) s 0 (λ k h. bit-test (getD s k 0) 0)
 
 -- what a match on the answer tells where it is not the first case
-pub told-refused : (a : DecodeAnswer) → OneOf (1 ∷ 2 ∷ 3 ∷ 4 ∷ 5 ∷ 6 ∷ 7 ∷ 8 ∷ 9 ∷ []) (tagOf decode-type a) → isAccepted a ≡ false
-told-refused answer.Accepted h = absurd (miss (1 ∷ 2 ∷ 3 ∷ 4 ∷ 5 ∷ 6 ∷ 7 ∷ 8 ∷ 9 ∷ []) 0 tt h)
+pub told-refused : (a : DecodeAnswer) → OneOf (1 ∷ 2 ∷ 3 ∷ 4 ∷ 5 ∷ 6 ∷ 7 ∷ 8 ∷ 9 ∷ 10 ∷ []) (tagOf decode-type a) → isAccepted a ≡ false
+told-refused answer.Accepted h = absurd (miss (1 ∷ 2 ∷ 3 ∷ 4 ∷ 5 ∷ 6 ∷ 7 ∷ 8 ∷ 9 ∷ 10 ∷ []) 0 tt h)
 told-refused answer.OnlyNullBytes h = refl
 told-refused answer.NoEndToAddressField h = refl
 told-refused (answer.AddressFieldTooShort start end) h = refl
@@ -72,6 +80,7 @@ told-refused answer.UnrecognisedSFieldType h = refl
 told-refused answer.UnrecognisedUFieldType h = refl
 told-refused answer.WrongSizeFrmrInfo h = refl
 told-refused answer.TooManyRepeaters h = refl
+told-refused answer.LeadingNullBytes h = refl
 
 -- and of the content's answer
 pub told-content : (a : ContentAnswer) → OneOf (1 ∷ 2 ∷ 3 ∷ 4 ∷ 5 ∷ []) (tagOf the-type a) → isAccepted (refusalOf a) ≡ false

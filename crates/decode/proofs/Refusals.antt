@@ -34,8 +34,9 @@ pub refused-is : (s : List ℕ) → isAccepted (decode s .answer) ≡ false → 
 unfolding decode decodeField
 refused-is s =
     either Bare (eqb (startOf s) (length s)) (λ _. bare _)
+    (λ _. either Bare (ltb 0 (startOf s)) (λ _. bare _)
     (λ _. either Bare (eqb (endOf s) (length s)) (λ _. bare _)
-    (λ _. either Bare (ltb (endOf s + 1 - startOf s) 14) (λ _. bare _)
+    (λ _. either Bare (ltb (endOf s + 1 - 0) 14) (λ _. bare _)
     (λ _. either Bare (eqb (endOf s + 1) (length s)) (λ _. bare _)
-    (λ _. either Bare (ltb 8 (repeatersOf (startOf s) (endOf s))) (λ _. bare _)
-    (λ _. bare-content s _ _ _ (contentOf (drop (endOf s + 1) s)))))))
+    (λ _. either Bare (ltb 8 (repeatersOf 0 (endOf s))) (λ _. bare _)
+    (λ _. bare-content s _ _ _ (contentOf (drop (endOf s + 1) s))))))))

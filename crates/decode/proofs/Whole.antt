@@ -1,24 +1,49 @@
--- The outline and the whole: the content's answer by its number, and what an accepted outline tells.
-use Prim.Native.Nat.{ℕ, _+_, _-_, _*_, _≤_, _<_}
-use mathlib.Core.Path.{_≡_, refl, ap, sym}
-use mathlib.Core.Bool.{true, false, true≢false, false≢true}
+-- The outline and the whole: what the first octet decides, the content's answer by its number, and what an accepted outline tells.
+use Prim.Native.Nat.{ℕ, _+_, _*_, _≤_, _<_}
+use mathlib.Core.Path.{_≡_, refl, ap, sym, _∙_}
+use mathlib.Core.Bool.{true, false, true≢false, false≢true, cond}
 use mathlib.Core.List.{List}
 use native.Mathlib.Omega.{arith}
-use borrow.Author.Tests.{lt-ltb, le-leb, ltb-true, leb-true}
-use lib.Dec.{ltb, leb}
-use lib.ListN.{length, drop}
+use borrow.Author.Tests.{ne-eqb, eqb-false, lt-ltb, le-leb, ltb-true, leb-true}
+use lib.Dec.{eqb, ltb, leb}
+use lib.ListN.{length, getD, drop}
 use Rattle.octets.proofs.Choice.{by, both}
+use Rattle.octets.proofs.First.{first-le}
 use Rattle.parse.specs.Content.{contentOf, numberOf}
 use Rattle.parse.specs.declared.ContentAnswer.{ContentAnswer}
 use Rattle.parse.specs.declared.ContentAnswer.the-variants as content
 use Rattle.decode.specs.Answer.{isAccepted}
-use Rattle.decode.specs.Read.{startOf, endOf, frameAt, refusedWith, acceptedWith, refusalOf, withContent, decode}
-use Rattle.decode.specs.Outline.{refusalBy, outlineBy, outlineOf, holds, decodeBy}
+use Rattle.decode.specs.Read.{nonzero, startOf, endOf, frameAt, refusedWith, acceptedWith, refusalOf, withContent, decodeField, decode}
+use Rattle.decode.specs.Outline.{refusalBy, nullAnswer, refusedOutline, outlineBy, outlineOf, holds, decodeBy}
+use Rattle.decode.specs.declared.DecodeAnswer.{DecodeAnswer}
 use Rattle.decode.specs.declared.DecodeAnswer.the-variants as answer
 use Rattle.decode.specs.declared.Decoded.{Decoded}
 use Rattle.decode.specs.declared.Outline.{Outline}
+use Rattle.decode.proofs.Read.{some-first, start-first, start-past}
 use Rattle.decode.proofs.Accepts.{accepts}
 use Rattle.decode.proofs.Refusals.{refused-is}
+
+-- octets that do not start with a null, and those that do or are none
+pub first-decode : (s : List ℕ) → nonzero (getD s 0 0) ≡ true
+    → decode s ≡ cond (eqb (endOf s) (length s)) (refusedWith answer.NoEndToAddressField) (decodeField s 0 (endOf s))
+unfolding decode
+first-decode s e = rw (start-first s e) (simp (ne-eqb 0 (length s) (λ z. omega (arith, z, some-first s e))))
+
+pub null-decode : (s : List ℕ) → nonzero (getD s 0 0) ≡ false → decode s ≡ refusedWith (nullAnswer s)
+unfolding decode
+null-decode s e =
+    by (eqb (startOf s) (length s))
+    (λ n. rw n refl)
+    (λ n. rw (n, start-past s (omega (arith, eqb-false (startOf s) (length s) n, first-le nonzero s)), e) refl)
+
+-- the outline of a refusal
+pub outline-refused : (end : ℕ) (a : DecodeAnswer) → isAccepted a ≡ false → refusedOutline a ≡ outlineBy end (refusedWith a)
+unfolding refusedWith
+outline-refused end a e = rw e refl
+
+pub null-outline : (s : List ℕ) → nonzero (getD s 0 0) ≡ false → refusedOutline (nullAnswer s) ≡ outlineOf s
+null-outline s e =
+    rw (null-decode s e) (outline-refused (endOf s) (nullAnswer s) (by (eqb (startOf s) (length s)) (λ n. rw n refl) (λ n. rw n refl)))
 
 pub refusal-by : (a : ContentAnswer) → refusalBy (numberOf a) ≡ refusalOf a
 refusal-by (content.Accepted k) = refl
@@ -41,7 +66,7 @@ refused-content s start n control content.WrongSizeFrmrInfo e = refl
 
 -- content that is accepted leaves the count as it was
 pub accepted-content : (s : List ℕ) (start end n control : ℕ) (a : ContentAnswer) → isAccepted (refusalOf a) ≡ true
-    → _≡_ {A = Outline} (record { answer = answer.Accepted; start = start; end = end; «route_count» = n }) (outlineBy start end (withContent s start n control a))
+    → _≡_ {A = Outline} (record { answer = answer.Accepted; end = end; «route_count» = n }) (outlineBy end (withContent s start n control a))
 unfolding withContent acceptedWith frameAt
 accepted-content s start end n control (content.Accepted k) e = refl
 accepted-content s start end n control content.ContentZeroLength e = absurd (false≢true e)
@@ -51,18 +76,18 @@ accepted-content s start end n control content.UnrecognisedUFieldType e = absurd
 accepted-content s start end n control content.WrongSizeFrmrInfo e = absurd (false≢true e)
 
 -- where the octets hold an address field, its groups and what follows it lie within them
-pub room : (len start end n : ℕ) → holds len start end n ≡ true → (n ≤ 8) × (start + 14 + 7 * n ≤ len) × (end + 1 ≤ len)
-room len start end n e =
+pub room : (len end n : ℕ) → holds len end n ≡ true → (n ≤ 8) × (14 + 7 * n ≤ len) × (end + 1 ≤ len)
+room len end n e =
     let a = both (ltb end len) _ e in
     let b = both (leb n 8) _ (a .1) in
     let inner : end < len = ltb-true end len (a .0) in
-    let long : 14 + 7 * n ≤ end + 1 - start = leb-true (14 + 7 * n) (end + 1 - start) (b .1) in
+    let long : 14 + 7 * n ≤ end + 1 = leb-true (14 + 7 * n) (end + 1) (b .1) in
     (leb-true n 8 (b .0), omega arith, omega arith)
 
 -- an accepted input holds what its outline tells of, and with its content that is the whole
 pub record Whole (s : List ℕ) (n : ℕ) : Type 0 where
-  pub inside : holds (length s) (startOf s) (endOf s) n ≡ true
-  pub made : withContent s (startOf s) n (endOf s + 1) (contentOf (drop (endOf s + 1) s)) ≡ decode s
+  pub inside : holds (length s) (endOf s) n ≡ true
+  pub made : withContent s 0 n (endOf s + 1) (contentOf (drop (endOf s + 1) s)) ≡ decode s
 
 whole : (s : List ℕ) → isAccepted (decode s .answer) ≡ true → Whole s (decode s .frame .«route_count»)
 unfolding withContent acceptedWith frameAt
@@ -70,14 +95,28 @@ whole s e =
     let a = accepts s e in
     let n : decode s .frame .«route_count» ≡ a .count = ap (λ (d : Decoded). d .frame .«route_count») (a .made) in
     record {
-      inside = rw (n, lt-ltb (endOf s) (length s) (a .end-in), le-leb (a .count) 8 (a .few), le-leb (14 + 7 * a .count) (endOf s + 1 - startOf s) (omega (arith, a .counted, a .long))) refl;
+      inside = rw (n, lt-ltb (endOf s) (length s) (a .end-in), le-leb (a .count) 8 (a .few), le-leb (14 + 7 * a .count) (endOf s + 1) (omega (arith, a .counted, a .long))) refl;
       made = rw (a .read, n, a .made) refl;
     }
 
+-- the end in the outline of an accepted input is its end
+pub outline-end : (s : List ℕ) → isAccepted (decode s .answer) ≡ true → outlineOf s .end ≡ endOf s
+outline-end s e = rw e refl
+
+going : (s : List ℕ) (o : Outline) → isAccepted (o .answer) ≡ true → holds (length s) (o .end) (o .«route_count») ≡ true
+    → decodeBy s o ≡ withContent s 0 (o .«route_count») (o .end + 1) (contentOf (drop (o .end + 1) s))
+unfolding decodeBy
+going s o e h = simp (e, h)
+
+gone : (s : List ℕ) (o : Outline) → isAccepted (o .answer) ≡ false → decodeBy s o ≡ refusedWith (o .answer)
+unfolding decodeBy
+gone s o e = simp e
+
 -- going on from the input's own outline is decoding
 pub by-outline : (s : List ℕ) → decodeBy s (outlineOf s) ≡ decode s
-unfolding decodeBy
 by-outline s =
     by (isAccepted (decode s .answer))
-    (λ e. let w = whole s e in simp (e, w .inside) (w .made))
-    (λ e. simp e (sym (refused-is s e)))
+    (λ e. let w = whole s e in
+    let x = outline-end s e in
+    going s (outlineOf s) e (rw x (w .inside)) ∙ rw x (w .made))
+    (λ e. gone s (outlineOf s) e ∙ sym (refused-is s e))

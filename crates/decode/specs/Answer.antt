@@ -1,4 +1,4 @@
--- The answers of decoding: document 01's numbers for them, with the details that they give.
+-- The answers of decoding: the numbers of document 01, and of document 02, M-108, for them, with the details that they give.
 use Prim.Native.Nat.{ℕ}
 use mathlib.Core.Bool.{Bool, true, false}
 pub use Rattle.parse.specs.Report.{Report, number}
@@ -16,6 +16,7 @@ reportOf read.UnrecognisedSFieldType = number 6
 reportOf read.UnrecognisedUFieldType = number 7
 reportOf read.WrongSizeFrmrInfo = number 8
 reportOf read.TooManyRepeaters = number 9
+reportOf read.LeadingNullBytes = number 10
 
 abbrev pub numberOf : DecodeAnswer → ℕ
 numberOf a = reportOf a .number
@@ -31,3 +32,4 @@ isAccepted read.UnrecognisedSFieldType = false
 isAccepted read.UnrecognisedUFieldType = false
 isAccepted read.WrongSizeFrmrInfo = false
 isAccepted read.TooManyRepeaters = false
+isAccepted read.LeadingNullBytes = false

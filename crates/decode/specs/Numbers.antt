@@ -1,26 +1,30 @@
--- When each number of decoding is given (document 01, Numbers), said of the octets and not by decoding them.
-use Prim.Native.Nat.{ℕ, _+_, _-_}
+-- When each number of decoding is given (document 01, Numbers; document 02, M-108), said of the octets and not by decoding them.
+use Prim.Native.Nat.{ℕ, _+_}
 use mathlib.Core.Bool.{Bool, cond, not}
 use mathlib.Core.List.{List}
 use lib.Dec.{eqb, ltb, leb}
-use lib.ListN.{length, drop}
+use lib.ListN.{length, getD, drop}
 use Rattle.octets.specs.Octet.{bit}
 use Rattle.octets.specs.All.{all}
 use Rattle.parse.specs.Numbers.{rows}
 use Rattle.decode.specs.Answer.{Report, number}
-use Rattle.decode.specs.Read.{nonzero, startOf, endOf, repeatersOf}
+use Rattle.decode.specs.Read.{nonzero, endOf, repeatersOf}
 
 -- 1: no nonzero octet
 abbrev pub noStart : List ℕ → Bool
 noStart s = all (λ b. not (nonzero b)) s
 
+-- 10: a leading null, of octets that are not all null
+abbrev pub leadingNull : List ℕ → Bool
+leadingNull s = not (nonzero (getD s 0 0))
+
 -- 2: no octet with its low bit set
 abbrev pub noEnd : List ℕ → Bool
 noEnd s = all (λ b. not (bit 0 b)) s
 
--- 3: span below 14
+-- 3: span below 14, the start being 0
 abbrev pub shortField : List ℕ → Bool
-shortField s = ltb (endOf s + 1 - startOf s) 14
+shortField s = ltb (endOf s + 1) 14
 
 -- 4: nothing after the end
 abbrev pub noContent : List ℕ → Bool
@@ -28,14 +32,15 @@ noContent s = eqb (endOf s + 1) (length s)
 
 -- 9: nine or more repeaters. AX.25 has two (docs/DIFFERENCES.md, A7), the Rust any number (B1)
 abbrev pub manyRepeaters : List ℕ → Bool
-manyRepeaters s = leb 9 (repeatersOf (startOf s) (endOf s))
+manyRepeaters s = leb 9 (repeatersOf 0 (endOf s))
 
--- the table in decoding's order: 1, 2, 3 with start and end, 4 with length, 9, then the content's number
+-- the table in decoding's order: 1, 10, 2, 3 with start and end, 4 with length, 9, then the content's number
 unfoldable pub reported : List ℕ → Report
 reported s =
     cond (noStart s) (number 1)
+    (cond (leadingNull s) (number 10)
     (cond (noEnd s) (number 2)
-    (cond (shortField s) (record { number = 3; start = startOf s; end = endOf s; len = 0 })
+    (cond (shortField s) (record { number = 3; start = 0; end = endOf s; len = 0 })
     (cond (noContent s) (record { number = 4; start = 0; end = 0; len = length s })
     (cond (manyRepeaters s) (number 9)
-    (number (rows (drop (endOf s + 1) s)))))))
+    (number (rows (drop (endOf s + 1) s))))))))

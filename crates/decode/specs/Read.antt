@@ -1,4 +1,4 @@
--- Reading a frame: document 01's rules 1, 2, 4 and 5, and its numbers in their order.
+-- Reading a frame: document 01's rules 1, 2, 4 and 5, and the numbers in their order, document 02's 10 (M-108) among them.
 use Prim.Native.Nat.{ℕ, _+_, _-_, _*_, _/_}
 use mathlib.Core.Bool.{Bool, true, false, cond, not}
 use mathlib.Core.List.{List, [], _∷_}
@@ -25,8 +25,7 @@ use Rattle.decode.specs.declared.Decoded.{Decoded}
 abbrev pub nonzero : ℕ → Bool
 nonzero b = not (eqb b 0)
 
--- rule 1: the start is the first nonzero octet (docs/DIFFERENCES.md, A1), the end the first octet with its low bit set; the
--- length stands for none
+-- rule 1: the start is the first nonzero octet, the end the first octet with its low bit set; the length stands for none
 abbrev pub startOf : List ℕ → ℕ
 startOf s = first nonzero s
 
@@ -114,12 +113,14 @@ decodeField s start end =
     (cond (ltb 8 (repeatersOf start end)) (refusedWith answer.TooManyRepeaters)
     (withContent s start (repeatersOf start end) (end + 1) (contentOf (drop (end + 1) s)))))
 
--- the whole: 1, 2, then the address field's
+-- the whole: 1; 10 where nulls stand before the start (docs/DIFFERENCES.md, B8), so that every address field starts at 0; 2; then the
+-- address field's
 unfoldable pub decode : List ℕ → Decoded
 decode s =
     cond (eqb (startOf s) (length s)) (refusedWith answer.OnlyNullBytes)
+    (cond (ltb 0 (startOf s)) (refusedWith answer.LeadingNullBytes)
     (cond (eqb (endOf s) (length s)) (refusedWith answer.NoEndToAddressField)
-    (decodeField s (startOf s) (endOf s)))
+    (decodeField s 0 (endOf s))))
 
 -- the info octets that a decode of s reports
 abbrev pub infoIn : List ℕ → Decoded → List ℕ

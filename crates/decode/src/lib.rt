@@ -3,11 +3,11 @@
 use frame::Ax25Frame;
 ghost use mathlib.Core.Path.{_≡_};
 ghost use Prim.Native.Nat.{_≤_, _<_};
-ghost use lib.ListN.{length, drop};
+ghost use lib.ListN.{length, getD, drop};
 ghost use Rattle.parse.specs.Content.{contentOf};
 ghost use Rattle.decode.specs.Answer.{reportOf};
-ghost use Rattle.decode.specs.Outline.{refusalBy, outlineBy, outlineOf};
-ghost use Rattle.decode.specs.Read.{refusedWith, refusalOf, decodeField};
+ghost use Rattle.decode.specs.Outline.{refusalBy, nullAnswer, refusedOutline, outlineBy, outlineOf};
+ghost use Rattle.decode.specs.Read.{nonzero, refusalOf, decodeField};
 
 pub enum DecodeAnswer {
     Accepted,
@@ -20,6 +20,7 @@ pub enum DecodeAnswer {
     UnrecognisedUFieldType,
     WrongSizeFrmrInfo,
     TooManyRepeaters,
+    LeadingNullBytes,
 }
 
 // What reading gives. The info is `info_len` octets of the input from `info_start` on.
@@ -30,13 +31,11 @@ pub struct Decoded {
     pub info_len: usize,
 }
 
-// What is known before anything is taken apart: the answer, and where the address field starts and ends. The
-// decode number and the canonical check ask for no more.
+// What is known before anything is taken apart: the answer, and where the address field, which starts with the first octet, ends. The
+// decode number and the canonical check ask for no more. Of a refused input both numbers are 0.
 pub struct Outline {
     pub answer: DecodeAnswer,
-    pub start: usize,
     pub end: usize,
-    // Of a refused input 0.
     pub route_count: usize,
 }
 
@@ -55,6 +54,7 @@ impl DecodeAnswer {
             DecodeAnswer::UnrecognisedUFieldType => 7,
             DecodeAnswer::WrongSizeFrmrInfo => 8,
             DecodeAnswer::TooManyRepeaters => 9,
+            DecodeAnswer::LeadingNullBytes => 10,
         }
     }
 }
@@ -81,62 +81,75 @@ fn content_answer(bytes: &[u8], control: usize) -> DecodeAnswer
     refusal(parse::number_of(&bytes[control..]))
 }
 
-fn refused_outline(answer: DecodeAnswer, start: usize, end: usize) -> Outline
-    ensures { λ r. ⌜ r ≡ outlineBy start end (refusedWith answer) ⌝ }
+fn refused_outline(answer: DecodeAnswer) -> Outline
+    ensures { λ r. ⌜ r ≡ refusedOutline answer ⌝ }
 {
     let nothing = Ax25Frame::default();
     Outline {
         answer,
-        start,
-        end,
+        end: 0,
         route_count: nothing.route_count,
     }
 }
 
-// The address field, from its first octet to its last, and what follows.
-fn outline_field(bytes: &[u8], start: usize, end: usize) -> Outline
-    requires { ⌜ (start ≤ end) × (end < length (now bytes)) ⌝ }
-    ensures { λ r. ⌜ r ≡ outlineBy start end (decodeField (now (bytes .entry)) start end) ⌝ }
+// The address field, from the first octet to the end, and what follows.
+fn outline_field(bytes: &[u8], end: usize) -> Outline
+    requires { ⌜ end < length (now bytes) ⌝ }
+    ensures { λ r. ⌜ r ≡ outlineBy end (decodeField (now (bytes .entry)) 0 end) ⌝ }
 {
     let control = end + 1;
-    let span = control - start;
-    if span < 14 {
-        return refused_outline(
-            DecodeAnswer::AddressFieldTooShort { start, end },
-            start,
-            end,
-        );
+    if control < 14 {
+        return refused_outline(DecodeAnswer::AddressFieldTooShort { start: 0, end });
     }
     if control == bytes.len() {
-        return refused_outline(DecodeAnswer::FrameTooShort { len: bytes.len() }, start, end);
+        return refused_outline(DecodeAnswer::FrameTooShort { len: bytes.len() });
     }
-    let count = (span - 14) / 7;
+    let count = (control - 14) / 7;
     if 8 < count {
-        return refused_outline(DecodeAnswer::TooManyRepeaters, start, end);
+        return refused_outline(DecodeAnswer::TooManyRepeaters);
     }
     let answer = content_answer(bytes, control);
     let DecodeAnswer::Accepted = answer else {
-        return refused_outline(answer, start, end);
+        return refused_outline(answer);
     };
     Outline {
         answer,
-        start,
         end,
         route_count: count,
     }
 }
 
-// All that is known before anything is taken apart.
+// Whether there is a first octet, and it is not null.
+fn starts(bytes: &[u8]) -> bool
+    ensures { λ r. ⌜ r ≡ nonzero (getD (now (bytes .entry)) 0 0) ⌝ }
+{
+    if bytes.len() == 0 {
+        return false;
+    }
+    bytes[0] != 0
+}
+
+// The answer where there is none or it is null: 1 where all octets are, else 10.
+fn null_answer(bytes: &[u8]) -> DecodeAnswer
+    ensures { λ r. ⌜ r ≡ nullAnswer (now (bytes .entry)) ⌝ }
+{
+    let nulls = search::find(bytes, 0xFF);
+    if nulls == bytes.len() {
+        return DecodeAnswer::OnlyNullBytes;
+    }
+    DecodeAnswer::LeadingNullBytes
+}
+
+// All that is known before anything is taken apart. Octets that do not start with a null are searched for the end alone.
 pub fn outline_of(bytes: &[u8]) -> Outline
     ensures { λ r. ⌜ r ≡ outlineOf (now (bytes .entry)) ⌝ }
 {
-    let start = search::find(bytes, 0xFF);
-    if start == bytes.len() {
-        return refused_outline(DecodeAnswer::OnlyNullBytes, start, start);
+    if !starts(bytes) {
+        return refused_outline(null_answer(bytes));
     }
     let end = search::find(bytes, 0x01);
     if end == bytes.len() {
-        return refused_outline(DecodeAnswer::NoEndToAddressField, start, end);
+        return refused_outline(DecodeAnswer::NoEndToAddressField);
     }
-    outline_field(bytes, start, end)
+    outline_field(bytes, end)
 }

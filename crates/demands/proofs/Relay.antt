@@ -65,6 +65,7 @@ zero-accepted read.UnrecognisedSFieldType = refl
 zero-accepted read.UnrecognisedUFieldType = refl
 zero-accepted read.WrongSizeFrmrInfo = refl
 zero-accepted read.TooManyRepeaters = refl
+zero-accepted read.LeadingNullBytes = refl
 
 decoded-rows : (s : List ℕ) → given (decodeTable s) ≡ numberOf (decode s .answer)
 unfolding given
@@ -216,7 +217,7 @@ module _ (own : Address) (s : List ℕ) (z : numbered (relayAnswer own s) ≡ 0)
   within = let g = groups-inside s (d .accepted) in (omega (arith, d .inner, g .0), omega (arith, d .inner, g .1))
 
   eight-places : length (f .route) ≡ 8
-  eight-places = rw (route s (d .accepted) .read) (route-length s (startOf s + 14) (f .«route_count»))
+  eight-places = rw (route s (d .accepted) .read) (route-length s 14 (f .«route_count»))
 
   read-again : decode t ≡ record {
     answer = decode s .answer;
@@ -249,7 +250,7 @@ module _ (own : Address) (s : List ℕ) (z : numbered (relayAnswer own s) ≡ 0)
   clear-before : bit 7 b ≡ false
   clear-before =
       let r = route s (d .accepted) in
-      sym (place-read s (startOf s + 14) (f .«route_count») i (d .inner) (r .few) .1)
+      sym (place-read s 14 (f .«route_count») i (d .inner) (r .few) .1)
       ∙ rw (← r .read) (sym (marked-in (f .route) (f .«route_count») i (d .inner)) ∙ due-free f (within .0))
 
   -- what is relayed

@@ -108,7 +108,7 @@ unfolding first same among pidOf noCall addressOf markOf ssidOctet groupOf respo
 rejects-alike = (refl, refl)
 
 -- lengths are needed: each of the longer inputs is read as the canonical one
-pub lengths-needed : (map (λ (b : List ℕ × List ℕ). canonical (b .0)) longer ≡ true ∷ true ∷ true ∷ [])
+pub lengths-needed : (map (λ (b : List ℕ × List ℕ). canonical (b .0)) longer ≡ true ∷ true ∷ [])
     × (map (λ (b : List ℕ × List ℕ). seen (b .1)) longer ≡ map (λ (b : List ℕ × List ℕ). seen (b .0)) longer)
 unfolding first same among pidOf noCall addressOf markOf ssidOctet groupOf iOf sOf uiOf uOf contentOf noEntry noRoute simpleUi defaultFrame parsedAt entryAt placeAt routeAt frameAt refusedWith acceptedWith withContent decodeField decode groupsOf addressField spell again canonical
 lengths-needed = (refl, refl)

@@ -1,4 +1,4 @@
--- Document 01's examples P1 to P13, each with its whole result.
+-- Document 01's examples P1 to P13, each with its whole result; that of P6 is document 02's (M-108).
 use Prim.Native.Nat.{ℕ}
 use mathlib.Core.Bool.{Bool, true, false}
 use mathlib.Core.List.{List, [], _∷_, _++_}
@@ -90,7 +90,7 @@ outcomes =
     ∷ refused (record { number = 3; start = 0; end = 12; len = 0 })
     ∷ refused (record { number = 4; start = 0; end = 0; len = 14 })
     ∷ record { report = number 0; frame = with (ui None); info-start = 16; info-len = 2; canonical = true; again = whole }
-    ∷ record { report = number 0; frame = with (ui None); info-start = 17; info-len = 2; canonical = false; again = whole }
+    ∷ refused (number 10)
     ∷ refused (number 5)
     ∷ refused (number 6)
     ∷ refused (number 7)

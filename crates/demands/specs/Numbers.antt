@@ -1,4 +1,5 @@
--- Demand 1: document 01's table of numbers, a row a line, each condition in the table's words, in the order that it gives.
+-- Demand 1: document 01's table of numbers, a row a line, each condition in the table's words, in the order that it gives; 10 is document
+-- 02's (M-108).
 use Prim.Native.Nat.{ℕ, _+_}
 use mathlib.Core.Bool.{not}
 use mathlib.Core.List.{List, [], _∷_}
@@ -11,7 +12,7 @@ use Rattle.address.specs.declared.Address.{Address}
 use Rattle.content.specs.Encode.{strayInfo, strayPid}
 use Rattle.parse.specs.Numbers.{lacksPid, strangeS, strangeU, wrongFrmr}
 use Rattle.decode.specs.Read.{endOf}
-use Rattle.decode.specs.Numbers.{noStart, noEnd, shortField, noContent, manyRepeaters}
+use Rattle.decode.specs.Numbers.{noStart, leadingNull, noEnd, shortField, noContent, manyRepeaters}
 use Rattle.frame.specs.Spell.{spell}
 use Rattle.frame.specs.Write.{frameEncodable}
 use Rattle.frame.specs.declared.Ax25Frame.{Ax25Frame}
@@ -24,7 +25,7 @@ content s = drop (endOf s + 1) s
 -- decoding
 abbrev pub decodeTable : List ℕ → Table
 decodeTable s =
-    (1, noStart s) ∷ (2, noEnd s) ∷ (3, shortField s) ∷ (4, noContent s) ∷ (9, manyRepeaters s)
+    (1, noStart s) ∷ (10, leadingNull s) ∷ (2, noEnd s) ∷ (3, shortField s) ∷ (4, noContent s) ∷ (9, manyRepeaters s)
     ∷ (5, lacksPid (content s)) ∷ (6, strangeS (content s)) ∷ (7, strangeU (content s)) ∷ (8, wrongFrmr (content s)) ∷ []
 
 -- writing a frame with its info into so much room

@@ -7,7 +7,7 @@ use mathlib.Core.Logic.{_↔_}
 use lib.ListN.{length, drop}
 use Rattle.content.specs.Spell.{hasInfo}
 use Rattle.decode.specs.Answer.{isAccepted}
-use Rattle.decode.specs.Read.{startOf, endOf, decode, infoIn}
+use Rattle.decode.specs.Read.{endOf, decode, infoIn}
 use Rattle.frame.specs.Spell.{spell, Plain, withMark, inUse}
 use Rattle.frame.specs.declared.Ax25Frame.{Ax25Frame}
 use Rattle.grammar.specs.Stations.{reservedAt}
@@ -34,7 +34,7 @@ pub record Respelled (s t : List ℕ) : Type 0 where
   -- of a kind with info, I or UI, the same octets after the address field: control, PID and info (document 02, M-105)
   pub content : hasInfo (decode s .frame .content) ≡ true → drop (14 + 7 * decode s .frame .«route_count») t ≡ drop (endOf s + 1) s
   -- of every kind the same reserved bits in every group (document 02, M-106)
-  pub reserved : (j : ℕ) → j < decode s .frame .«route_count» + 2 → reservedAt t 0 j ≡ reservedAt s (startOf s) j
+  pub reserved : (j : ℕ) → j < decode s .frame .«route_count» + 2 → reservedAt t j ≡ reservedAt s j
 
 pub record OneSpelling (s : List ℕ) : Type 0 where
   -- exact: the canonical check says yes exactly when some plain frame spells those octets

@@ -83,12 +83,10 @@ beside t = (differing reject t, decode t)
 abbrev pub unseenAt : ℕ × ℕ → List (ℕ × ℕ) × Decoded
 unseenAt b = (b ∷ [], decode reject)
 
--- why lengths are asked: canonical inputs, each with a longer one that is read alike. A null before it, an octet left over in the
--- address field, a tail
+-- why lengths are asked: canonical inputs, each with a longer one that is read alike. An octet left over in the address field, a tail
 abbrev pub longer : List (List ℕ × List ℕ)
 longer =
-    (whole, 0 ∷ whole)
-    ∷ (whole, take 13 addresses ++ (0x66 ∷ 0x01 ∷ 0x03 ∷ 0xF0 ∷ 0x4F ∷ 0x4B ∷ []))
+    (whole, take 13 addresses ++ (0x66 ∷ 0x01 ∷ 0x03 ∷ 0xF0 ∷ 0x4F ∷ 0x4B ∷ []))
     ∷ (addresses ++ (0x01 ∷ []), addresses ++ (0x01 ∷ 0xAA ∷ []))
     ∷ []
 

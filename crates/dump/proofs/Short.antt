@@ -144,6 +144,7 @@ detail-short answer.UnrecognisedSFieldType = omega arith
 detail-short answer.UnrecognisedUFieldType = omega arith
 detail-short answer.WrongSizeFrmrInfo = omega arith
 detail-short answer.TooManyRepeaters = omega arith
+detail-short answer.LeadingNullBytes = omega arith
 
 refusal-short : (a : DecodeAnswer) → length (refusalText a) ≤ 512
 unfolding refusalText

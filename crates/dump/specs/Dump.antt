@@ -84,6 +84,7 @@ detailText answer.UnrecognisedSFieldType = []
 detailText answer.UnrecognisedUFieldType = []
 detailText answer.WrongSizeFrmrInfo = []
 detailText answer.TooManyRepeaters = []
+detailText answer.LeadingNullBytes = []
 
 unfoldable pub refusalText : DecodeAnswer → List ℕ
 refusalText a = line "answer=" (decimal (numberOf a)) ++ detailText a

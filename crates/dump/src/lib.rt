@@ -67,6 +67,7 @@ fn put_details(out: &mut [u8], at: usize, answer: DecodeAnswer) -> usize
         DecodeAnswer::UnrecognisedUFieldType => at,
         DecodeAnswer::WrongSizeFrmrInfo => at,
         DecodeAnswer::TooManyRepeaters => at,
+        DecodeAnswer::LeadingNullBytes => at,
     }
 }
 

@@ -30,11 +30,11 @@ use Rattle.grammar.proofs.Ends.{end-past, end-route, start-here}
 use Rattle.frame.proofs.Write.{groups-length, spell-length, marks-differ}
 
 -- to read further on is to read what is left when the front is dropped
-parsed-drop : (s : List ℕ) (n at : ℕ) → parsedAt s (n + at) ≡ parsedAt (drop n s) at
+pub parsed-drop : (s : List ℕ) (n at : ℕ) → parsedAt s (n + at) ≡ parsedAt (drop n s) at
 unfolding parsedAt
 parsed-drop s n at = rw (← drop-drop at n s)
 
-entry-drop : (s : List ℕ) (n at : ℕ) → entryAt s (n + at) ≡ entryAt (drop n s) at
+pub entry-drop : (s : List ℕ) (n at : ℕ) → entryAt s (n + at) ≡ entryAt (drop n s) at
 unfolding entryAt
 entry-drop s n at = rw parsed-drop
 

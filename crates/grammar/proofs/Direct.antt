@@ -11,7 +11,7 @@ use lib.Seq.{drop-drop, take-add, take-all, length-take-le}
 use Rattle.octets.specs.Octet.{Octets, bit}
 use Rattle.octets.proofs.Choice.{by, both}
 use Rattle.octets.proofs.Octet.{octets-drop, octets-take}
-use Rattle.octets.proofs.First.{first-passes, first-before, first-is}
+use Rattle.octets.proofs.First.{first-passes, first-before}
 use Rattle.octets.proofs.Place.{getD-part, of-eight}
 use Rattle.address.specs.Group.{groupOf, markOf, markSet}
 use Rattle.address.proofs.Laws.{mark-written, written-read, mark-last}
@@ -20,7 +20,7 @@ use Rattle.lean.specs.Lean.{lean, infoOf}
 use Rattle.content.specs.declared.FrameContent.{FrameContent}
 use Rattle.lean.proofs.Laws.{content-kept, content-exact, front-some}
 use Rattle.lean.proofs.Lean.{lean-spelled}
-use Rattle.decode.specs.Read.{nonzero, startOf, endOf, groupAt, parsedAt, entryAt, placeAt, routeAt, commandOf, frameAt, acceptedWith, decode, infoIn}
+use Rattle.decode.specs.Read.{endOf, groupAt, parsedAt, entryAt, placeAt, routeAt, commandOf, frameAt, acceptedWith, decode, infoIn}
 use Rattle.frame.specs.Spell.{past, repeaterAt, groupsOf, destinationMark, sourceMark, addressField, spell, marked, Plain, inUse}
 use Rattle.frame.proofs.Write.{spell-length}
 use Rattle.frame.specs.declared.Mark.{Mark}
@@ -29,7 +29,7 @@ use Rattle.frame.specs.declared.Ax25Frame.{Ax25Frame}
 use Rattle.decode.specs.declared.Decoded.{Decoded}
 use Rattle.grammar.specs.Direct.{direct}
 use Rattle.decode.proofs.Accepts.{Accepts}
-use Rattle.grammar.proofs.Back.{spelled-start, group-front, in-order, after-dest, after-field, spelled-end, frame-spell}
+use Rattle.grammar.proofs.Back.{group-front, in-order, after-dest, after-field, spelled-end, frame-spell}
 
 always-marked : (m : Mark) → marked (commandOf (destinationMark m) (sourceMark m)) ≡ true
 always-marked Command = refl
@@ -55,11 +55,10 @@ module _ (f : Ax25Frame) (i : List ℕ) (p : Plain f i) where
   unfolding direct inUse
   direct-spelled =
       let l = spell-length f i in
-      let start : nonzero (getD s 0 0) ≡ true = rw (spelled-start f i p) at (first-passes nonzero s 0 (rw (spelled-start f i p) (omega arith))) in
       let end : bit 0 (getD s (13 + 7 * n) 0) ≡ true =
       rw (spelled-end f i p) at (first-passes (bit 0) s 0 (rw (spelled-end f i p) (omega (arith, front-some (f .content) (p .content))))) in
       let tail : lean (drop (14 + 7 * n) s) ≡ true = rw (after-field f i p) (lean-spelled (f .content) i (p .content) (p .bare)) in
-      rw (frame-spell f i p, start, end, spelled-marks, tail)
+      rw (frame-spell f i p, end, spelled-marks, tail)
 
 marks-back : (a b : Bool) → marked (commandOf a b) ≡ true → (destinationMark (commandOf a b) ≡ a) × (sourceMark (commandOf a b) ≡ b)
 marks-back true true e = absurd (false≢true e)
@@ -119,13 +118,12 @@ module _ (s : List ℕ) (o : Octets s) (n : ℕ) (end : endOf s ≡ 13 + 7 * n) 
       (ap (λ (x : List ℕ). take (7 * m) (drop 14 s) ++ x) (rw at (group-again (suc (suc m)) (omega arith) (eqb (suc m) n) (eqb·suc-suc (suc m) n))))
 
   -- the address field is spelled again as it was read, whatever follows it
-  pub spell-again : (k : FrameContent) (i : List ℕ) → startOf s ≡ 0 → marked (frameAt s (startOf s) n k .«command_or_response») ≡ true
-      → spell (frameAt s (startOf s) n k) i ≡ take (14 + 7 * n) s ++ (front k ++ i)
+  pub spell-again : (k : FrameContent) (i : List ℕ) → marked (frameAt s 0 n k .«command_or_response») ≡ true
+      → spell (frameAt s 0 n k) i ≡ take (14 + 7 * n) s ++ (front k ++ i)
   unfolding spell addressField frameAt
-  spell-again k i start m =
-      let b = marks-back (parsedAt s 0 .«high_bit») (parsedAt s 7 .«high_bit») (rw start at m) in
+  spell-again k i m =
+      let b = marks-back (parsedAt s 0 .«high_bit») (parsedAt s 7 .«high_bit») m in
       rw (
-        start,
         b .0,
         b .1,
         group-again 0 (omega arith) false (eqb·zero-suc n),
@@ -145,7 +143,7 @@ module _ (s : List ℕ) (o : Octets s) (a : Accepts s (decode s)) where
       (take-all (length s - (endOf s + 1 + 2)) (drop (endOf s + 1 + 2) s) (rw length-drop (omega arith))))
       (λ e. simp e))
 
-  pub made-frame : decode s .frame ≡ frameAt s (startOf s) (a .count) (a .kind)
+  pub made-frame : decode s .frame ≡ frameAt s 0 (a .count) (a .kind)
   unfolding acceptedWith
   made-frame = ap (λ (d : Decoded). d .frame) (a .made)
 
@@ -161,24 +159,22 @@ module _ (s : List ℕ) (o : Octets s) (a : Accepts s (decode s)) where
   direct-again e =
       let n : ℕ = a .count in
       let t = rw made-frame at e in
-      let t1 = both (nonzero (getD s 0 0)) _ t in
-      let t2 = both (bit 0 (getD s (13 + 7 * n) 0)) _ (t1 .1) in
-      let t3 = both (marked (commandOf (parsedAt s 0 .«high_bit») (parsedAt s 7 .«high_bit»))) _ (t2 .1) in
-      let start : startOf s ≡ 0 = first-is nonzero s 0 0 (omega (arith, a .start-in)) (t1 .0) (λ j h. absurd (omega arith)) in
+      let t1 = both (bit 0 (getD s (13 + 7 * n) 0)) _ t in
+      let t2 = both (marked (commandOf (parsedAt s 0 .«high_bit») (parsedAt s 7 .«high_bit»))) _ (t1 .1) in
       let counted = a .counted in
       let long = a .long in
       let late : 13 + 7 * n ≤ endOf s = omega arith in
       let soon : endOf s ≤ 13 + 7 * n =
       by (leb (endOf s) (13 + 7 * n)) (leb-true (endOf s) (13 + 7 * n))
-      (λ g. absurd (true≢false (sym (t2 .0) ∙ first-before (bit 0) s 0 (13 + 7 * n) (leb-false (endOf s) (13 + 7 * n) g)))) in
+      (λ g. absurd (true≢false (sym (t1 .0) ∙ first-before (bit 0) s 0 (13 + 7 * n) (leb-false (endOf s) (13 + 7 * n) g)))) in
       let end : endOf s ≡ 13 + 7 * n = omega arith in
       let at : endOf s + 1 ≡ 14 + 7 * n = omega arith in
       let c : List ℕ = drop (endOf s + 1) s in
-      let x = content-exact c (octets-drop s (endOf s + 1) o) (a .kind) (a .read) (rw at (t3 .1)) in
+      let x = content-exact c (octets-drop s (endOf s + 1) o) (a .kind) (a .read) (rw at (t2 .1)) in
       let tail : front (a .kind) ++ infoIn s (decode s) ≡ drop (14 + 7 * n) s =
       ap (λ (y : List ℕ). front (a .kind) ++ y) info-tail ∙ x ∙ ap (λ (j : ℕ). drop j s) at in
       rw made-frame
-      (spell-again s o n end (a .end-in) (a .few) (a .kind) (infoIn s (decode s)) start (rw start (t3 .0))
+      (spell-again s o n end (a .end-in) (a .few) (a .kind) (infoIn s (decode s)) (t2 .0)
       ∙ rw (tail, take-append-drop (14 + 7 * n) s) refl)
 
 -- the mark of a group, by its last octet in the input
@@ -186,11 +182,10 @@ pub parsed-mark : (s : List ℕ) (at : ℕ) → parsedAt s at .«high_bit» ≡ 
 unfolding parsedAt
 parsed-mark s at = mark-last (groupAt s at) ∙ ap markSet (getD-part 7 at s 6 0 (omega arith))
 
--- the four tests, in their order
+-- the three tests, in their order
 pub direct-is : (s : List ℕ) (n : ℕ)
     → direct s n
-    ≡ (nonzero (getD s 0 0)
-    && (bit 0 (getD s (13 + 7 * n) 0)
-    && (marked (commandOf (markSet (getD s 6 0)) (markSet (getD s 13 0))) && lean (drop (14 + 7 * n) s))))
+    ≡ (bit 0 (getD s (13 + 7 * n) 0)
+    && (marked (commandOf (markSet (getD s 6 0)) (markSet (getD s 13 0))) && lean (drop (14 + 7 * n) s)))
 unfolding direct
 direct-is s n = rw (parsed-mark s 0, parsed-mark s 7) refl

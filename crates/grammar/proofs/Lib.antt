@@ -9,3 +9,4 @@ pub mod Marks
 pub mod Parts
 pub mod Stations
 pub mod Unseen
+pub mod Moved

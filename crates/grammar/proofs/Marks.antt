@@ -20,8 +20,9 @@ use Rattle.frame.specs.Spell.{repeaterAt, past}
 use Rattle.frame.specs.declared.RouteEntry.{RouteEntry}
 use Rattle.frame.specs.declared.Ax25Frame.{Ax25Frame}
 use Rattle.decode.specs.Answer.{isAccepted}
-use Rattle.decode.specs.Read.{nonzero, startOf, endOf, groupAt, parsedAt, entryAt, placeAt, routeAt, frameAt, acceptedWith, withContent, decodeField, decode, infoIn}
+use Rattle.decode.specs.Read.{startOf, endOf, groupAt, parsedAt, entryAt, placeAt, routeAt, frameAt, acceptedWith, withContent, decodeField, decode, infoIn}
 use Rattle.decode.specs.declared.Decoded.{Decoded}
+use Rattle.decode.proofs.Read.{start-first}
 use Rattle.decode.proofs.Accepts.{Accepts, accepts}
 use Rattle.grammar.specs.Direct.{direct}
 use Rattle.grammar.proofs.Direct.{place-at, route-at, parsed-mark, direct-is}
@@ -34,11 +35,11 @@ parsed-is s at = refl
 -- the groups of an accepted input's repeaters stand in it, before the end
 pub record Route (s : List ℕ) (d : Decoded) : Type 0 where
   pub few : d .frame .«route_count» ≤ 8
-  pub before : startOf s + 14 + 7 * d .frame .«route_count» ≤ endOf s + 1
+  pub before : 14 + 7 * d .frame .«route_count» ≤ endOf s + 1
   pub end-in : endOf s < length s
-  pub read : d .frame .route ≡ routeAt s (startOf s + 14) (d .frame .«route_count»)
+  pub read : d .frame .route ≡ routeAt s 14 (d .frame .«route_count»)
 
-route-made : (s : List ℕ) (a : Accepts s (decode s)) → Route s (acceptedWith (frameAt s (startOf s) (a .count) (a .kind)) (endOf s + 1) (length s))
+route-made : (s : List ℕ) (a : Accepts s (decode s)) → Route s (acceptedWith (frameAt s 0 (a .count) (a .kind)) (endOf s + 1) (length s))
 unfolding acceptedWith frameAt
 route-made s a =
     let counted = a .counted in
@@ -140,7 +141,7 @@ remarked f i m = record {
 
 -- what is read where the mark of one repeater is another, and every other bit the same
 module _ (s : List ℕ) (e : isAccepted (decode s .answer) ≡ true) (i v : ℕ) (h : i < decode s .frame .«route_count»)
-    (low : field 0 7 v ≡ field 0 7 (getD s (startOf s + 14 + 7 * i + 6) 0)) where
+    (low : field 0 7 v ≡ field 0 7 (getD s (14 + 7 * i + 6) 0)) where
   abbrev a : Accepts s (decode s)
   a = accepts s e
 
@@ -152,7 +153,7 @@ module _ (s : List ℕ) (e : isAccepted (decode s .answer) ≡ true) (i v : ℕ)
   inner = rw count-read at h
 
   abbrev p : ℕ
-  p = startOf s + 14 + 7 * i + 6
+  p = 14 + 7 * i + 6
 
   abbrev u : List ℕ
   u = set s p v
@@ -168,11 +169,10 @@ module _ (s : List ℕ) (e : isAccepted (decode s .answer) ≡ true) (i v : ℕ)
       (λ e. let q : k ≡ p = eqb-true k p e in rw (q, getD-set-same s p v 0 (omega (arith, p-in .0, p-in .1)), b) refl)
       (λ e. rw (getD-set-other s p k v 0 (eqb-false k p e)) refl)
 
-  same-start : startOf u ≡ startOf s
+  same-start : startOf u ≡ 0
   same-start =
-      first-is nonzero u 0 (startOf s) (rw length-set (a .start-in))
-      (rw (getD-set-other s p (startOf s) v 0 (λ e. omega (arith, e))) (first-passes nonzero s 0 (a .start-in)))
-      (λ j l. rw (getD-set-other s p j v 0 (λ e. omega (arith, e))) (first-before nonzero s 0 j l))
+      let inside = a .end-in in
+      start-first u (rw (getD-set-other s p 0 v 0 (λ e. omega (arith, e))) (a .first))
 
   same-end : endOf u ≡ endOf s
   same-end =
@@ -183,18 +183,18 @@ module _ (s : List ℕ) (e : isAccepted (decode s .answer) ≡ true) (i v : ℕ)
   same-content : drop (endOf s + 1) u ≡ drop (endOf s + 1) s
   same-content = drop-set-lt (endOf s + 1) s p v (omega (arith, p-in .0))
 
-  frame-marked : frameAt u (startOf s) (a .count) (a .kind) ≡ remarked (frameAt s (startOf s) (a .count) (a .kind)) i (markSet v)
+  frame-marked : frameAt u 0 (a .count) (a .kind) ≡ remarked (frameAt s 0 (a .count) (a .kind)) i (markSet v)
   unfolding frameAt parsedAt
   frame-marked =
-      let fits : startOf s + 14 + 7 * a .count ≤ length s = let counted = a .counted in let long = a .long in omega (arith, a .end-in) in
+      let fits : 14 + 7 * a .count ≤ length s = let counted = a .counted in let long = a .long in omega (arith, a .end-in) in
       rw (
-        group-before s (startOf s) p v (omega arith),
-        group-before s (startOf s + 7) p v (omega arith),
-        route-marked s (startOf s + 14) v (a .count) i inner (a .few) fits low,
+        group-before s 0 p v (omega arith),
+        group-before s 7 p v (omega arith),
+        route-marked s 14 v (a .count) i inner (a .few) fits low,
       )
       refl
 
-  read-marked : decode u ≡ acceptedWith (frameAt u (startOf s) (a .count) (a .kind)) (endOf s + 1) (length s)
+  read-marked : decode u ≡ acceptedWith (frameAt u 0 (a .count) (a .kind)) (endOf s + 1) (length s)
   unfolding decode decodeField withContent
   read-marked =
       let long = a .long in
@@ -202,9 +202,9 @@ module _ (s : List ℕ) (e : isAccepted (decode s .answer) ≡ true) (i v : ℕ)
       let rest = length-drop (endOf s + 1) s in
       rw (same-start, same-end, same-content, length-set, a .counted)
       (simp (
-        ne-eqb (startOf s) (length s) (λ e. omega (arith, e, a .start-in)),
+        ne-eqb 0 (length s) (λ e. omega (arith, e, a .end-in)),
         ne-eqb (endOf s) (length s) (λ e. omega (arith, e, a .end-in)),
-        le-ltb (endOf s + 1 - startOf s) 14 long,
+        le-ltb (endOf s + 1 - 0) 14 (omega arith),
         ne-eqb (endOf s + 1) (length s) (λ e. omega (arith, e)),
         le-ltb 8 (a .count) (a .few),
         a .read,
@@ -226,17 +226,12 @@ module _ (s : List ℕ) (e : isAccepted (decode s .answer) ≡ true) (i v : ℕ)
       rw count-read
       (direct-is u (a .count)
       ∙ rw (
-        getD-set-other s p 0 v 0 (λ e. omega (arith, e)),
         getD-set-other s p 6 v 0 (λ e. omega (arith, e)),
         getD-set-other s p 13 v 0 (λ e. omega (arith, e)),
         same-low (13 + 7 * a .count),
+        drop-set-lt (14 + 7 * a .count) s p v (omega (arith, inner)),
       )
-      (by (nonzero (getD s 0 0))
-      (λ e.
-      let start : startOf s ≡ 0 = first-is nonzero s 0 0 (omega (arith, a .start-in)) e (λ j l. absurd (omega arith)) in
-      let tail : drop (14 + 7 * a .count) u ≡ drop (14 + 7 * a .count) s = drop-set-lt (14 + 7 * a .count) s p v (omega (arith, inner)) in
-      rw tail (sym (direct-is s (a .count))))
-      (λ e. rw e (sym (direct-is s (a .count) ∙ rw e refl)))))
+      (sym (direct-is s (a .count))))
 
   -- the same info octets
   pub info-marked : infoIn u (decode s) ≡ infoIn s (decode s)

@@ -1,8 +1,9 @@
 -- Decoding gives each number, with its details, exactly when its row of the table holds.
-use Prim.Native.Nat.{ℕ, _+_, _<_}
+use Prim.Native.Nat.{ℕ, _+_, _-_, _<_}
 use mathlib.Core.Path.{_≡_, refl, ap, sym, _∙_}
 use mathlib.Core.List.{List}
 use mathlib.Core.Bool.{cond, not}
+use native.Mathlib.Nat.{sub-zero}
 use native.Mathlib.Omega.{arith}
 use borrow.Author.Tests.{eqb-false}
 use lib.Dec.{eqb, ltb}
@@ -22,8 +23,9 @@ use Rattle.frame.specs.Spell.{spell}
 use Rattle.frame.specs.Write.{frameEncodable, writeAnswer}
 use Rattle.frame.specs.declared.Ax25Frame.{Ax25Frame}
 use Rattle.decode.specs.Read.{nonzero, startOf, endOf, refusedWith, acceptedWith, withContent, decodeField, decode}
-use Rattle.decode.specs.Numbers.{noStart, noEnd, shortField, noContent, manyRepeaters, reported}
+use Rattle.decode.specs.Numbers.{noStart, leadingNull, noEnd, shortField, noContent, manyRepeaters, reported}
 use Rattle.decode.specs.declared.Decoded.{Decoded}
+use Rattle.decode.proofs.Read.{start-past}
 
 -- the content's answer by its number
 content-report : (s : List ℕ) (start n control : ℕ) (a : ContentAnswer)
@@ -42,30 +44,35 @@ decode-report s =
     let P : Decoded → Type 0 = λ d. reportOf (d .answer) ≡ reported s in
     let one : eqb (startOf s) (length s) ≡ noStart s = first-all nonzero s in
     let two : eqb (endOf s) (length s) ≡ noEnd s = first-all (bit 0) s in
+    let three : ltb (endOf s + 1 - 0) 14 ≡ shortField s = ap (λ (n : ℕ). ltb n 14) (sub-zero (endOf s + 1)) in
     either P (eqb (startOf s) (length s)) (λ a. rw (sym one ∙ a) refl)
-    (λ a. either P (eqb (endOf s) (length s)) (λ b. rw (sym one ∙ a, sym two ∙ b) refl)
-    (λ b. either P (shortField s) (λ c. rw (sym one ∙ a, sym two ∙ b, c) refl)
-    (λ c. either P (noContent s) (λ d. rw (sym one ∙ a, sym two ∙ b, c, d) refl)
-    (λ d. either P (manyRepeaters s) (λ e. rw (sym one ∙ a, sym two ∙ b, c, d, e) refl)
-    (λ e. rw (sym one ∙ a, sym two ∙ b, c, d, e) (content-report _ _ _ _ (content.contentOf (drop (endOf s + 1) s)) ∙ ap number (numbers (drop (endOf s + 1) s))))))))
+    (λ a. let ten : ltb 0 (startOf s) ≡ leadingNull s = start-past s (omega (arith, eqb-false (startOf s) (length s) a, first-le nonzero s)) in
+    either P (ltb 0 (startOf s)) (λ z. rw (sym one ∙ a, sym ten ∙ z) refl)
+    (λ z. either P (eqb (endOf s) (length s)) (λ b. rw (sym one ∙ a, sym ten ∙ z, sym two ∙ b) refl)
+    (λ b. either P (ltb (endOf s + 1 - 0) 14) (λ c. rw (sym one ∙ a, sym ten ∙ z, sym two ∙ b, sym three ∙ c) refl)
+    (λ c. either P (noContent s) (λ d. rw (sym one ∙ a, sym ten ∙ z, sym two ∙ b, sym three ∙ c, d) refl)
+    (λ d. either P (manyRepeaters s) (λ e. rw (sym one ∙ a, sym ten ∙ z, sym two ∙ b, sym three ∙ c, d, e) refl)
+    (λ e. rw (sym one ∙ a, sym ten ∙ z, sym two ∙ b, sym three ∙ c, d, e)
+    (content-report _ _ _ _ (content.contentOf (drop (endOf s + 1) s)) ∙ ap number (numbers (drop (endOf s + 1) s)))))))))
 
 -- the numbers alone, row by row: 4 comes from the frame, never from its content
 pub decode-rows : (s : List ℕ)
     → numberOf (decode s .answer)
-    ≡ cond (noStart s) 1 (cond (noEnd s) 2 (cond (shortField s) 3 (cond (noContent s) 4 (cond (manyRepeaters s) 9
+    ≡ cond (noStart s) 1 (cond (leadingNull s) 10 (cond (noEnd s) 2 (cond (shortField s) 3 (cond (noContent s) 4 (cond (manyRepeaters s) 9
     (cond (lacksPid (drop (endOf s + 1) s)) 5 (cond (strangeS (drop (endOf s + 1) s)) 6
-    (cond (strangeU (drop (endOf s + 1) s)) 7 (cond (wrongFrmr (drop (endOf s + 1) s)) 8 0))))))))
+    (cond (strangeU (drop (endOf s + 1) s)) 7 (cond (wrongFrmr (drop (endOf s + 1) s)) 8 0)))))))))
 unfolding reported
 decode-rows s =
     let c : List ℕ = drop (endOf s + 1) s in
     ap (λ (r : Report). r .number) (decode-report s)
     ∙ by (noStart s) (λ a. simp a)
-    (λ a. by (noEnd s) (λ b. simp (a, b))
-    (λ b. by (noContent s) (λ d. simp (a, b, d) (by (shortField s) (λ q. simp q) (λ q. simp q)))
+    (λ a. by (leadingNull s) (λ z. simp (a, z))
+    (λ z. by (noEnd s) (λ b. simp (a, z, b))
+    (λ b. by (noContent s) (λ d. simp (a, z, b, d) (by (shortField s) (λ q. simp q) (λ q. simp q)))
     (λ d. let in-it : (endOf s ≡ length s → ⊥) = eqb-false (endOf s) (length s) (first-all (bit 0) s ∙ b) in
     let past : (endOf s + 1 ≡ length s → ⊥) = eqb-false (endOf s + 1) (length s) d in
     let some : 0 < length c = rw length-drop (omega (arith, first-le (bit 0) s)) in
-    simp (a, b, d, rows-some c some) (by (shortField s) (λ q. simp q) (λ q. simp q (by (manyRepeaters s) (λ r. simp r) (λ r. simp r)))))))
+    simp (a, z, b, d, rows-some c some) (by (shortField s) (λ q. simp q) (λ q. simp q (by (manyRepeaters s) (λ r. simp r) (λ r. simp r))))))))
 
 pub write-rows : (f : Ax25Frame) (info : List ℕ) (room : ℕ)
     → writeNumber (writeAnswer f info room)

@@ -15,16 +15,16 @@ use Rattle.parse.specs.Content.{contentOf}
 use Rattle.parse.specs.declared.ContentAnswer.the-variants.{Accepted}
 use Rattle.lean.proofs.Laws.{content-plain, content-fits, front-two}
 use Rattle.decode.specs.Answer.{isAccepted}
-use Rattle.decode.specs.Read.{startOf, endOf, groupAt, parsedAt, commandOf, frameAt, acceptedWith, decode, infoIn}
+use Rattle.decode.specs.Read.{endOf, groupAt, parsedAt, commandOf, frameAt, acceptedWith, decode, infoIn}
 use Rattle.decode.specs.declared.Decoded.{Decoded}
 use Rattle.decode.proofs.Accepts.{Accepts, accepts}
 use Rattle.grammar.specs.Kept.{keptOf}
 use Rattle.grammar.proofs.Direct.{parsed-mark}
 
 pub record Parts (s : List ℕ) (d : Decoded) : Type 0 where
-  pub destination : d .frame .destination ≡ addressOf (groupAt s (startOf s))
-  pub source : d .frame .source ≡ addressOf (groupAt s (startOf s + 7))
-  pub mark : d .frame .«command_or_response» ≡ commandOf (markSet (getD s (startOf s + 6) 0)) (markSet (getD s (startOf s + 13) 0))
+  pub destination : d .frame .destination ≡ addressOf (groupAt s 0)
+  pub source : d .frame .source ≡ addressOf (groupAt s 7)
+  pub mark : d .frame .«command_or_response» ≡ commandOf (markSet (getD s 6 0)) (markSet (getD s 13 0))
   pub content : contentOf (drop (endOf s + 1) s) ≡ Accepted (d .frame .content)
   -- of the content this many octets, which stand in the input: those before the info, then the info
   pub kept : endOf s + 1 + keptOf (d .frame .content) (length s - (endOf s + 1)) ≤ length s
@@ -37,7 +37,7 @@ module _ (s : List ℕ) (o : Octets s) (a : Accepts s (decode s)) where
   k = a .kind
 
   abbrev d : Decoded
-  d = acceptedWith (frameAt s (startOf s) (a .count) k) (endOf s + 1) (length s)
+  d = acceptedWith (frameAt s 0 (a .count) k) (endOf s + 1) (length s)
 
   two : hasInfo k ≡ true → length (front k) ≡ 2
   two = front-two k (content-plain _ (octets-drop s (endOf s + 1) o) k (a .read))
@@ -45,11 +45,9 @@ module _ (s : List ℕ) (o : Octets s) (a : Accepts s (decode s)) where
   room : length (drop (endOf s + 1) s) ≡ length s - (endOf s + 1)
   room = length-drop (endOf s + 1) s
 
-  marks : commandOf (parsedAt s (startOf s) .«high_bit») (parsedAt s (startOf s + 7) .«high_bit»)
-      ≡ commandOf (markSet (getD s (startOf s + 6) 0)) (markSet (getD s (startOf s + 13) 0))
-  marks =
-      let z : startOf s + 7 + 6 ≡ startOf s + 13 = omega arith in
-      rw (parsed-mark s (startOf s), parsed-mark s (startOf s + 7), z) refl
+  marks : commandOf (parsedAt s 0 .«high_bit») (parsedAt s 7 .«high_bit»)
+      ≡ commandOf (markSet (getD s 6 0)) (markSet (getD s 13 0))
+  marks = rw (parsed-mark s 0, parsed-mark s 7) refl
 
   made : Parts s d
   unfolding acceptedWith frameAt parsedAt

@@ -1,9 +1,8 @@
 -- What decoding accepts is plain once the mark is there, and spells no more octets than were read.
-use Prim.Native.Nat.{ℕ, zero, suc, _+_, _-_, _*_, _/_, _≤_, _<_}
+use Prim.Native.Nat.{ℕ, zero, suc, _+_, _-_, _*_, _≤_, _<_}
 use mathlib.Core.Path.{_≡_, refl, sym, subst, _∙_}
 use mathlib.Core.Bool.{true, cond}
 use mathlib.Core.List.{List}
-use native.Mathlib.Nat.{add-zero}
 use native.Mathlib.Omega.{arith}
 use borrow.Author.Tests.{not-true, eqb-false}
 use lib.Dec.{eqb, ltb}
@@ -12,7 +11,7 @@ use lib.Seq.{length-take-le}
 use Rattle.octets.specs.Octet.{Octets, bit}
 use Rattle.octets.proofs.Choice.{by}
 use Rattle.octets.proofs.Octet.{octets-drop, octets-take}
-use Rattle.octets.proofs.First.{first-passes, first-before}
+use Rattle.octets.proofs.First.{first-before}
 use Rattle.octets.proofs.Place.{getD-part}
 use Rattle.address.specs.Address.{PlainAddress}
 use Rattle.address.proofs.Laws.{read-plain, no-call-plain, group-character}
@@ -22,7 +21,7 @@ use Rattle.lean.proofs.Laws.{content-plain, content-fits, content-some, front-t
 use Rattle.parse.proofs.Read.{content-room}
 use Rattle.frame.specs.Frame.{noEntry}
 use Rattle.decode.specs.Answer.{isAccepted}
-use Rattle.decode.specs.Read.{nonzero, startOf, endOf, groupAt, parsedAt, entryAt, placeAt, routeAt, frameAt, acceptedWith, decode, infoIn}
+use Rattle.decode.specs.Read.{nonzero, endOf, groupAt, parsedAt, entryAt, placeAt, routeAt, repeatersOf, frameAt, acceptedWith, decode, infoIn}
 use Rattle.frame.specs.Spell.{repeaterAt, marked, madeCommand, withMark, spell, Plain, placeInUse, routeInUse, inUse}
 use Rattle.frame.proofs.Write.{spell-length}
 use Rattle.frame.specs.declared.Mark.{Mark}
@@ -75,32 +74,31 @@ pub record Read (s : List ℕ) (d : Decoded) : Type 0 where
   pub fits : length (spell (withMark (d .frame)) (infoIn s d)) ≤ length s
   pub kept : inUse (d .frame) ≡ d .frame
 
-module _ (s : List ℕ) (o : Octets s) (n : ℕ) (start-in : startOf s < length s) (end-in : endOf s < length s)
-    (long : 14 ≤ endOf s + 1 - startOf s) (count : (endOf s + 1 - startOf s - 14) / 7 ≡ n) (few : n ≤ 8) where
+module _ (s : List ℕ) (o : Octets s) (n : ℕ) (first : nonzero (getD s 0 0) ≡ true) (end-in : endOf s < length s)
+    (long : 14 ≤ endOf s + 1) (count : repeatersOf 0 (endOf s) ≡ n) (few : n ≤ 8) where
   -- the first octet is even and not 0
-  first-character : 0 < getD (parsedAt s (startOf s) .address .callsign) 0 0
+  first-character : 0 < getD (parsedAt s 0 .address .callsign) 0 0
   unfolding parsedAt
   first-character =
-      let g : List ℕ = groupAt s (startOf s) in
-      let b : ℕ = getD s (startOf s) 0 in
-      let at : getD g 0 0 ≡ b = getD-part 7 (startOf s) s 0 0 (omega arith) ∙ rw add-zero refl in
-      let some : 0 < b = omega (arith, eqb-false b 0 (not-true (eqb b 0) (first-passes nonzero s 0 start-in))) in
-      group-character g (octets-take (drop (startOf s) s) 7 (octets-drop s (startOf s) o))
-      (rw at (first-before (bit 0) s 0 (startOf s) (omega arith))) (rw at some)
+      let g : List ℕ = groupAt s 0 in
+      let b : ℕ = getD s 0 0 in
+      let at : getD g 0 0 ≡ b = getD-part 7 0 s 0 0 (omega arith) in
+      let some : 0 < b = omega (arith, eqb-false b 0 (not-true (eqb b 0) first)) in
+      group-character g (octets-take s 7 o) (rw at (first-before (bit 0) s 0 0 (omega arith))) (rw at some)
 
   module _ (k : FrameContent) (h : PlainContent k) (l : length (front k) ≤ length (drop (endOf s + 1) s)) where
     abbrev d : Decoded
-    d = acceptedWith (frameAt s (startOf s) n k) (endOf s + 1) (length s)
+    d = acceptedWith (frameAt s 0 n k) (endOf s + 1) (length s)
 
     d-plain : Plain (withMark (d .frame)) (infoIn s d)
     unfolding acceptedWith frameAt withMark
     d-plain = record {
       mark = made-marked (d .frame .«command_or_response»);
       content = h;
-      destination = parsed-plain s (startOf s) o;
-      source = parsed-plain s (startOf s + 7) o;
-      repeaters = λ i m. places-plain s (startOf s + 14) n o i (omega arith);
-      eight = route-eight s (startOf s + 14) n;
+      destination = parsed-plain s 0 o;
+      source = parsed-plain s 7 o;
+      repeaters = λ i m. places-plain s 14 n o i (omega arith);
+      eight = route-eight s 14 n;
       count = few;
       starts = first-character;
       bare = λ e. simp e;
@@ -129,7 +127,7 @@ pub read : (s : List ℕ) → Octets s → isAccepted (decode s .answer) ≡ tru
 read s o e =
     let a = accepts s e in
     let after : List ℕ = drop (endOf s + 1) s in
-    let at = made s o (a .count) (a .start-in) (a .end-in) (a .long) (a .counted) (a .few) (a .kind)
+    let at = made s o (a .count) (a .first) (a .end-in) (a .long) (a .counted) (a .few) (a .kind)
     (content-plain after (octets-drop s (endOf s + 1) o) (a .kind) (a .read)) (content-fits after (a .kind) (a .read)) in
     subst (λ (d : Decoded). Read s d) (sym (a .made)) at
 
@@ -139,7 +137,7 @@ pub record Inside (s : List ℕ) (d : Decoded) : Type 0 where
   pub groups : 14 + 7 * d .frame .«route_count» < length s
   pub info : d .«info_start» + d .«info_len» ≤ length s
 
-inside-made : (s : List ℕ) (a : Accepts s (decode s)) → Inside s (acceptedWith (frameAt s (startOf s) (a .count) (a .kind)) (endOf s + 1) (length s))
+inside-made : (s : List ℕ) (a : Accepts s (decode s)) → Inside s (acceptedWith (frameAt s 0 (a .count) (a .kind)) (endOf s + 1) (length s))
 unfolding acceptedWith frameAt
 inside-made s a =
     let some : 0 < length (drop (endOf s + 1) s) = content-some _ _ (a .read) in

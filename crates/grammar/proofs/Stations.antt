@@ -10,14 +10,14 @@ use Rattle.octets.proofs.Place.{getD-part}
 use Rattle.address.proofs.Laws.{reserved-last}
 use Rattle.address.specs.declared.Address.{Address}
 use Rattle.decode.specs.Answer.{isAccepted}
-use Rattle.decode.specs.Read.{startOf, endOf, groupAt, parsedAt, frameAt, acceptedWith, decode, infoIn}
+use Rattle.decode.specs.Read.{endOf, groupAt, parsedAt, frameAt, acceptedWith, decode, infoIn}
 use Rattle.decode.specs.declared.Decoded.{Decoded}
 use Rattle.decode.proofs.Accepts.{Accepts, accepts}
 use Rattle.frame.specs.Spell.{spell, Plain, withMark, inUse}
 use Rattle.frame.specs.declared.RouteEntry.{RouteEntry}
 use Rattle.frame.specs.declared.Ax25Frame.{Ax25Frame}
 use Rattle.grammar.specs.Stations.{stationAt, reservedAt, Reserves}
-use Rattle.grammar.proofs.Back.{spelled-start, frame-spell}
+use Rattle.grammar.proofs.Back.{frame-spell}
 use Rattle.grammar.proofs.Marks.{place-read}
 use Rattle.grammar.proofs.Plain.{read}
 use Rattle.grammar.proofs.Respell.{mark-spell, use-at, accepted-spell}
@@ -29,23 +29,23 @@ at-group s at = reserved-last (groupAt s at) ∙ ap (field 5 2) (getD-part 7 at 
 
 module _ (s : List ℕ) (a : Accepts s (decode s)) where
   abbrev d : Decoded
-  d = acceptedWith (frameAt s (startOf s) (a .count) (a .kind)) (endOf s + 1) (length s)
+  d = acceptedWith (frameAt s 0 (a .count) (a .kind)) (endOf s + 1) (length s)
 
-  station-made : (j : ℕ) → j < a .count + 2 → stationAt (d .frame) j ≡ parsedAt s (startOf s + 7 * j) .address
+  station-made : (j : ℕ) → j < a .count + 2 → stationAt (d .frame) j ≡ parsedAt s (7 * j) .address
   unfolding acceptedWith frameAt
-  station-made zero h = let z : startOf s + 7 * 0 ≡ startOf s = omega arith in rw z refl
+  station-made zero h = refl
   station-made (suc zero) h = refl
   station-made (suc (suc i)) h =
-      let at : startOf s + 7 * suc (suc i) ≡ startOf s + 14 + 7 * i = omega arith in
-      rw at (place-read s (startOf s + 14) (a .count) i (omega arith) (a .few) .0)
+      let at : 7 * suc (suc i) ≡ 14 + 7 * i = omega arith in
+      rw at (place-read s 14 (a .count) i (omega arith) (a .few) .0)
 
-  reserved-made : Reserves s (startOf s) (d .frame)
+  reserved-made : Reserves s (d .frame)
   unfolding acceptedWith frameAt
-  reserved-made j h = sym (ap (λ (x : Address). x .reserved) (station-made j h) ∙ at-group s (startOf s + 7 * j))
+  reserved-made j h = sym (ap (λ (x : Address). x .reserved) (station-made j h) ∙ at-group s (7 * j))
 
 -- those of an accepted input are the frame's
-pub reserved-read : (s : List ℕ) → isAccepted (decode s .answer) ≡ true → Reserves s (startOf s) (decode s .frame)
-reserved-read s e = let a = accepts s e in subst (λ (d : Decoded). Reserves s (startOf s) (d .frame)) (sym (a .made)) (reserved-made s a)
+pub reserved-read : (s : List ℕ) → isAccepted (decode s .answer) ≡ true → Reserves s (decode s .frame)
+reserved-read s e = let a = accepts s e in subst (λ (d : Decoded). Reserves s (d .frame)) (sym (a .made)) (reserved-made s a)
 
 use-station : (f : Ax25Frame) (j : ℕ) → j < f .«route_count» + 2 → f .«route_count» ≤ 8 → stationAt (inUse f) j ≡ stationAt f j
 unfolding inUse
@@ -54,11 +54,11 @@ use-station f (suc zero) h l = refl
 use-station f (suc (suc i)) h l = ap (λ (x : RouteEntry). x .repeater) (use-at (f .route) (f .«route_count») i (omega arith) l)
 
 -- those of a plain frame are in what it spells
-pub reserved-spelled : (f : Ax25Frame) (i : List ℕ) → Plain f i → Reserves (spell f i) 0 f
+pub reserved-spelled : (f : Ax25Frame) (i : List ℕ) → Plain f i → Reserves (spell f i) f
 unfolding inUse
 reserved-spelled f i p j h =
     let r = reserved-read (spell f i) (accepted-spell f i p) in
-    (rw (spelled-start f i p, frame-spell f i p) at r) j h ∙ ap (λ (x : Address). x .reserved) (use-station f j h (p .count))
+    (rw (frame-spell f i p) at r) j h ∙ ap (λ (x : Address). x .reserved) (use-station f j h (p .count))
 
 mark-station : (f : Ax25Frame) (j : ℕ) → stationAt (withMark f) j ≡ stationAt f j
 unfolding withMark
@@ -68,7 +68,7 @@ mark-station f (suc (suc i)) = refl
 
 -- so what is read and spelled again has those that it had
 pub reserved-again : (s : List ℕ) → Octets s → isAccepted (decode s .answer) ≡ true
-    → (j : ℕ) → j < decode s .frame .«route_count» + 2 → reservedAt (spell (decode s .frame) (infoIn s (decode s))) 0 j ≡ reservedAt s (startOf s) j
+    → (j : ℕ) → j < decode s .frame .«route_count» + 2 → reservedAt (spell (decode s .frame) (infoIn s (decode s))) j ≡ reservedAt s j
 unfolding withMark
 reserved-again s o e j h =
     let f : Ax25Frame = decode s .frame in

@@ -26,7 +26,8 @@ use Rattle.frame.specs.Spell.{spell, marked}
 use Rattle.frame.specs.declared.Ax25Frame.{Ax25Frame}
 use Rattle.frame.proofs.Write.{spell-length}
 use Rattle.decode.specs.Answer.{isAccepted}
-use Rattle.decode.specs.Read.{nonzero, startOf, endOf, groupAt, parsedAt, entryAt, placeAt, routeAt, frameAt, acceptedWith, withContent, decodeField, decode, infoIn}
+use Rattle.decode.specs.Read.{startOf, endOf, groupAt, parsedAt, entryAt, placeAt, routeAt, frameAt, acceptedWith, withContent, decodeField, decode, infoIn}
+use Rattle.decode.proofs.Read.{start-first}
 use Rattle.decode.proofs.Accepts.{Accepts, accepts}
 use Rattle.grammar.proofs.Direct.{spell-again, info-tail, made-frame}
 
@@ -52,8 +53,8 @@ module _ (s : List ℕ) (o : Octets s) (a : Accepts s (decode s))
       omega (arith, w, length-append (front k) (infoOf k c)))
       (λ e. rw e (omega (arith, content-fits c k (a .read))))
 
-  -- nothing stands before the address field, left over in it, or after the content
-  exact : (startOf s ≡ 0) × (endOf s ≡ 13 + 7 * n) × (length (front k ++ infoOf k c) ≡ length c)
+  -- nothing is left over in the address field or stands after the content
+  exact : (endOf s ≡ 13 + 7 * n) × (length (front k ++ infoOf k c) ≡ length c)
   unfolding frameAt
   exact =
       let long = a .long in
@@ -63,14 +64,14 @@ module _ (s : List ℕ) (o : Octets s) (a : Accepts s (decode s))
       let join = length-append (front k) (infoOf k c) in
       let w : 14 + 7 * n + length (front k) + length (infoOf k c) ≡ length s =
       sym (rw (made-frame s o a, info-tail s o a) at (spell-length (decode s .frame) (infoIn s (decode s)))) ∙ rw (made-frame s o a, info-tail s o a) at l in
-      (omega (arith, again-room), omega (arith, again-room), omega (arith, again-room))
+      (omega (arith, again-room), omega (arith, again-room))
 
   -- its frame spells the address field as it stands, and the content written again
   spelled : again ≡ take (14 + 7 * n) s ++ spellContent k (infoOf k c)
   spelled =
       let x = exact in
       rw (made-frame s o a, info-tail s o a)
-      (spell-again s o n (x .1) (a .end-in) (a .few) k (infoOf k c) (x .0) (rw (made-frame s o a) at m))
+      (spell-again s o n (x .0) (a .end-in) (a .few) k (infoOf k c) (rw (made-frame s o a) at m))
 
   field-long : length (take (14 + 7 * n) s) ≡ 14 + 7 * n
   field-long = let x = exact in let inside = a .end-in in length-take-le (14 + 7 * n) s (omega arith)
@@ -89,7 +90,7 @@ module _ (s : List ℕ) (o : Octets s) (a : Accepts s (decode s))
       rw spelled
       (ap (λ (y : ℕ). getD (take (14 + 7 * n) s ++ spellContent k (infoOf k c)) (y + i) 0) (sym field-long)
       ∙ getD-append-add (take (14 + 7 * n) s) (spellContent k (infoOf k c)) i 0) in
-      rw there (content-bits c (octets-drop s (endOf s + 1) o) k (a .read) (x .2) i j h u
+      rw there (content-bits c (octets-drop s (endOf s + 1) o) k (a .read) (x .1) i j h u
       ∙ ap (bit j) (getD-drop (endOf s + 1) s i 0 ∙ ap (λ (y : ℕ). getD s (y + i) 0) (sym at)))
 
 -- the same said of the decoded frame
@@ -111,10 +112,8 @@ module _ (s t : List ℕ) (a : Accepts s (decode s)) (l : length t ≡ length s)
     (c : contentOf (drop (endOf s + 1) t) ≡ Accepted (a .kind)) where
   same-start : startOf t ≡ startOf s
   same-start =
-      let inside : startOf s < endOf s + 1 = let long = a .long in omega arith in
-      first-is nonzero t 0 (startOf s) (rw l (a .start-in))
-      (rw (field (startOf s) inside) (first-passes nonzero s 0 (a .start-in)))
-      (λ p h. rw (field p (omega arith)) (first-before nonzero s 0 p h))
+      let inside = a .end-in in
+      start-first t (rw (field 0 (omega arith)) (a .first)) ∙ sym (a .start)
 
   same-end : endOf t ≡ endOf s
   same-end =
@@ -131,21 +130,21 @@ module _ (s t : List ℕ) (a : Accepts s (decode s)) (l : length t ≡ length s)
       (λ p b. let p7 : p < 7 = rw x at b in
       getD-part 7 at t p 0 p7 ∙ field (at + p) (omega arith) ∙ sym (getD-part 7 at s p 0 p7))
 
-  same-place : (i : ℕ) → placeAt t (startOf s + 14) (a .count) i ≡ placeAt s (startOf s + 14) (a .count) i
+  same-place : (i : ℕ) → placeAt t 14 (a .count) i ≡ placeAt s 14 (a .count) i
   unfolding placeAt entryAt parsedAt
   same-place i =
       by (ltb i (a .count))
       (λ e. let long = a .long in
       let counted = a .counted in
       let inner = ltb-true i (a .count) e in
-      rw (e, same-group (startOf s + 14 + 7 * i) (omega arith)) refl)
+      rw (e, same-group (14 + 7 * i) (omega arith)) refl)
       (λ e. rw e refl)
 
-  same-frame : frameAt t (startOf s) (a .count) (a .kind) ≡ frameAt s (startOf s) (a .count) (a .kind)
+  same-frame : frameAt t 0 (a .count) (a .kind) ≡ frameAt s 0 (a .count) (a .kind)
   unfolding frameAt parsedAt routeAt
   same-frame =
       let long = a .long in
-      simp (same-group (startOf s) (omega arith), same-group (startOf s + 7) (omega arith), same-place)
+      simp (same-group 0 (omega arith), same-group 7 (omega arith), same-place)
 
   same-decode : decode t ≡ decode s
   unfolding decode decodeField withContent

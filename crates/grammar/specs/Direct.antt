@@ -5,14 +5,13 @@ use mathlib.Core.List.{List}
 use lib.ListN.{getD, drop}
 use Rattle.octets.specs.Octet.{bit}
 use Rattle.lean.specs.Lean.{lean}
-use Rattle.decode.specs.Read.{nonzero, parsedAt, commandOf}
+use Rattle.decode.specs.Read.{parsedAt, commandOf}
 use Rattle.frame.specs.Spell.{marked}
 
--- of an input that decodes with n repeaters: no leading null; the address field ends with its last whole group; the marks of
--- destination and source differ; content just as writing gives it. Callsigns, SSIDs and reserved bits may be any
+-- of an input that decodes with n repeaters: the address field ends with its last whole group; the marks of destination and source
+-- differ; content just as writing gives it. Callsigns, SSIDs and reserved bits may be any
 unfoldable pub direct : List ℕ → ℕ → Bool
 direct s n =
-    nonzero (getD s 0 0)
-    && (bit 0 (getD s (13 + 7 * n) 0)
+    bit 0 (getD s (13 + 7 * n) 0)
     && (marked (commandOf (parsedAt s 0 .«high_bit») (parsedAt s 7 .«high_bit»))
-    && lean (drop (14 + 7 * n) s)))
+    && lean (drop (14 + 7 * n) s))

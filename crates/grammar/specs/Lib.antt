@@ -1,3 +1,4 @@
 pub mod Direct
 pub mod Kept
 pub mod Stations
+pub mod Moved

@@ -14,10 +14,10 @@ stationAt f zero = f .destination
 stationAt f (suc zero) = f .source
 stationAt f (suc (suc i)) = repeaterAt (f .route) i .repeater
 
--- bits 6 and 5 of the seventh octet of group j, as a number, where the address field starts at `at`
-abbrev pub reservedAt : List ℕ → ℕ → ℕ → ℕ
-reservedAt s at j = field 5 2 (getD s (at + 7 * j + 6) 0)
+-- bits 6 and 5 of the seventh octet of group j, as a number
+abbrev pub reservedAt : List ℕ → ℕ → ℕ
+reservedAt s j = field 5 2 (getD s (7 * j + 6) 0)
 
--- the groups that stand there have the reserved bits of the frame's stations
-abbrev pub Reserves : List ℕ → ℕ → Ax25Frame → Type 0
-Reserves s at f = (j : ℕ) → j < f .«route_count» + 2 → reservedAt s at j ≡ stationAt f j .reserved
+-- the groups of s have the reserved bits of the frame's stations
+abbrev pub Reserves : List ℕ → Ax25Frame → Type 0
+Reserves s f = (j : ℕ) → j < f .«route_count» + 2 → reservedAt s j ≡ stationAt f j .reserved

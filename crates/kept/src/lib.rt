@@ -12,7 +12,7 @@ ghost use lib.ListN.{length};
 ghost use Rattle.content.specs.declared.FrameContent.the-variants.{UnknownContent};
 ghost use Rattle.decode.specs.Answer.{numberOf, reportOf, isAccepted};
 ghost use Rattle.decode.specs.Numbers.{reported};
-ghost use Rattle.decode.specs.Read.{startOf, decode};
+ghost use Rattle.decode.specs.Read.{decode};
 ghost use Rattle.frame.specs.Frame.{writeNumber, defaultFrame};
 ghost use Rattle.frame.specs.Spell.{spell};
 ghost use Rattle.grammar.specs.Stations.{Reserves};
@@ -39,7 +39,7 @@ pub fn decoded(bytes: &[u8]) -> Decoded
     ensures { λ r. ⌜ reportOf (r .answer) ≡ reported (now (bytes .entry)) ⌝ }
     ensures { λ r. ⌜ (isAccepted (r .answer) ≡ false → (r .frame ≡ defaultFrame) × (r .«info_start» ≡ 0) × (r .«info_len» ≡ 0)) ⌝ }
     ensures { λ r. ⌜ (r .frame .content ≡ UnknownContent → ⊥) ⌝ }
-    ensures { λ r. ⌜ (isAccepted (r .answer) ≡ true → Reserves (now (bytes .entry)) (startOf (now (bytes .entry))) (r .frame)) ⌝ }
+    ensures { λ r. ⌜ (isAccepted (r .answer) ≡ true → Reserves (now (bytes .entry)) (r .frame)) ⌝ }
     ensures { λ r. ⌜ r ≡ decode (now (bytes .entry)) ⌝ }
 {
     reading::from_bytes(bytes)

@@ -8,6 +8,7 @@ ghost use lib.ListN.{length as listLength};
 ghost use Rattle.octets.specs.Splice.{splice};
 ghost use Rattle.decode.specs.Answer.{reportOf};
 ghost use Rattle.decode.specs.Read.{decode};
+ghost use Rattle.old.specs.Old.{decodeOld};
 ghost use Rattle.spelling.specs.Canonical.{canonical};
 ghost use Rattle.respelling.specs.Reencode.{due, reencode, reencoded, reportOf as reencodeReport};
 ghost use Rattle.relay.specs.Relay.{relayAnswerAs, relayedAs, reportOf as relayReport};
@@ -23,6 +24,15 @@ pub extern "C" fn ax25_decode(input: &[u8]) -> u32
 {
     let outline = decode::outline_of(input);
     let answer = outline.answer;
+    answer.number()
+}
+
+// The decode number of a capture that was taken while leading nulls were skipped: that of what follows them.
+#[no_mangle]
+pub extern "C" fn ax25_decode_old_capture(input: &[u8]) -> u32
+    ensures { λ r. ⌜ r ≡ reportOf (decodeOld (now (input .entry)) .answer) .number ⌝ }
+{
+    let answer = old::answer_of(input);
     answer.number()
 }
 

@@ -35,10 +35,10 @@ pub data Reads (s : List ℕ) : FrameContent → Type 0 where
   ui-frame : 2 ≤ length s → uKind (getD s 0 0) ≡ ui → Reads s (kind.UnnumberedInformation (uiFieldsOf s))
 
 module _ (s : List ℕ) where
-  -- the case of an answer that accepts
+  -- the case of an answer that accepts, and of the one for nothing
   abbrev Case : ContentAnswer → Type 0
   Case (Accepted k) = Reads s k
-  Case ContentZeroLength = Unit {0}
+  Case ContentZeroLength = length s ≡ 0
   Case MissingPidField = Unit {0}
   Case UnrecognisedSFieldType = Unit {0}
   Case UnrecognisedUFieldType = Unit {0}
@@ -80,13 +80,16 @@ module _ (s : List ℕ) where
   content-case : Case (contentOf s)
   unfolding contentOf
   content-case =
-      either Case (eqb (length s) 0) (λ _. tt)
+      either Case (eqb (length s) 0) (λ z. eqb-true (length s) 0 z)
       (λ z. let some : 0 < length s = omega (arith, eqb-false (length s) 0 z) in
       either Case (eqb (field 0 1 c) 0) (λ e. i-case (eqb-true (field 0 1 c) 0 e))
       (λ _. either Case (eqb (field 0 2 c) 1) (λ _. s-case some) (λ _. u-case some)))
 
   pub accepted : (k : FrameContent) → contentOf s ≡ Accepted k → Reads s k
   accepted k e = subst Case e content-case
+
+  pub zero-length : contentOf s ≡ ContentZeroLength → length s ≡ 0
+  zero-length e = subst Case e content-case
 
 -- accepted content of a kind with info reaches to the place of the info
 pub content-room : (s : List ℕ) (k : FrameContent) → contentOf s ≡ Accepted k → hasInfo k ≡ true → 2 ≤ length s

@@ -1,6 +1,7 @@
 // Calls on flat octets, for the program that runs the Rust beside the port and for nothing else. The crate
 // `flat` has the layout of a flat address, content and frame. A call that is lent too little answers 24 and touches nothing; no other
 // refusal touches lent octets.
+use decode::Decoded;
 use frame::Ax25Frame;
 use parse::ContentAnswer;
 ghost use mathlib.Core.Path.{_≡_};
@@ -12,6 +13,7 @@ ghost use Rattle.printing.specs.Print.{printNumberOf, printed, printedInto};
 ghost use Rattle.decode.specs.Answer.{numberOf};
 ghost use Rattle.frame.specs.Frame.{writeNumber, simpleUi, defaultFrame};
 ghost use Rattle.decode.specs.Read.{decode};
+ghost use Rattle.old.specs.Old.{decodeOld};
 ghost use Rattle.frame.specs.Write.{written, octetsWritten};
 ghost use Rattle.parse.specs.Content.{contentOf};
 ghost use Rattle.parse.specs.Content.{numberOf as contentNumber};
@@ -41,12 +43,11 @@ const ACCEPTED: u32 = 0;
 
 const NO_ROOM: u32 = 24;
 
-// Decodes: the number, the frame, and its places, which a refusal's details are among.
-#[no_mangle]
-pub extern "C" fn probe_decode(input: &[u8], flat: &mut [u8], places: &mut [usize]) -> u32
-    ensures { λ r. ⌜ r ≡ answers (lacks (now (flat .entry)) 102 || lacks (now (places .entry)) 5) (numberOf (decode (now (input .entry)) .answer)) ⌝ }
-    ensures { λ r. ⌜ now (flat .exit) ≡ leavesBy (lacks (now (flat .entry)) 102 || lacks (now (places .entry)) 5) (numberOf (decode (now (input .entry)) .answer)) (now (flat .entry)) (flatOf (decode (now (input .entry)) .frame)) ⌝ }
-    ensures { λ r. ⌜ now (places .exit) ≡ leaves (lacks (now (flat .entry)) 102 || lacks (now (places .entry)) 5) (now (places .entry)) (placesOf (decode (now (input .entry)))) ⌝ }
+// What was decoded: the number, the frame, and its places, which a refusal's details are among.
+fn put_decoded(decoded: Decoded, flat: &mut [u8], places: &mut [usize]) -> u32
+    ensures { λ r. ⌜ r ≡ answers (lacks (now (flat .entry)) 102 || lacks (now (places .entry)) 5) (numberOf (decoded .answer)) ⌝ }
+    ensures { λ r. ⌜ now (flat .exit) ≡ leavesBy (lacks (now (flat .entry)) 102 || lacks (now (places .entry)) 5) (numberOf (decoded .answer)) (now (flat .entry)) (flatOf (decoded .frame)) ⌝ }
+    ensures { λ r. ⌜ now (places .exit) ≡ leaves (lacks (now (flat .entry)) 102 || lacks (now (places .entry)) 5) (now (places .entry)) (placesOf decoded) ⌝ }
 {
     if flat.len() < FRAME {
         return NO_ROOM;
@@ -54,7 +55,6 @@ pub extern "C" fn probe_decode(input: &[u8], flat: &mut [u8], places: &mut [usiz
     if places.len() < PLACES {
         return NO_ROOM;
     }
-    let decoded = reading::from_bytes(input);
     let answer = decoded.answer;
     places::put_places(places, decoded);
     let number = answer.number();
@@ -64,6 +64,26 @@ pub extern "C" fn probe_decode(input: &[u8], flat: &mut [u8], places: &mut [usiz
     let frame = decoded.frame;
     flat::laid::put_frame(flat, frame);
     number
+}
+
+// Decodes.
+#[no_mangle]
+pub extern "C" fn probe_decode(input: &[u8], flat: &mut [u8], places: &mut [usize]) -> u32
+    ensures { λ r. ⌜ r ≡ answers (lacks (now (flat .entry)) 102 || lacks (now (places .entry)) 5) (numberOf (decode (now (input .entry)) .answer)) ⌝ }
+    ensures { λ r. ⌜ now (flat .exit) ≡ leavesBy (lacks (now (flat .entry)) 102 || lacks (now (places .entry)) 5) (numberOf (decode (now (input .entry)) .answer)) (now (flat .entry)) (flatOf (decode (now (input .entry)) .frame)) ⌝ }
+    ensures { λ r. ⌜ now (places .exit) ≡ leaves (lacks (now (flat .entry)) 102 || lacks (now (places .entry)) 5) (now (places .entry)) (placesOf (decode (now (input .entry)))) ⌝ }
+{
+    put_decoded(reading::from_bytes(input), flat, places)
+}
+
+// Decodes an old capture.
+#[no_mangle]
+pub extern "C" fn probe_decode_old(input: &[u8], flat: &mut [u8], places: &mut [usize]) -> u32
+    ensures { λ r. ⌜ r ≡ answers (lacks (now (flat .entry)) 102 || lacks (now (places .entry)) 5) (numberOf (decodeOld (now (input .entry)) .answer)) ⌝ }
+    ensures { λ r. ⌜ now (flat .exit) ≡ leavesBy (lacks (now (flat .entry)) 102 || lacks (now (places .entry)) 5) (numberOf (decodeOld (now (input .entry)) .answer)) (now (flat .entry)) (flatOf (decodeOld (now (input .entry)) .frame)) ⌝ }
+    ensures { λ r. ⌜ now (places .exit) ≡ leaves (lacks (now (flat .entry)) 102 || lacks (now (places .entry)) 5) (now (places .entry)) (placesOf (decodeOld (now (input .entry)))) ⌝ }
+{
+    put_decoded(old::from_bytes(input), flat, places)
 }
 
 // Writes the frame of a flat record: the number, the octets, and their count.

@@ -22,6 +22,7 @@ fn details(answer: DecodeAnswer) -> [usize; 3]
         DecodeAnswer::UnrecognisedUFieldType => [0, 0, 0],
         DecodeAnswer::WrongSizeFrmrInfo => [0, 0, 0],
         DecodeAnswer::TooManyRepeaters => [0, 0, 0],
+        DecodeAnswer::LeadingNullBytes => [0, 0, 0],
     }
 }
 

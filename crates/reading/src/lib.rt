@@ -77,13 +77,13 @@ fn refused(answer: DecodeAnswer) -> Decoded
     }
 }
 
-fn parse_frame(bytes: &[u8], start: usize, count: usize, content: FrameContent) -> Ax25Frame
-    requires { ⌜ (count ≤ 8) × (start + 14 + 7 * count ≤ length (now bytes)) ⌝ }
-    ensures { λ r. ⌜ r ≡ frameAt (now (bytes .entry)) start count content ⌝ }
+fn parse_frame(bytes: &[u8], count: usize, content: FrameContent) -> Ax25Frame
+    requires { ⌜ (count ≤ 8) × (14 + 7 * count ≤ length (now bytes)) ⌝ }
+    ensures { λ r. ⌜ r ≡ frameAt (now (bytes .entry)) 0 count content ⌝ }
 {
-    let to = parse_group(bytes, start);
-    let from = parse_group(bytes, start + 7);
-    let route = parse_route(bytes, start + 14, count);
+    let to = parse_group(bytes, 0);
+    let from = parse_group(bytes, 7);
+    let route = parse_route(bytes, 14, count);
     let command_or_response = command_of(to.high_bit, from.high_bit);
     let source = from.address;
     let destination = to.address;
@@ -132,21 +132,21 @@ fn accepted(frame: Ax25Frame, control: usize, len: usize) -> Decoded
 }
 
 // The content, from the control octet on, and the frame around it.
-fn decode_content(bytes: &[u8], start: usize, count: usize, control: usize) -> Decoded
-    requires { ⌜ (count ≤ 8) × (start + 14 + 7 * count ≤ length (now bytes)) × (control ≤ length (now bytes)) ⌝ }
-    ensures { λ r. ⌜ r ≡ withContent (now (bytes .entry)) start count control (contentOf (drop control (now (bytes .entry)))) ⌝ }
+fn decode_content(bytes: &[u8], count: usize, control: usize) -> Decoded
+    requires { ⌜ (count ≤ 8) × (14 + 7 * count ≤ length (now bytes)) × (control ≤ length (now bytes)) ⌝ }
+    ensures { λ r. ⌜ r ≡ withContent (now (bytes .entry)) 0 count control (contentOf (drop control (now (bytes .entry)))) ⌝ }
 {
     let answer = parse::parse_content(&bytes[control..]);
     let ContentAnswer::Accepted(content) = answer else {
         return refused(decode::refusal(answer.number()));
     };
-    let frame = parse_frame(bytes, start, count, content);
+    let frame = parse_frame(bytes, count, content);
     accepted(frame, control, bytes.len())
 }
 
-// Whether `len` octets hold an address field from `start` to `end` with so many repeaters.
-fn holds(len: usize, start: usize, end: usize, count: usize) -> bool
-    ensures { λ r. ⌜ r ≡ holds len start end count ⌝ }
+// Whether `len` octets hold an address field up to `end` with so many repeaters.
+fn holds(len: usize, end: usize, count: usize) -> bool
+    ensures { λ r. ⌜ r ≡ holds len end count ⌝ }
 {
     if len <= end {
         return false;
@@ -154,10 +154,7 @@ fn holds(len: usize, start: usize, end: usize, count: usize) -> bool
     if count > 8 {
         return false;
     }
-    if end < start {
-        return false;
-    }
-    14 + 7 * count <= end + 1 - start
+    14 + 7 * count <= end + 1
 }
 
 // The frame that an outline tells of. An outline of other octets, which tells of more than these hold, is refused with 4.
@@ -168,10 +165,10 @@ pub fn from_outline(bytes: &[u8], outline: Outline) -> Decoded
     let DecodeAnswer::Accepted = answer else {
         return refused(answer);
     };
-    if !holds(bytes.len(), outline.start, outline.end, outline.route_count) {
+    if !holds(bytes.len(), outline.end, outline.route_count) {
         return refused(DecodeAnswer::FrameTooShort { len: bytes.len() });
     }
-    decode_content(bytes, outline.start, outline.route_count, outline.end + 1)
+    decode_content(bytes, outline.route_count, outline.end + 1)
 }
 
 // Parse raw bytes into an Ax25Frame if possible.

@@ -20,7 +20,7 @@ use Rattle.address.specs.declared.Address.{Address}
 use Rattle.frame.specs.Spell.{repeaterAt}
 use Rattle.frame.specs.declared.Ax25Frame.{Ax25Frame}
 use Rattle.decode.specs.Answer.{isAccepted}
-use Rattle.decode.specs.Read.{startOf, parsedAt, routeAt, decode}
+use Rattle.decode.specs.Read.{parsedAt, routeAt, decode}
 use Rattle.hops.specs.Hops.{markedAt, marks, setOf, hopSet, duePlace, broken}
 use Rattle.hops.proofs.Laws.{marked-in, hop-set-is}
 use Rattle.grammar.proofs.Marks.{route, place-read}
@@ -50,15 +50,15 @@ module _ (s : List ℕ) (e : isAccepted (decode s .answer) ≡ true) where
   abbrev n : ℕ
   n = decode s .frame .«route_count»
 
-  pub groups-inside : (n ≤ 8) × (startOf s + 14 + 7 * n ≤ length s)
+  pub groups-inside : (n ≤ 8) × (14 + 7 * n ≤ length s)
   groups-inside = let r = route s e in (r .few, omega (arith, r .before, r .end-in))
 
-  pub set-read : setOf (marks (routeAt s (startOf s + 14) n) n) ≡ hopSet (decode s .frame)
+  pub set-read : setOf (marks (routeAt s 14 n) n) ≡ hopSet (decode s .frame)
   set-read = rw (← route s e .read) (hop-set-is (decode s .frame))
 
   pub due-read : duePlace (decode s .frame) < n
-      → repeaterAt (decode s .frame .route) (duePlace (decode s .frame)) .repeater ≡ parsedAt s (startOf s + 14 + 7 * duePlace (decode s .frame)) .address
-  due-read h = let r = route s e in rw (r .read) (place-read s (startOf s + 14) n (duePlace (decode s .frame)) h (r .few) .0)
+      → repeaterAt (decode s .frame .route) (duePlace (decode s .frame)) .repeater ≡ parsedAt s (14 + 7 * duePlace (decode s .frame)) .address
+  due-read h = let r = route s e in rw (r .read) (place-read s 14 n (duePlace (decode s .frame)) h (r .few) .0)
 
 -- how the due place answers
 pub due-none : (own : Address) (f : Ax25Frame) → duePlace f ≡ f .«route_count» → dueAnswer own f ≡ RouteUsedUp

@@ -11,7 +11,7 @@ use Rattle.frame.specs.Spell.{repeaterAt}
 use Rattle.frame.specs.declared.Ax25Frame.{Ax25Frame}
 use Rattle.decode.specs.Answer.{Report, number, isAccepted}
 use Rattle.decode.specs.Answer as decoding
-use Rattle.decode.specs.Read.{startOf, decode}
+use Rattle.decode.specs.Read.{decode}
 use Rattle.hops.specs.Hops.{duePlace, broken}
 use Rattle.hops.specs.Station.{sameStation}
 use Rattle.relay.specs.declared.RelayAnswer.{RelayAnswer}
@@ -48,7 +48,7 @@ relayAnswer own s =
 -- where the mark of the due place stands: in the seventh octet of its group, which follows destination, source and the repeaters
 -- before it (document 01, rules 2 and 3)
 abbrev pub dueMark : List ℕ → ℕ
-dueMark s = startOf s + 14 + 7 * duePlace (decode s .frame) + 6
+dueMark s = 14 + 7 * duePlace (decode s .frame) + 6
 
 -- an octet or-ed with 80 hex: bit 7 set, the other bits as they were
 abbrev pub orMark : ℕ → ℕ

@@ -8,7 +8,7 @@ ghost use mathlib.Core.Bool.{true};
 ghost use Prim.Native.Nat.{_+_, _*_, _≤_, _<_};
 ghost use lib.ListN.{length, getD, set};
 ghost use Rattle.decode.specs.Answer.{isAccepted};
-ghost use Rattle.decode.specs.Read.{startOf, parsedAt, routeAt, decode};
+ghost use Rattle.decode.specs.Read.{parsedAt, routeAt, decode};
 ghost use Rattle.hops.specs.Hops.{marks, setOf};
 ghost use Rattle.hops.specs.Station.{sameStation};
 ghost use Rattle.relay.specs.Relay.{reportOf, dueAnswer, relayAnswer, orMark, leftBy, relayed, stationOf, relayAnswerAs, relayedAs};
@@ -78,14 +78,13 @@ fn set_mark(bytes: &mut [u8], last: usize)
     bytes[last] = octet | 0b1000_0000;
 }
 
-// A frame that decodes, with so many repeaters, whose address field starts at `start`.
-fn relay_due(own: Address, bytes: &mut [u8], start: usize, count: usize) -> RelayAnswer
-    requires { ⌜ (isAccepted (decode (now bytes) .answer) ≡ true) × (start ≡ startOf (now bytes)) × (count ≡ decode (now bytes) .frame .«route_count») ⌝ }
+// A frame that decodes, with so many repeaters.
+fn relay_due(own: Address, bytes: &mut [u8], count: usize) -> RelayAnswer
+    requires { ⌜ (isAccepted (decode (now bytes) .answer) ≡ true) × (count ≡ decode (now bytes) .frame .«route_count») ⌝ }
     ensures { λ r. ⌜ r ≡ dueAnswer own (decode (now (bytes .entry)) .frame) ⌝ }
     ensures { λ r. ⌜ now (bytes .exit) ≡ leftBy (dueAnswer own (decode (now (bytes .entry)) .frame)) (now (bytes .entry)) ⌝ }
 {
-    let route = start + 14;
-    let set = hop_set_at(bytes, route, count);
+    let set = hop_set_at(bytes, 14, count);
     let due = hops::first_clear(set) as usize;
     if due == count {
         return RelayAnswer::RouteUsedUp;
@@ -93,7 +92,7 @@ fn relay_due(own: Address, bytes: &mut [u8], start: usize, count: usize) -> Rela
     if set >> due != 0 {
         return RelayAnswer::BrokenMarks;
     }
-    let at = route + 7 * due;
+    let at = 14 + 7 * due;
     if !is_ours(own, bytes, at) {
         return RelayAnswer::AnotherStation;
     }
@@ -114,7 +113,7 @@ pub fn relay(own: Address, bytes: &mut [u8]) -> RelayAnswer
     let DecodeAnswer::Accepted = answer else {
         return RelayAnswer::Refused(answer);
     };
-    relay_due(own, bytes, outline.start, outline.route_count)
+    relay_due(own, bytes, outline.route_count)
 }
 
 // A character as it is; a space past the end.

@@ -14,9 +14,10 @@ use Rattle.placing.specs.Put.{respelled}
 use Rattle.placing.proofs.Laws.{respelled-in}
 use Rattle.content.specs.declared.FrameContent.{FrameContent}
 use Rattle.decode.specs.Answer.{isAccepted}
-use Rattle.decode.specs.Read.{startOf, routeAt, commandOf, decode, infoIn}
+use Rattle.decode.specs.Read.{routeAt, commandOf, decode, infoIn}
 use Rattle.decode.specs.Outline.{outlineOf}
 use Rattle.decode.specs.declared.Outline.{Outline}
+use Rattle.decode.proofs.Whole.{outline-end}
 use Rattle.frame.specs.Spell.{repeaterAt, groupsOf, destinationMark, addressField, spell}
 use Rattle.frame.specs.Write.{Taken}
 use Rattle.frame.proofs.Write.{spell-length, marks-differ, field-put, accepted-taken}
@@ -45,7 +46,7 @@ pub due-length : (s : List ℕ) (b : Outline) (k : FrameContent) (n : ℕ) → O
 due-length s b k n o e p q r =
     let d = parts s o e in
     let l = spell-length (decode s .frame) (infoIn s (decode s)) in
-    rw (r, q, p, due-accepted s e) (omega (arith, info-length s (decode s) (inside s e), d .before, d .carried))
+    rw (r, q, p, outline-end s e, due-accepted s e) (omega (arith, info-length s (decode s) (inside s e), d .before, d .carried))
 
 -- a refused input is answered with its decode, and nothing is written
 pub refused-answer : (s : List ℕ) (room : ℕ) → isAccepted (decode s .answer) ≡ false
@@ -103,15 +104,14 @@ repeater-again s at n i e h l f =
 
 -- and with those of destination and source the address field
 pub field-again : (s l : List ℕ) → Octets s → isAccepted (decode s .answer) ≡ true → 14 + 7 * decode s .frame .«route_count» ≤ length l
-    → let at = startOf s in
-    let n = decode s .frame .«route_count» in
-    let m = destinationMark (commandOf (markSet (getD s (at + 6) 0)) (markSet (getD s (at + 13) 0))) in
+    → let n = decode s .frame .«route_count» in
+    let m = destinationMark (commandOf (markSet (getD s 6 0)) (markSet (getD s 13 0))) in
     splice
-    (splice (splice l 0 (respelled s at m false)) 7 (respelled s (at + 7) (not m) (eqb n 0)))
-    14 (groupsOf (routeAt s (at + 14) n) n n)
+    (splice (splice l 0 (respelled s 0 m false)) 7 (respelled s 7 (not m) (eqb n 0)))
+    14 (groupsOf (routeAt s 14 n) n n)
     ≡ splice l 0 (addressField (decode s .frame))
 field-again s l o e h =
     let d = parts s o e in
     let r = route s e in
-    rw (respelled-in s (startOf s) _ false (omega (arith, r .before, r .end-in)), respelled-in s (startOf s + 7) _ _ (omega (arith, r .before, r .end-in)), ← d .destination, ← d .source, ← d .mark, ← r .read, ← marks-differ _)
+    rw (respelled-in s 0 _ false (omega (arith, r .before, r .end-in)), respelled-in s 7 _ _ (omega (arith, r .before, r .end-in)), ← d .destination, ← d .source, ← d .mark, ← r .read, ← marks-differ _)
     (field-put l (decode s .frame) h)

@@ -11,7 +11,7 @@ ghost use lib.ListN.{length};
 ghost use Rattle.octets.specs.Splice.{splice};
 ghost use Rattle.frame.specs.Spell.{groupsOf, destinationMark, addressField};
 ghost use Rattle.decode.specs.Answer.{isAccepted};
-ghost use Rattle.decode.specs.Read.{startOf, endOf, routeAt, commandOf, decode};
+ghost use Rattle.decode.specs.Read.{endOf, routeAt, commandOf, decode};
 ghost use Rattle.decode.specs.Outline.{outlineOf};
 ghost use Rattle.grammar.specs.Kept.{keptOf};
 ghost use Rattle.respelling.specs.Reencode.{due, reencode, reencoded, reportOf};
@@ -84,31 +84,31 @@ fn written_mark(to: bool, from: bool) -> bool
     if to { true } else { !from }
 }
 
-// The groups of the repeaters that stand from `from` on; the last alone has the end bit.
-fn put_route(out: &mut [u8], bytes: &[u8], from: usize, count: usize)
-    requires { ⌜ (count ≤ 8) × (from + 7 * count ≤ length (now bytes)) × (14 + 7 * count ≤ length (now out)) ⌝ }
-    ensures { λ r. ⌜ now (out .exit) ≡ splice (now (out .entry)) 14 (groupsOf (routeAt (now (bytes .entry)) from count) count count) ⌝ }
+// The groups of the repeaters; the last alone has the end bit.
+fn put_route(out: &mut [u8], bytes: &[u8], count: usize)
+    requires { ⌜ (count ≤ 8) × (14 + 7 * count ≤ length (now bytes)) × (14 + 7 * count ≤ length (now out)) ⌝ }
+    ensures { λ r. ⌜ now (out .exit) ≡ splice (now (out .entry)) 14 (groupsOf (routeAt (now (bytes .entry)) 14 count) count count) ⌝ }
 {
     let mut i = 0;
     while i < count {
-        let at = from + 7 * i;
+        let at = 14 + 7 * i;
         let mark = group::mark_set(bytes[at + 6]);
-        placing::respell(out, 14 + 7 * i, bytes, at, mark, i + 1 == count);
+        placing::respell(out, at, bytes, at, mark, i + 1 == count);
         i += 1;
     }
 }
 
 // The address field of an accepted input: destination, source, repeaters.
-fn put_addresses(out: &mut [u8], bytes: &[u8], start: usize, count: usize)
-    requires { ⌜ (isAccepted (decode (now bytes) .answer) ≡ true) × (start ≡ startOf (now bytes)) × (count ≡ decode (now bytes) .frame .«route_count») × (14 + 7 * count ≤ length (now out)) ⌝ }
+fn put_addresses(out: &mut [u8], bytes: &[u8], count: usize)
+    requires { ⌜ (isAccepted (decode (now bytes) .answer) ≡ true) × (count ≡ decode (now bytes) .frame .«route_count») × (14 + 7 * count ≤ length (now out)) ⌝ }
     ensures { λ r. ⌜ now (out .exit) ≡ splice (now (out .entry)) 0 (addressField (decode (now (bytes .entry)) .frame)) ⌝ }
 {
-    let to = group::mark_set(bytes[start + 6]);
-    let from = group::mark_set(bytes[start + 13]);
+    let to = group::mark_set(bytes[6]);
+    let from = group::mark_set(bytes[13]);
     let mark = written_mark(to, from);
-    placing::respell(out, 0, bytes, start, mark, false);
-    placing::respell(out, 7, bytes, start + 7, !mark, count == 0);
-    put_route(out, bytes, start + 14, count);
+    placing::respell(out, 0, bytes, 0, mark, false);
+    placing::respell(out, 7, bytes, 7, !mark, count == 0);
+    put_route(out, bytes, count);
 }
 
 // The whole of an accepted input with this outline and content, once there is room.
@@ -117,7 +117,7 @@ fn put_due(out: &mut [u8], bytes: &[u8], outline: Outline, content: FrameContent
     ensures { λ r. ⌜ now (out .exit) ≡ splice (now (out .entry)) 0 (due (now (bytes .entry))) ⌝ }
 {
     let count = outline.route_count;
-    put_addresses(out, bytes, outline.start, count);
+    put_addresses(out, bytes, count);
     let control = outline.end + 1;
     let start = control + content.front_len();
     let end = control + kept;

@@ -9,7 +9,7 @@ use Rattle.octets.proofs.Choice.{both, equal}
 use Rattle.octets.proofs.Same.{same-refl, same-eq}
 use Rattle.content.specs.Spell.{hasInfo}
 use Rattle.decode.specs.Answer.{isAccepted}
-use Rattle.decode.specs.Read.{startOf, endOf, decode, infoIn}
+use Rattle.decode.specs.Read.{endOf, decode, infoIn}
 use Rattle.frame.specs.Spell.{withMark, spell, Plain}
 use Rattle.frame.specs.declared.Ax25Frame.{Ax25Frame}
 use Rattle.grammar.specs.Direct.{direct}
@@ -66,7 +66,7 @@ module _ (s : List ℕ) (o : Octets s) where
 
   -- and of every kind the reserved bits of every group
   pub again-reserved : isAccepted (decode s .answer) ≡ true
-      → (j : ℕ) → j < decode s .frame .«route_count» + 2 → reservedAt (again s) 0 j ≡ reservedAt s (startOf s) j
+      → (j : ℕ) → j < decode s .frame .«route_count» + 2 → reservedAt (again s) j ≡ reservedAt s j
   unfolding again
   again-reserved a j h = reserved-again s o a j h
 

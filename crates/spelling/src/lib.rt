@@ -20,9 +20,6 @@ fn is_direct(bytes: &[u8], count: usize) -> bool
     requires { ⌜ (count ≤ 8) × (14 + 7 * count < length (now bytes)) ⌝ }
     ensures { λ r. ⌜ r ≡ direct (now (bytes .entry)) count ⌝ }
 {
-    if bytes[0] == 0 {
-        return false;
-    }
     let end = 13 + 7 * count;
     let low = bytes[end] & 0x01;
     if low == 0 {

@@ -1,13 +1,14 @@
 -- Each refusal by its own test, in the definition's order; the content's answer last.
-use Prim.Native.Nat.{_+_}
+use Prim.Native.Nat.{_+_, _-_, _/_}
 use mathlib.Core.Path.{_≡_, refl, ap, _∙_}
+use native.Mathlib.Nat.{sub-zero}
 use borrow.Author.Tests.{eq-eqb, ne-eqb, lt-ltb, le-ltb}
 use lib.ListN.{drop}
 use Rattle.parse.specs.Content.{contentOf}
-use Rattle.decode.specs.Read.{repeatersOf, withContent, decodeField}
+use Rattle.decode.specs.Read.{refusedWith, withContent, decodeField}
 use Rattle.decode.specs.Outline.{outlineBy}
 use Rattle.decode.proofs.Read.{told-refused}
-use Rattle.decode.proofs.Whole.{refused-content, accepted-content}
+use Rattle.decode.proofs.Whole.{outline-refused, refused-content, accepted-content}
 use borrow.Author.Needs.{needs}
 use Rattle.decode.proofs.outline_field.Statement.{statement}
 use Rattle.decode.proofs.outline_field.Tie as tie
@@ -15,41 +16,38 @@ use Rattle.decode.proofs.outline_field.Tie as tie
 -- past the tests the content decides
 past : (c : tie.After-content-answer) →
     let a = c .before .before .before .before .before .args in
-    decodeField (a .bytes .now) (a .start) (a .end)
-    ≡ withContent (a .bytes .now) (a .start) (repeatersOf (a .start) (a .end)) (a .end + 1) (contentOf (drop (a .end + 1) (a .bytes .now)))
+    decodeField (a .bytes .now) 0 (a .end)
+    ≡ withContent (a .bytes .now) 0 ((a .end + 1 - 14) / 7) (a .end + 1) (contentOf (drop (a .end + 1) (a .bytes .now)))
 unfolding decodeField
 past c =
     let b = c .before in
-    simp (le-ltb _ _ (b .before .before .if1 .left), ne-eqb _ _ (b .before .if2 .left), le-ltb _ _ (b .if3 .left))
+    simp (sub-zero, le-ltb _ _ (b .before .before .if1 .left), ne-eqb _ _ (b .before .if2 .left), le-ltb _ _ (b .if3 .left))
 
 add-control : tie.Need-add-control
 add-control c = search needs
-
-sub-span : tie.Need-sub-span
-sub-span c = search needs
 
 refused-outline-requires : tie.Need-refused-outline-requires
 refused-outline-requires c κs = search needs
 
 returns : tie.Need-returns
-unfolding decodeField
-returns c = simp (c .refused-outline .ensures, lt-ltb _ _ (c .before .if1 .taken))
+unfolding decodeField refusedWith
+returns c = simp (c .refused-outline .ensures, sub-zero, lt-ltb _ _ (c .before .if1 .taken))
 
 refused-outline-requires-2 : tie.Need-refused-outline-requires-2
 refused-outline-requires-2 c κs = search needs
 
 returns-2 : tie.Need-returns-2
-unfolding decodeField
-returns-2 c = simp (c .refused-outline2 .ensures, le-ltb _ _ (c .before .before .if1 .left), eq-eqb _ _ (c .before .if2 .taken))
+unfolding decodeField refusedWith
+returns-2 c = simp (c .refused-outline2 .ensures, sub-zero, le-ltb _ _ (c .before .before .if1 .left), eq-eqb _ _ (c .before .if2 .taken))
 
 refused-outline-requires-3 : tie.Need-refused-outline-requires-3
 refused-outline-requires-3 c κs = search needs
 
 returns-3 : tie.Need-returns-3
-unfolding decodeField
+unfolding decodeField refusedWith
 returns-3 c =
     let b = c .before in
-    simp (c .refused-outline3 .ensures, le-ltb _ _ (b .before .before .if1 .left), ne-eqb _ _ (b .before .if2 .left), lt-ltb _ _ (b .if3 .taken))
+    simp (c .refused-outline3 .ensures, sub-zero, le-ltb _ _ (b .before .before .if1 .left), ne-eqb _ _ (b .before .if2 .left), lt-ltb _ _ (b .if3 .taken))
 
 content-answer-requires : tie.Need-content-answer-requires
 content-answer-requires c κs = search needs
@@ -64,8 +62,8 @@ returns-4 : tie.Need-returns-4
 returns-4 c =
     let r = c .before .before in
     let e = r .content-answer .ensures in
-    c .refused-outline4 .ensures
-    ∙ rw (e, past r) (ap (outlineBy _ _) (refused-content _ _ _ _ _ (rw (← e) (told-refused (r .content-answer .result) (c .before .match .keys2)))))
+    let h = rw e at (told-refused (r .content-answer .result) (c .before .match .keys2)) in
+    c .refused-outline4 .ensures ∙ rw (e, past r) (outline-refused _ _ h ∙ ap (outlineBy _) (refused-content _ _ _ _ _ h))
 
 returns-5 : tie.Need-returns-5
 returns-5 c =
@@ -78,7 +76,6 @@ outline-field-spec =
     tie.close
     (tie.spec
     add-control
-    sub-span
     refused-outline-requires
     returns
     refused-outline-requires-2

@@ -65,6 +65,9 @@ enum-told-7 c = search needs
 enum-told-8 : tie.Need-enum-told-8
 enum-told-8 c = search needs
 
+enum-told-9 : tie.Need-enum-told-9
+enum-told-9 c = search needs
+
 returns : tie.Need-returns
 returns c = rw (c .enum-told .given .1) (put-none _ _)
 
@@ -108,6 +111,9 @@ returns-9 c = rw (c .enum-told7 .given .1) (put-none _ _)
 returns-10 : tie.Need-returns-10
 returns-10 c = rw (c .enum-told8 .given .1) (put-none _ _)
 
+returns-11 : tie.Need-returns-11
+returns-11 c = rw (c .enum-told9 .given .1) (put-none _ _)
+
 pub put-details-spec : {M : Type 1} → statement M
 put-details-spec =
     tie.close
@@ -128,6 +134,7 @@ put-details-spec =
     enum-told-6
     enum-told-7
     enum-told-8
+    enum-told-9
     returns
     returns-2
     returns-3
@@ -139,4 +146,5 @@ put-details-spec =
     returns-7
     returns-8
     returns-9
-    returns-10)
+    returns-10
+    returns-11)

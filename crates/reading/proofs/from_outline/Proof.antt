@@ -18,15 +18,15 @@ accepted c = rw (c .enum-told .given .1) refl
 
 inside : (c : tie.Else1) →
     let a = c .before .before .before .before .before .args in
-    holds (length (a .bytes .now)) (a .outline .start) (a .outline .end) (a .outline .«route_count») ≡ true
+    holds (length (a .bytes .now)) (a .outline .end) (a .outline .«route_count») ≡ true
 inside c = sym (c .before .holds .ensures) ∙ not-false _ (c .if1 .left)
 
 within : (c : tie.Else1) →
     let a = c .before .before .before .before .before .args in
     (a .outline .«route_count» ≤ 8)
-    × (a .outline .start + 14 + 7 * a .outline .«route_count» ≤ length (a .bytes .now))
+    × (14 + 7 * a .outline .«route_count» ≤ length (a .bytes .now))
     × (a .outline .end + 1 ≤ length (a .bytes .now))
-within c = room _ _ _ _ (inside c)
+within c = room _ _ _ (inside c)
 
 enum-told : tie.Need-enum-told
 enum-told c = search needs

@@ -1,5 +1,4 @@
--- The tests in the definition's order; with the end before the start there is no span.
-use Prim.Native.Nat.{_+_, _-_, _*_}
+-- The tests in the definition's order.
 use native.Mathlib.Omega.{arith}
 use borrow.Author.Tests.{lt-ltb, le-ltb, le-leb, lt-leb}
 use borrow.Author.Needs.{needs}
@@ -16,11 +15,6 @@ returns-2 c =
     let a = c .before .before .args in
     simp (lt-ltb (a .end) (a .len) (omega arith), lt-leb _ _ (c .if2 .taken))
 
-returns-3 : tie.Need-returns-3
-returns-3 c =
-    let a = c .before .before .before .args in
-    simp (lt-ltb _ _ (c .before .before .if1 .left), le-leb _ _ (c .before .if2 .left), lt-leb (14 + 7 * a .count) (a .end + 1 - a .start) (omega arith))
-
 mul-result : tie.Need-mul-result
 mul-result c = search needs
 
@@ -30,13 +24,10 @@ add-result c = search needs
 add-result-2 : tie.Need-add-result-2
 add-result-2 c = search needs
 
-sub-result : tie.Need-sub-result
-sub-result c = search needs
-
-returns-4 : tie.Need-returns-4
-returns-4 c = simp (lt-ltb _ _ (c .before .before .if1 .left), le-leb _ _ (c .before .if2 .left))
+returns-3 : tie.Need-returns-3
+returns-3 c = simp (lt-ltb _ _ (c .before .if1 .left), le-leb _ _ (c .if2 .left))
 
 pub holds-spec : {M : Type 1} → statement M
 holds-spec =
     tie.close
-    (tie.spec returns returns-2 returns-3 mul-result add-result add-result-2 sub-result returns-4)
+    (tie.spec returns returns-2 mul-result add-result add-result-2 returns-3)

@@ -1,4 +1,4 @@
--- The groups at 0, 7 and 14 from the start.
+-- The groups at 0, 7 and 14.
 use Rattle.decode.specs.Read.{frameAt}
 use borrow.Author.Needs.{needs}
 use Rattle.reading.proofs.parse_frame.Statement.{statement}
@@ -7,14 +7,8 @@ use Rattle.reading.proofs.parse_frame.Tie as tie
 parse-group-requires : tie.Need-parse-group-requires
 parse-group-requires c κs = search needs
 
-add-parse-group : tie.Need-add-parse-group
-add-parse-group c = search needs
-
 parse-group-requires-2 : tie.Need-parse-group-requires-2
 parse-group-requires-2 c κs = search needs
-
-add-parse-route : tie.Need-add-parse-route
-add-parse-route c = search needs
 
 parse-route-requires : tie.Need-parse-route-requires
 parse-route-requires c κs = search needs
@@ -33,9 +27,7 @@ parse-frame-spec =
     tie.close
     (tie.spec
     parse-group-requires
-    add-parse-group
     parse-group-requires-2
-    add-parse-route
     parse-route-requires
     command-of-requires
     returns)

@@ -48,7 +48,7 @@ returns-2 c =
 relay-due-requires : tie.Need-relay-due-requires
 relay-due-requires c κs =
     let f = c .before .before .before .outline-of .ensures in
-    (accepted (c .before), ap (λ (o : Outline). o .start) f, ap (λ (o : Outline). o .«route_count») f)
+    (accepted (c .before), ap (λ (o : Outline). o .«route_count») f)
 
 same-length-2 : tie.Need-same-length-2
 same-length-2 c = search needs

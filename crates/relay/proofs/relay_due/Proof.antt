@@ -21,7 +21,7 @@ use Rattle.relay.proofs.relay_due.Tie as tie
 is-set : (c : tie.After-hop-set-at) → c .hop-set-at .result ≡ hopSet (decode (c .before .before .before .args .bytes .now) .frame)
 is-set c =
     let k = c .before .before .before in
-    c .hop-set-at .ensures ∙ rw (k .pre .1, k .pre .2) (set-read _ (k .pre .0))
+    c .hop-set-at .ensures ∙ rw (k .pre .1) (set-read _ (k .pre .0))
 
 due : (c : tie.After-first-clear) → c .first-clear .result ≡ duePlace (decode (c .before .before .before .before .args .bytes .now) .frame)
 due c = c .first-clear .ensures ∙ rw (is-set (c .before)) (due-clear _)
@@ -32,7 +32,7 @@ inner : (c : tie.Else1) →
     duePlace f < f .«route_count»
 inner c =
     let k = c .before .before .before .before .before in
-    omega (arith, due-within (decode (k .args .bytes .now) .frame), k .pre .2, due (c .before), c .if1 .left)
+    omega (arith, due-within (decode (k .args .bytes .now) .frame), k .pre .1, due (c .before), c .if1 .left)
 
 few : (c : tie.Else1) → c .before .first-clear .result < 8
 few c =
@@ -41,10 +41,10 @@ few c =
 
 due-in : (c : tie.Else1) →
     let a = c .before .before .before .before .before .args in
-    a .start + 14 + 7 * c .before .first-clear .result + 7 ≤ length (a .bytes .now)
+    14 + 7 * c .before .first-clear .result + 7 ≤ length (a .bytes .now)
 due-in c =
     let k = c .before .before .before .before .before in
-    omega (arith, groups-inside _ (k .pre .0) .1, k .pre .1, due (c .before), inner c)
+    omega (arith, groups-inside _ (k .pre .0) .1, due (c .before), inner c)
 
 -- it is the due place, and not the route's end
 is-due : (c : tie.Else1) →
@@ -68,16 +68,13 @@ whose : (c : tie.After-is-ours) →
 whose c =
     let e = c .before .before .before in
     let k = e .before .before .before .before .before in
-    c .is-ours .ensures ∙ rw (k .pre .1, due (e .before)) (ap (sameStation (k .args .own)) (sym (due-read (k .args .bytes .now) (k .pre .0) (inner e))))
-
-add-route : tie.Need-add-route
-add-route c = omega (arith, groups-inside _ (c .before .pre .0), c .before .pre .1)
+    c .is-ours .ensures ∙ rw (due (e .before)) (ap (sameStation (k .args .own)) (sym (due-read (k .args .bytes .now) (k .pre .0) (inner e))))
 
 hop-set-at-requires : tie.Need-hop-set-at-requires
 hop-set-at-requires c κs =
     let k = c .before .before in
     let i = groups-inside _ (k .pre .0) in
-    (omega (arith, i .0, k .pre .2), omega (arith, i .1, k .pre .1, k .pre .2))
+    (omega (arith, i .0, k .pre .1), omega (arith, i .1, k .pre .1))
 
 first-clear-requires : tie.Need-first-clear-requires
 first-clear-requires c κs = search needs
@@ -91,7 +88,7 @@ same-length c = search needs
 returns : tie.Need-returns
 returns c =
     let k = c .before .before .before .before .before in
-    let e = due-none (k .args .own) (decode (k .args .bytes .now) .frame) (sym (due (c .before)) ∙ c .if1 .taken ∙ k .pre .2) in
+    let e = due-none (k .args .own) (decode (k .args .bytes .now) .frame) (sym (due (c .before)) ∙ c .if1 .taken ∙ k .pre .1) in
     (sym e, ap (λ a. leftBy a (k .args .bytes .now)) (sym e))
 
 cast-if2 : tie.Need-cast-if2
@@ -148,13 +145,12 @@ returns-4 c =
     let k = e2 .before .before .before .before .before .before in
     let s = k .args .bytes .now in
     let e = due-ours (k .args .own) (decode s .frame) (is-due (e2 .before)) (whole e2) (sym (whose o) ∙ not-false _ (m .before .before .if3 .left)) in
-    (sym e, m .set-mark .ensures ∙ rw (k .pre .1, due (e2 .before .before), e) refl)
+    (sym e, m .set-mark .ensures ∙ rw (due (e2 .before .before), e) refl)
 
 pub relay-due-spec : {M : Type 1} → statement M
 relay-due-spec =
     tie.close
     (tie.spec
-    add-route
     hop-set-at-requires
     first-clear-requires
     cast-due

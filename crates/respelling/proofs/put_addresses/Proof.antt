@@ -15,16 +15,11 @@ octets : (c : tie.After-shared-slice-known) → Octets (c .before .before .args 
 octets c k = c .shared-slice-known .given k .fits
 
 -- the groups stand in the input
-inside : (c : tie.After-shared-slice-known) → c .before .before .args .start + 14 + 7 * c .before .before .args .count ≤ length (c .before .before .args .bytes .now)
+inside : (c : tie.After-shared-slice-known) → 14 + 7 * c .before .before .args .count ≤ length (c .before .before .args .bytes .now)
 inside c =
     let p = c .before .before .pre in
     let r = route _ (p .0) in
-    omega (arith, p .1, p .2, r .before, r .end-in)
-
-add-mark-set : tie.Need-add-mark-set
-add-mark-set c =
-    let h = inside c in
-    search needs
+    omega (arith, p .1, r .before, r .end-in)
 
 shared-slice-read-mark-set : tie.Need-shared-slice-read-mark-set
 shared-slice-read-mark-set c =
@@ -33,11 +28,6 @@ shared-slice-read-mark-set c =
 
 mark-set-requires : tie.Need-mark-set-requires
 mark-set-requires c κs = search needs
-
-add-mark-set-2 : tie.Need-add-mark-set-2
-add-mark-set-2 c =
-    let h = inside (c .before .before) in
-    search needs
 
 shared-slice-read-mark-set-2 : tie.Need-shared-slice-read-mark-set-2
 shared-slice-read-mark-set-2 c =
@@ -53,18 +43,8 @@ written-mark-requires c κs = search needs
 respell-requires : tie.Need-respell-requires
 respell-requires c κs = search needs
 
-add-respell : tie.Need-add-respell
-add-respell c =
-    let h = inside (c .before .before .before .before .before .before .before .before .before .before) in
-    search needs
-
 respell-requires-2 : tie.Need-respell-requires-2
 respell-requires-2 c κs = search needs
-
-add-put-route : tie.Need-add-put-route
-add-put-route c =
-    let h = inside (c .before .before .before .before .before .before .before .before .before .before .before .before .before .before) in
-    search needs
 
 put-route-requires : tie.Need-put-route-requires
 put-route-requires c κs =
@@ -72,8 +52,8 @@ put-route-requires c κs =
     let p = k .before .before .pre in
     let one = c .before .before .before .before .before .before .before .respell .ensures in
     let two = c .before .before .before .respell2 .ensures in
-    let few : k .before .before .args .count ≤ 8 = rw (p .2) (route _ (p .0) .few) in
-    (few, inside k, rw (two, splice-length, one, splice-length) (p .3))
+    let few : k .before .before .args .count ≤ 8 = rw (p .1) (route _ (p .0) .few) in
+    (few, inside k, rw (two, splice-length, one, splice-length) (p .2))
 
 same-length : tie.Need-same-length
 same-length c = search needs
@@ -87,24 +67,20 @@ returns c =
     let k = c .before .before .before .before .before .before .before .before .before .before .before .before .before .before .before .before .before in
     let p = k .before .before .pre in
     r .put-route .ensures
-    ∙ rw (s .respell2 .ensures, d .respell .ensures, m .written-mark .ensures, m .before .mark-set2 .ensures, m .before .before .before .mark-set .ensures, p .1, p .2)
-    (field-again _ _ (octets k) (p .0) (rw (← p .2) (p .3)))
+    ∙ rw (s .respell2 .ensures, d .respell .ensures, m .written-mark .ensures, m .before .mark-set2 .ensures, m .before .before .before .mark-set .ensures, p .1)
+    (field-again _ _ (octets k) (p .0) (rw (← p .1) (p .2)))
 
 pub put-addresses-spec : {M : Type 1} → statement M
 put-addresses-spec =
     tie.close
     (tie.spec
-    add-mark-set
     shared-slice-read-mark-set
     mark-set-requires
-    add-mark-set-2
     shared-slice-read-mark-set-2
     mark-set-requires-2
     written-mark-requires
     respell-requires
-    add-respell
     respell-requires-2
-    add-put-route
     put-route-requires
     same-length
     returns)

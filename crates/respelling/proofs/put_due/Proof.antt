@@ -12,6 +12,7 @@ use Rattle.frame.specs.Write.{Taken}
 use Rattle.frame.proofs.Write.{field-room, content-put}
 use Rattle.decode.specs.Read.{endOf, decode, infoIn}
 use Rattle.decode.specs.declared.Outline.{Outline}
+use Rattle.decode.proofs.Whole.{outline-end}
 use Rattle.grammar.specs.Kept.{keptOf}
 use Rattle.grammar.proofs.Marks.{route}
 use Rattle.grammar.proofs.Parts.{parts}
@@ -43,7 +44,7 @@ numbers c =
     let p = c .before .before .before .before .before .before .before .before .pre in
     record {
       count = ap (λ (b : Outline). b .«route_count») (p .1);
-      end = ap (λ (b : Outline). b .end) (p .1);
+      end = ap (λ (b : Outline). b .end) (p .1) ∙ outline-end _ (p .0);
       front = c .front-len .ensures ∙ ap (λ (k : FrameContent). length (front k)) (p .2);
       kept = p .3 ∙ rw (p .2) refl;
     }
@@ -66,14 +67,13 @@ room c =
 put-addresses-requires : tie.Need-put-addresses-requires
 put-addresses-requires c κs =
     let a = c .before .before .before in
-    let start = ap (λ (b : Outline). b .start) (a .pre .1) in
     let count = ap (λ (b : Outline). b .«route_count») (a .pre .1) in
-    (a .pre .0, start, count, rw count (field-room _ _ (a .args .out .now) (taken (c .before))))
+    (a .pre .0, count, rw count (field-room _ _ (a .args .out .now) (taken (c .before))))
 
 add-control : tie.Need-add-control
 add-control c =
     let p = c .before .before .before .before .before .before .before .pre in
-    omega (arith, ap (λ (b : Outline). b .end) (p .1), route _ (p .0) .end-in)
+    omega (arith, ap (λ (b : Outline). b .end) (p .1) ∙ outline-end _ (p .0), route _ (p .0) .end-in)
 
 front-len-requires : tie.Need-front-len-requires
 front-len-requires c κs = search needs

@@ -14,10 +14,10 @@ use Rattle.respelling.proofs.put_route.Statement.{statement}
 use Rattle.respelling.proofs.put_route.Tie as tie
 
 abbrev Inv-loop : tie.InvT-loop
-Inv-loop out₀ bytes from count i₀ out i = (i ≤ count) × (out ≡ splice out₀ 14 (groupsOf (routeAt bytes from count) count i))
+Inv-loop out₀ bytes count i₀ out i = (i ≤ count) × (out ≡ splice out₀ 14 (groupsOf (routeAt bytes 14 count) count i))
 
 abbrev μ-loop : tie.MeasureT-loop
-μ-loop out₀ bytes from count i₀ out i = count - i
+μ-loop out₀ bytes count i₀ out i = count - i
 
 loop-holds : tie.Need-loop-holds Inv-loop μ-loop
 loop-holds c = (search needs, sym (rw groups-none (splice-none _ _)))
@@ -37,14 +37,8 @@ shared-slice-read-mark-set c = search needs
 mark-set-requires : tie.Need-mark-set-requires Inv-loop μ-loop
 mark-set-requires c κs = search needs
 
-mul-respell : tie.Need-mul-respell Inv-loop μ-loop
-mul-respell c = search needs
-
 add-respell : tie.Need-add-respell Inv-loop μ-loop
 add-respell c = search needs
-
-add-respell-2 : tie.Need-add-respell-2 Inv-loop μ-loop
-add-respell-2 c = search needs
 
 respell-requires : tie.Need-respell-requires Inv-loop μ-loop
 respell-requires c κs = search needs
@@ -61,7 +55,7 @@ loop-again c =
     let m = c .before .before .before .before .mark-set .ensures in
     let l = c .before .before .before .before .before .before .before in
     let a = l .before .before .before in
-    let g = repeater-again (a .args .bytes .now) (a .args .from) (a .args .count) (l .loop .i) (eqb (l .loop .i + 1) (a .args .count)) (omega arith) (a .pre .0) (a .pre .1) in
+    let g = repeater-again (a .args .bytes .now) 14 (a .args .count) (l .loop .i) (eqb (l .loop .i + 1) (a .args .count)) (omega arith) (a .pre .0) (a .pre .1) in
     (search needs, w ∙ rw (m, g, l .loop .inv .1) (groups-more _ _ _ _ _ (omega arith)))
 
 same-length : tie.Need-same-length Inv-loop μ-loop
@@ -84,9 +78,7 @@ put-route-spec =
     add-mark-set
     shared-slice-read-mark-set
     mark-set-requires
-    mul-respell
     add-respell
-    add-respell-2
     respell-requires
     add-i
     loop-less

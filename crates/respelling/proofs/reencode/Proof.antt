@@ -1,5 +1,5 @@
 -- A refused input is answered with its outline's answer; an accepted one is written whole where there is room.
-use Prim.Native.Nat.{_+_, _*_}
+use Prim.Native.Nat.{ℕ, _+_, _*_}
 use mathlib.Core.Path.{_≡_, refl, ap, sym, _∙_}
 use mathlib.Core.Bool.{true, false}
 use native.Mathlib.Omega.{arith}
@@ -8,9 +8,10 @@ use Rattle.octets.specs.Octet.{Octets}
 use Rattle.octets.proofs.Splice.{splice-none}
 use Rattle.decode.specs.Answer.{isAccepted}
 use Rattle.decode.specs.Outline.{outlineOf}
-use Rattle.decode.specs.Read.{decode}
+use Rattle.decode.specs.Read.{endOf, decode}
 use Rattle.decode.specs.declared.Outline.{Outline}
 use Rattle.decode.proofs.Read.{told-refused}
+use Rattle.decode.proofs.Whole.{outline-end}
 use Rattle.grammar.proofs.Marks.{Route, route}
 use Rattle.respelling.specs.Reencode.{due}
 use Rattle.respelling.proofs.Laws.{due-length, due-fits, due-again, refused-answer, again-short, again-fits}
@@ -34,6 +35,9 @@ octets c k = c .before .before .before .before .shared-slice-known .given k .fit
 
 told : (c : tie.After-enum-told) → c .before .before .outline-of .result ≡ outlineOf (c .before .before .before .before .before .args .bytes .now)
 told c = c .before .before .outline-of .ensures
+
+ends : (c : tie.After-enum-told) → c .before .before .outline-of .result .end ≡ endOf (c .before .before .before .before .before .args .bytes .now)
+ends c = ap (λ (o : Outline). o .end) (told c) ∙ outline-end _ (accepted c)
 
 -- the sum is the length
 whole : (c : tie.After-struct-known2) →
@@ -59,13 +63,13 @@ returns c =
     (rw (answered (c .before)) (sym (a .0)), sym (rw (a .1) (splice-none _ _)))
 
 add-control : tie.Need-add-control
-add-control c = rw (told (c .before)) (omega (arith, within (c .before) .end-in))
+add-control c = rw (ends (c .before)) (omega (arith, within (c .before) .end-in))
 
 content-at-requires : tie.Need-content-at-requires
-content-at-requires c κs = (accepted (c .before), ap (λ (o : Outline). o .end + 1) (told (c .before)))
+content-at-requires c κs = (accepted (c .before), ap (λ (n : ℕ). n + 1) (ends (c .before)))
 
 sub-kept-of : tie.Need-sub-kept-of
-sub-kept-of c = rw (told (c .before .before)) (omega (arith, within (c .before .before) .end-in))
+sub-kept-of c = rw (ends (c .before .before)) (omega (arith, within (c .before .before) .end-in))
 
 kept-of-requires : tie.Need-kept-of-requires
 kept-of-requires c κs = search needs
@@ -94,7 +98,7 @@ put-due-requires : tie.Need-put-due-requires
 put-due-requires c κs =
     let t = c .before .before .before .before .before .before in
     let n = c .before .before .before .kept-of .ensures in
-    (accepted t, told t, c .before .before .before .before .content-at .ensures, rw (told t) at n, omega (arith, whole (c .before .before), c .before .if1 .left))
+    (accepted t, told t, c .before .before .before .before .content-at .ensures, rw (ends t) at n, omega (arith, whole (c .before .before), c .before .if1 .left))
 
 same-length : tie.Need-same-length
 same-length c = search needs

@@ -1,15 +1,16 @@
 -- Nothing of a refused input; of an accepted one the address field and what is kept of the content.
-use Prim.Native.Nat.{_+_, _*_}
-use mathlib.Core.Path.{_≡_, refl, ap, sym}
+use Prim.Native.Nat.{ℕ, _+_, _*_}
+use mathlib.Core.Path.{_≡_, refl, ap, sym, _∙_}
 use mathlib.Core.Bool.{true}
 use native.Mathlib.Omega.{arith}
 use lib.ListN.{length}
 use Rattle.octets.specs.Octet.{Octets}
 use Rattle.decode.specs.Answer.{isAccepted}
 use Rattle.decode.specs.Outline.{outlineOf}
-use Rattle.decode.specs.Read.{decode}
+use Rattle.decode.specs.Read.{endOf, decode}
 use Rattle.decode.specs.declared.Outline.{Outline}
 use Rattle.decode.proofs.Read.{told-refused}
+use Rattle.decode.proofs.Whole.{outline-end}
 use Rattle.grammar.proofs.Marks.{Route, route}
 use Rattle.respelling.specs.Reencode.{due}
 use Rattle.respelling.proofs.Laws.{due-refused, due-length, due-fits}
@@ -34,6 +35,9 @@ octets c k = c .before .before .before .shared-slice-known .given k .fits
 told : (c : tie.After-enum-told) → c .before .before .outline-of .result ≡ outlineOf (c .before .before .before .before .args .bytes .now)
 told c = c .before .before .outline-of .ensures
 
+ends : (c : tie.After-enum-told) → c .before .before .outline-of .result .end ≡ endOf (c .before .before .before .before .args .bytes .now)
+ends c = ap (λ (o : Outline). o .end) (told c) ∙ outline-end _ (accepted c)
+
 -- the sum is the length
 whole : (c : tie.After-kept-of) →
     let t = c .before .before .before .before in
@@ -54,10 +58,10 @@ returns c =
     sym (ap length (due-refused _ (rw (← answered (c .before)) (told-refused (f .result .answer) (c .match .keys2)))))
 
 add-control : tie.Need-add-control
-add-control c = rw (told (c .before)) (omega (arith, within (c .before) .end-in))
+add-control c = rw (ends (c .before)) (omega (arith, within (c .before) .end-in))
 
 content-at-requires : tie.Need-content-at-requires
-content-at-requires c κs = (accepted (c .before), ap (λ (o : Outline). o .end + 1) (told (c .before)))
+content-at-requires c κs = (accepted (c .before), ap (λ (n : ℕ). n + 1) (ends (c .before)))
 
 mul-result : tie.Need-mul-result
 mul-result c = rw (told (c .before .before .before)) (omega (arith, within (c .before .before .before) .few))
@@ -66,7 +70,7 @@ add-result : tie.Need-add-result
 add-result c = rw (told (c .before .before .before)) (omega (arith, within (c .before .before .before) .few))
 
 sub-kept-of : tie.Need-sub-kept-of
-sub-kept-of c = rw (told (c .before .before .before)) (omega (arith, within (c .before .before .before) .end-in))
+sub-kept-of c = rw (ends (c .before .before .before)) (omega (arith, within (c .before .before .before) .end-in))
 
 kept-of-requires : tie.Need-kept-of-requires
 kept-of-requires c κs = search needs

@@ -9,32 +9,23 @@ use Rattle.octets.proofs.Bits.{bit-test}
 use Rattle.octets.proofs.Splice.{part-from}
 use Rattle.frame.specs.Spell.{marked}
 use Rattle.address.specs.Group.{markSet}
-use Rattle.decode.specs.Read.{nonzero, commandOf}
+use Rattle.decode.specs.Read.{commandOf}
 use Rattle.grammar.proofs.Direct.{direct-is}
 use borrow.Author.Needs.{needs}
 use Rattle.spelling.proofs.is_direct.Statement.{statement}
 use Rattle.spelling.proofs.is_direct.Tie as tie
 
-first : (c : tie.Else1) → nonzero (getD (c .before .before .before .args .bytes .now) 0 0) ≡ true
-first c = ap not (ne-eqb _ _ (c .if1 .left))
-
-low : (c : tie.Else2) →
-    let a = c .before .before .before .before .before .args in
+low : (c : tie.Else1) →
+    let a = c .before .before .before .args in
     bit 0 (getD (a .bytes .now) (13 + 7 * a .count) 0) ≡ true
 low c =
-    let a = c .before .before .before .before .before .args in
-    sym (bit-test (getD (a .bytes .now) (13 + 7 * a .count) 0) 0) ∙ ap not (ne-eqb _ _ (c .if2 .left))
+    let a = c .before .before .before .args in
+    sym (bit-test (getD (a .bytes .now) (13 + 7 * a .count) 0) 0) ∙ ap not (ne-eqb _ _ (c .if1 .left))
 
 marks : (c : tie.After-is-marked) →
-    let s = c .before .before .before .before .before .before .before .before .before .before .args .bytes .now in
+    let s = c .before .before .before .before .before .before .before .before .args .bytes .now in
     c .is-marked .result ≡ marked (commandOf (markSet (getD s 6 0)) (markSet (getD s 13 0)))
 marks c = c .is-marked .ensures ∙ rw (c .before .mark-set2 .ensures, c .before .before .before .mark-set .ensures) refl
-
-shared-slice-read-if1 : tie.Need-shared-slice-read-if1
-shared-slice-read-if1 c = search needs
-
-returns : tie.Need-returns
-returns c = simp (direct-is, eq-eqb _ _ (c .if1 .taken))
 
 mul-end : tie.Need-mul-end
 mul-end c = search needs
@@ -45,11 +36,11 @@ add-end c = search needs
 shared-slice-read-low : tie.Need-shared-slice-read-low
 shared-slice-read-low c = search needs
 
-returns-2 : tie.Need-returns-2
-returns-2 c =
-    let a = c .before .before .before .before .before .args in
+returns : tie.Need-returns
+returns c =
+    let a = c .before .before .before .args in
     let b : ℕ = getD (a .bytes .now) (13 + 7 * a .count) 0 in
-    simp (direct-is, first (c .before .before), sym (bit-test b 0) ∙ ap not (eq-eqb _ _ (c .if2 .taken)))
+    simp (direct-is, sym (bit-test b 0) ∙ ap not (eq-eqb _ _ (c .if1 .taken)))
 
 shared-slice-read-mark-set : tie.Need-shared-slice-read-mark-set
 shared-slice-read-mark-set c = search needs
@@ -66,10 +57,10 @@ mark-set-requires-2 c κs = search needs
 is-marked-requires : tie.Need-is-marked-requires
 is-marked-requires c κs = search needs
 
-returns-3 : tie.Need-returns-3
-returns-3 c =
+returns-2 : tie.Need-returns-2
+returns-2 c =
     let e = c .before .before .before .before .before .before in
-    simp (direct-is, first (e .before .before), low e, sym (marks (c .before)) ∙ not-true _ (c .if3 .taken))
+    simp (direct-is, low e, sym (marks (c .before)) ∙ not-true _ (c .if2 .taken))
 
 mul-control : tie.Need-mul-control
 mul-control c = search needs
@@ -89,15 +80,14 @@ part-is-lean-end c = search needs
 is-lean-requires : tie.Need-is-lean-requires
 is-lean-requires c κs = search needs
 
-returns-4 : tie.Need-returns-4
-returns-4 c =
+returns-3 : tie.Need-returns-3
+returns-3 c =
     let m = c .before .before in
     let e = m .before .before .before .before .before .before in
     simp (
       direct-is,
-      first (e .before .before),
       low e,
-      sym (marks (m .before)) ∙ not-false _ (m .if3 .left),
+      sym (marks (m .before)) ∙ not-false _ (m .if2 .left),
       c .is-lean .ensures,
       part-from,
     )
@@ -106,22 +96,20 @@ pub is-direct-spec : {M : Type 1} → statement M
 is-direct-spec =
     tie.close
     (tie.spec
-    shared-slice-read-if1
-    returns
     mul-end
     add-end
     shared-slice-read-low
-    returns-2
+    returns
     shared-slice-read-mark-set
     mark-set-requires
     shared-slice-read-mark-set-2
     mark-set-requires-2
     is-marked-requires
-    returns-3
+    returns-2
     mul-control
     add-control
     sub-is-lean
     part-is-lean-start
     part-is-lean-end
     is-lean-requires
-    returns-4)
+    returns-3)

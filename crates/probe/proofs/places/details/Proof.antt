@@ -34,6 +34,9 @@ enum-told-7 c = search needs
 enum-told-8 : tie.Need-enum-told-8
 enum-told-8 c = search needs
 
+enum-told-9 : tie.Need-enum-told-9
+enum-told-9 c = search needs
+
 returns : tie.Need-returns
 returns c = rw (c .enum-told .given .1) refl
 
@@ -64,6 +67,9 @@ returns-9 c = rw (c .enum-told7 .given .1) refl
 returns-10 : tie.Need-returns-10
 returns-10 c = rw (c .enum-told8 .given .1) refl
 
+returns-11 : tie.Need-returns-11
+returns-11 c = rw (c .enum-told9 .given .1) refl
+
 pub details-spec : {M : Type 1} → statement M
 details-spec =
     tie.close
@@ -78,6 +84,7 @@ details-spec =
     enum-told-6
     enum-told-7
     enum-told-8
+    enum-told-9
     returns
     returns-2
     returns-3
@@ -87,4 +94,5 @@ details-spec =
     returns-7
     returns-8
     returns-9
-    returns-10)
+    returns-10
+    returns-11)

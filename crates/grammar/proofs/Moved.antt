@@ -1,0 +1,113 @@
+-- An address field is read alike with octets before it, but for its places; and what decoding gives stands in the octets.
+use Prim.Native.Nat.{ℕ, _+_, _-_, _*_, _≤_, _<_}
+use mathlib.Core.Path.{_≡_, refl, ap, sym, _∙_}
+use mathlib.Core.Bool.{cond}
+use mathlib.Core.List.{List}
+use native.Mathlib.Omega.{arith}
+use borrow.Author.Tests.{eq-eqb, ne-eqb, eqb-true, eqb-false}
+use lib.Dec.{eqb, ltb}
+use lib.ListN.{length, length-drop, drop}
+use lib.Seq.{drop-drop}
+use Rattle.octets.specs.Octet.{bit}
+use Rattle.octets.proofs.Choice.{by, either, equal}
+use Rattle.octets.proofs.First.{first-le}
+use Rattle.content.specs.Spell.{hasInfo}
+use Rattle.content.specs.declared.FrameContent.{FrameContent}
+use Rattle.parse.specs.Content.{contentOf}
+use Rattle.parse.specs.declared.ContentAnswer.{ContentAnswer}
+use Rattle.parse.specs.declared.ContentAnswer.the-variants as content
+use Rattle.parse.proofs.Read.{zero-length}
+use Rattle.decode.specs.Answer.{Report, reportOf}
+use Rattle.decode.specs.Numbers.{noStart, leadingNull, noEnd, shortField, noContent, manyRepeaters, reported}
+use Rattle.decode.specs.Read.{startOf, endOf, parsedAt, entryAt, placeAt, routeAt, frameAt, refusedWith, acceptedWith, withContent, repeatersOf, decodeField, decode}
+use Rattle.decode.specs.declared.Decoded.{Decoded}
+use Rattle.decode.specs.declared.DecodeAnswer.{DecodeAnswer}
+use Rattle.decode.specs.declared.DecodeAnswer.the-variants.{OnlyNullBytes, NoEndToAddressField, AddressFieldTooShort, FrameTooShort, TooManyRepeaters}
+use Rattle.grammar.specs.Moved.{movedAnswer, movedInfo, moved}
+use Rattle.grammar.proofs.Back.{parsed-drop, entry-drop}
+use Rattle.grammar.proofs.Numbers.{decode-report}
+
+module _ (s : List ℕ) (k : ℕ) where
+  abbrev t : List ℕ
+  t = drop k s
+
+  place-drop : (n i : ℕ) → placeAt s (k + 14) n i ≡ placeAt t 14 n i
+  unfolding placeAt
+  place-drop n i =
+      let at : k + 14 + 7 * i ≡ k + (14 + 7 * i) = omega arith in
+      rw (at, entry-drop s k (14 + 7 * i)) refl
+
+  frame-drop : (n : ℕ) (c : FrameContent) → frameAt s k n c ≡ frameAt t 0 n c
+  unfolding frameAt routeAt
+  frame-drop n c =
+      let z : parsedAt s k ≡ parsedAt t 0 = ap (parsedAt s) (omega arith) ∙ parsed-drop s k 0 in
+      simp (z, parsed-drop s k 7, place-drop n)
+
+  info-drop : (at : ℕ) (c : FrameContent)
+      → (cond (hasInfo c) (k + at + 2) 0 ≡ movedInfo k (cond (hasInfo c) (at + 2) 0))
+      × (cond (hasInfo c) (length s - (k + at + 2)) 0 ≡ cond (hasInfo c) (length t - (at + 2)) 0)
+  info-drop at c =
+      by (hasInfo c)
+      (λ e. rw (e, ne-eqb (at + 2) 0 (λ z. omega (arith, z)), length-drop) (omega arith, omega arith))
+      (λ e. rw e (refl, refl))
+
+  accepted-drop : (n at : ℕ) (c : FrameContent)
+      → acceptedWith (frameAt s k n c) (k + at) (length s) ≡ moved k (length s) (acceptedWith (frameAt t 0 n c) at (length t))
+  unfolding acceptedWith
+  accepted-drop n at c =
+      let i = info-drop at (frameAt t 0 n c .content) in
+      rw (frame-drop n c) (rw (i .0, i .1) refl)
+
+  pub refused-drop : (a : DecodeAnswer) → refusedWith (movedAnswer k (length s) a) ≡ moved k (length s) (refusedWith a)
+  unfolding refusedWith
+  refused-drop a = refl
+
+  content-drop : (n at : ℕ) (a : ContentAnswer) → (a ≡ content.ContentZeroLength → ⊥)
+      → withContent s k n (k + at) a ≡ moved k (length s) (withContent t 0 n at a)
+  unfolding withContent
+  content-drop n at (content.Accepted c) z = accepted-drop n at c
+  content-drop n at content.ContentZeroLength z = absurd (z refl)
+  content-drop n at content.MissingPidField z = refused-drop _
+  content-drop n at content.UnrecognisedSFieldType z = refused-drop _
+  content-drop n at content.UnrecognisedUFieldType z = refused-drop _
+  content-drop n at content.WrongSizeFrmrInfo z = refused-drop _
+
+  -- an address field that starts at k is read as the one at the start of what follows k octets
+  pub field-drop : (end : ℕ) → k + end < length s → decodeField s k (k + end) ≡ moved k (length s) (decodeField t 0 end)
+  unfolding decodeField
+  field-drop end h =
+      let l : length t ≡ length s - k = length-drop k s in
+      let span : k + end + 1 - k ≡ end + 1 - 0 = omega arith in
+      let at : k + end + 1 ≡ k + (end + 1) = omega arith in
+      let first : k ≡ k + 0 = omega arith in
+      let whole : eqb (k + (end + 1)) (length s) ≡ eqb (end + 1) (length t) =
+      equal (eqb (k + (end + 1)) (length s)) (eqb (end + 1) (length t))
+      (λ e. eq-eqb (end + 1) (length t) (omega (arith, eqb-true (k + (end + 1)) (length s) e)))
+      (λ e. eq-eqb (k + (end + 1)) (length s) (omega (arith, eqb-true (end + 1) (length t) e))) in
+      rw (span, at, whole, ← drop-drop (end + 1) k s)
+      (by (ltb (end + 1 - 0) 14)
+      (λ a. rw a (ap (λ (n : ℕ). refusedWith (AddressFieldTooShort n (k + end))) first ∙ refused-drop (AddressFieldTooShort 0 end)))
+      (λ a. by (eqb (end + 1) (length t)) (λ b. rw (a, b) (refused-drop (FrameTooShort (length t))))
+      (λ b. by (ltb 8 (repeatersOf 0 end)) (λ c. rw (a, b, c) (refused-drop TooManyRepeaters))
+      (λ c.
+      let rest = length-drop (end + 1) t in
+      rw (a, b, c) (content-drop (repeatersOf 0 end) (end + 1) (contentOf (drop (end + 1) t))
+      (λ z. omega (arith, zero-length (drop (end + 1) t) z, eqb-false (end + 1) (length t) b)))))))
+
+-- octets that start with no null are read without a look for one
+pub decode-at-once : (s : List ℕ) → startOf s ≡ 0
+    → decode s ≡ cond (eqb 0 (length s)) (refusedWith OnlyNullBytes) (cond (eqb (endOf s) (length s)) (refusedWith NoEndToAddressField) (decodeField s 0 (endOf s)))
+unfolding decode
+decode-at-once s e = rw e refl
+
+-- the details of a refusal: the start is 0, and the end stands in the octets
+pub report-inside : (s : List ℕ) → (reportOf (decode s .answer) .start ≡ 0) × (reportOf (decode s .answer) .end ≤ length s)
+unfolding reported
+report-inside s = rw (decode-report s)
+    (let P : Report → Type 0 = λ r. (r .start ≡ 0) × (r .end ≤ length s) in
+    either P (noStart s) (λ _. (refl, omega arith))
+    (λ _. either P (leadingNull s) (λ _. (refl, omega arith))
+    (λ _. either P (noEnd s) (λ _. (refl, omega arith))
+    (λ _. either P (shortField s) (λ _. (refl, first-le (bit 0) s))
+    (λ _. either P (noContent s) (λ _. (refl, omega arith))
+    (λ _. either P (manyRepeaters s) (λ _. (refl, omega arith)) (λ _. (refl, omega arith))))))))
