@@ -1,6 +1,6 @@
 /* AX.25 frames for the relay box: the calls of libax25frame.a, for x86-64.
 
-   Eight calls on octets that the caller lends: five on frames, two on the KISS packets that carry frames to a modem and back, and
+   Nine calls on octets that the caller lends: six on frames, two on the KISS packets that carry frames to a modem and back, and
    one on a serial line, which gives such packets in pieces. Each is proved to give exactly the answer that its contract states,
    for every input, to read and write nothing but what is lent to it, and to return.
 
@@ -33,13 +33,13 @@ extern "C" {
 /* No call uses more stack than this, in octets, its return address included. What memcpy and memset use comes on top. */
 #define AX25_STACK 1024
 
-/* Every number that the component gives. The calls give 0 to 9, 22, 24, 41 to 43 and 51 to 56; the others belong to parts
+/* Every number that the component gives. The calls give 0 to 10, 22, 24, 41 to 43 and 51 to 56; the others belong to parts
    that C does not reach: writing records, text and the dumper. */
 enum ax25_number {
     AX25_ACCEPTED = 0,
 
-    /* Reading a frame. The start is the first nonzero octet, the end is the first octet with its low bit set, the span is
-       end - start + 1. */
+    /* Reading a frame. The end is the first octet with its low bit set, and the span is how many octets there are up to it, itself
+       included. The first of 1, 10, 2, 3, 4, 9 that holds is given, and where none does, the one of 5 to 8 that does. */
     AX25_ONLY_NULL_BYTES = 1,          /* no nonzero octet; the empty input too */
     AX25_NO_END_TO_ADDRESS_FIELD = 2,  /* no octet with its low bit set */
     AX25_ADDRESS_FIELD_TOO_SHORT = 3,  /* the span is below 14 */
@@ -49,6 +49,7 @@ enum ax25_number {
     AX25_UNRECOGNISED_U_FIELD = 7,     /* an unnumbered frame other than SABM, DISC, DM, UA, FRMR, UI */
     AX25_WRONG_SIZE_FRMR_INFO = 8,     /* an FRMR whose content is not four octets */
     AX25_TOO_MANY_REPEATERS = 9,       /* nine or more repeaters */
+    AX25_LEADING_NULL_BYTES = 10,      /* the first octet is zero, and not all are */
 
     /* Writing a frame, printing an address, and our own address when relaying; 24 also of KISS packets and their data. */
     AX25_ROUTE_TOO_LONG = 21,          /* a route count over 8 */
@@ -82,16 +83,25 @@ enum ax25_number {
     AX25_KISS_PORT_TOO_HIGH = 56       /* a port over 11 */
 };
 
-/* Whether the input can be read as a frame: AX25_ACCEPTED, or the first of 1, 2, 3, 4, 9, 5, 6, 7, 8 that holds. */
+/* Whether the input can be read as a frame: AX25_ACCEPTED, or the first of 1, 10, 2, 3, 4, 9, 5, 6, 7, 8 that holds. */
 uint32_t ax25_decode(const uint8_t *in, size_t in_len);
+
+/* The same of a frame from an old capture, one that was taken while the box skipped null octets before a frame: they are skipped here,
+   and the answer is that of ax25_decode for the octets that are left. So AX25_LEADING_NULL_BYTES is never given; an input of nulls
+   alone, and an empty one, is AX25_ONLY_NULL_BYTES; and an input that does not begin with a null is answered as by ax25_decode.
+
+   NOT FOR LIVE TRAFFIC. Nulls before a frame are the sign of a stuck line driver, which AX25_LEADING_NULL_BYTES shows and this call
+   hides. No other call skips them: what this one accepts behind nulls can't be re-encoded or relayed. */
+uint32_t ax25_decode_old_capture(const uint8_t *in, size_t in_len);
 
 /* 1 where the input is canonical, else 0. Canonical means: accepted, and exactly what re-encoding it would give. There is
    one such spelling of each frame. */
 uint32_t ax25_canonical(const uint8_t *in, size_t in_len);
 
 /* THIS IS THE CALL FOR FORWARDING A FRAME; ax25_reencode is not. Where the repeater that is due is our own station, its mark is set
-   in `frame` and the answer is AX25_ACCEPTED. That one bit is all that changes: everything else stays as received, so that the
-   frame_len octets can be sent as they now are. Decoding them gives the same frame with that one mark set.
+   in `frame` and the answer is AX25_ACCEPTED. That one bit, the highest of frame[20 + 7 * due place], is all that changes: everything
+   else stays as received, so that the frame_len octets can be sent as they now are. Decoding them gives the same frame with that one
+   mark set.
 
    Our own station is `callsign`, 0 to 6 octets below 128, and `ssid`, 0 to 15. The octets are taken as they are, lower case too,
    and padded with spaces to six. The due place, counted from 0, is the first repeater that is not marked, or the number of
@@ -115,7 +125,6 @@ size_t ax25_reencoded_length(const uint8_t *in, size_t in_len);
 
    RE-ENCODED FRAMES ARE NOT FOR FORWARDING. A relay that sends what it re-encoded changes the frame. Forward the octets that were
    received, by ax25_relay. Re-encoding
-   - drops null octets before the frame,
    - drops octets left over between the last whole address and the end of the address field,
    - writes an absent command/response mark (both bits equal) as Command,
    - drops the octets after the control octet of RR, RNR, REJ, SABM, DISC, DM and UA frames,

@@ -70,6 +70,9 @@ def alike():
     for route in ('HILL5-1*,HILL6-1,HILL1-2*', 'HILL6-1,HILL1-2*', 'HILL2-2,HILL5-1*,HILL1-2', EARLIER[:-2] + ',HILL1-2*'):
         yield Case(spelled(route), 43)
     yield Case(spelled('HILL1-2,HILL2-1' + LATER), 9)
+    # Nulls before a frame make other addresses of it, in which HILL1-2 is not due.
+    for nulls in (1, 7):
+        yield Case(bytes(nulls) + spelled('HILL1-2'), 10)
 
 
 def both(octets):
@@ -83,8 +86,9 @@ def otherwise():
         yield Case(spelled(f'{before}HILL1-2{after}'), 43, 'D1', both(spelled(f'{before}HILL1-2*{after}')))
     for content in (b'\x03\x20', b'\x13\xF0', b'\x00\xF0', b'\x01'):
         yield Case(spelled('HILL1-2', content), 0, 'D2', {'APRS': None})
+    # Nulls in the place of the first character, and of the whole first address.
     for nulls in (1, 7):
-        yield Case(bytes(nulls) + spelled('HILL1-2'), 0, 'D3', both(None), bytes(nulls) + spelled('HILL1-2*'))
+        yield Case(bytes(nulls) + spelled('HILL1-2')[nulls:], 10, 'D3', both(bytes(nulls) + spelled('HILL1-2*')[nulls:]))
     yield Case(spelled('HILL1-2,HILL2-1')[:21] + b'\x01' + UI, 0, 'D4', both(None), spelled('HILL1-2*,HILL2-1')[:21] + b'\x01' + UI)
     for content, number in ((b'\x0D', 6), (b'', 4), (b'\x03', 5), (b'\x00', 5), (b'\x6F', 7), (b'\xAF', 7), (b'\xE3', 7),
                             (b'\x87\x01', 8)):

@@ -8,7 +8,7 @@ usage: outside.py make DIR           writes the frames: each alone as DIR/frames
        outside.py tshark DIR         compares these two with DIR/tshark, what tshark printed (PDML)
        outside.py decode_aprs DIR    compares them with DIR/decode_aprs, what direwolf's decode_aprs printed
 
-A1, A2 and so on are entries of docs/DIFFERENCES.md."""
+A2, B1 and so on are entries of docs/DIFFERENCES.md."""
 import collections
 import pathlib
 import re
@@ -151,11 +151,10 @@ def make(folder):
 
 class Layout:
     def __init__(self, octets):
-        start = next((place for place, octet in enumerate(octets) if octet), len(octets))
         end = next((place for place, octet in enumerate(octets) if octet & 1), None)
-        span = 0 if end is None else end - start + 1
-        self.octets, self.nulls = octets, start
-        self.groups = [octets[start + 7 * place:start + 7 * place + 7] for place in range(span // 7)]
+        span = 0 if end is None else end + 1
+        self.octets, self.leading_null = octets, octets[:1] == b'\0'
+        self.groups = [octets[7 * place:7 * place + 7] for place in range(span // 7)]
         self.left_over = span % 7 if span >= 14 else 0
         self.content = b'' if end is None else octets[end + 1:]
 
@@ -384,9 +383,7 @@ def readings_by_direwolf(text, frames):
 SILENCE, ANOTHER, REFUSAL = 'silence', 'another', 'refusal'
 ADDRESSES = ('destination', 'source', 'repeaters')
 WHOLE = [
-    (lambda frame: frame.nulls,
-     'leading nulls are skipped by the port alone (A1); decode_aprs takes one for a KISS type'),
-    (lambda frame: frame.left_over,
+    (lambda frame: frame.left_over and not frame.leading_null,
      'octets left over in the address field are ignored by the port alone (A2)'),
 ]
 
@@ -426,6 +423,8 @@ TSHARK = BOTH + [
      'tshark ends a callsign at a space and prints a dot for a character that is not printable (A3)'),
 ]
 DIREWOLF = BOTH + [
+    (REFUSAL, ['accepted'], lambda frame, field: frame.leading_null,
+     'nulls before the frame, which the port refuses (B8): decode_aprs takes the first for a KISS type, and reads what follows it'),
     (REFUSAL, ['accepted'], lambda frame, field: frame.kind() in ('I', 'UI') and not frame.has_pid(),
      'I and UI without a PID: decode_aprs reads a PID of 00'),
     (SILENCE, ['control'], lambda frame, field: True,

@@ -127,6 +127,18 @@ def pairs(part):
     )
 
 
+def nulls(part):
+    """How many frames a stuck line driver may have spoilt, and that both readers were held to what they owe these (document 02, M-108)."""
+    frames = sum(capture["frames"] for capture in part["captures"])
+    if part["leading_nulls"] == 0:
+        return f"None of {frames} frames had leading nulls."
+    if part["mismatches"]:
+        outcome = "what the decoder and the entry for old captures make of them was compared, and something above differs"
+    else:
+        outcome = "the decoder refuses them by 10, and the entry for old captures reads them as the Rust does"
+    return f"{part['leading_nulls']} of {frames} frames had leading nulls: {outcome}."
+
+
 def rooms(part):
     return "Room lent to writers: " + ", ".join(f"{name} {count} times" for name, count in part["rooms"].items()) + "."
 
@@ -153,7 +165,7 @@ def markdown(report):
         part = report["captures"]
         rows = [(c["file"], c["format"], c["frames"], c["packets"], len(c["passed_over"])) for c in part["captures"]]
         out += table(["file", "format", "frames", "KISS packets", "passed over"], rows)
-        out += ["", f"{part['decodes']} decodes and {part['writes']} writes compared; {part['accepted']} accepted, {part['canonical']} of them canonical. " + relays(part) + " " + pairs(part) + " " + packets(part) + " " + streams(part) + " " + listed(part), ""]
+        out += ["", f"{part['decodes']} decodes and {part['writes']} writes compared; {part['accepted']} accepted, {part['canonical']} of them canonical. " + nulls(part) + " " + relays(part) + " " + pairs(part) + " " + packets(part) + " " + streams(part) + " " + listed(part), ""]
     else:
         out += ["Not compared.", ""]
     out += ["## The Rust beside the port", ""]

@@ -1,4 +1,4 @@
-/* The eight calls: those on frames on document 01's examples, on every octet string of length 0 to 2, and on random, damaged and
+/* The nine calls: those on frames on document 01's examples, on every octet string of length 0 to 2, and on random, damaged and
    long frames; the relay, KISS packets and a serial line by relays.c, kiss.c and stream.c.
    usage: calls [THOUSANDS [SEED]]: that many thousand random inputs */
 #include <stdio.h>
@@ -18,31 +18,38 @@
 /* Document 01's example frame, and its 14 address octets. */
 #define ADDRESS GAUGE "E0 " BOX12 "67 "
 #define FRAME ADDRESS "03 F0 4F 4B"
-/* The address octets with the repeater HILL1-2. */
+/* 13 octets of them, which is one too few. */
+#define SHORT GAUGE "E0 84 9E B0 62 64 41 "
+/* The address octets with the repeater HILL1-2, and three of it. */
 #define ROUTED GAUGE "E0 " BOX12 "66 " HILL1 "65 "
+#define THREE HILL1 "64 " HILL1 "64 " HILL1 "64 "
 
-/* A canonical frame, which re-encodes as itself. */
-#define CANONICAL_FRAME(name, octets) {name, octets, 0, 1, octets}
+/* A canonical frame, which re-encodes as itself; another, and what it re-encodes as; an input that is refused; and one that is refused
+   because of its nulls, and what it is as an old capture. */
+#define CANONICAL_FRAME(name, octets) {name, octets, 0, 0, 1, octets}
+#define OTHER_FRAME(name, octets, reencoded) {name, octets, 0, 0, 0, reencoded}
+#define REFUSED_INPUT(name, octets, number) {name, octets, number, number, 0, ""}
+#define BEHIND_NULLS(name, octets, old) {name, octets, 10, old, 0, ""}
 
-/* P1 to P13: what document 01 says of each, and document 02 (M-105) of P13; then reserved bits, bit 6 first, as document 02 has them
-   (M-106). Worked out by hand. */
+/* P1 to P13: what document 01 says of each, and document 02 of P13 (M-105) and of P6 (M-108); then reserved bits, bit 6 first, as
+   document 02 has them (M-106), and nulls (M-108). Worked out by hand. */
 static const struct {
     const char *name, *input;
-    unsigned number, canonical;
+    unsigned number, old, canonical;
     const char *reencoded;
 } examples[] = {
-    {"P1", "", 1, 0, ""},
-    {"P2", "8E 82", 2, 0, ""},
-    {"P3", "8E 82 AA 8E 8A 40 E0 84 9E B0 62 64 41", 3, 0, ""},
-    {"P4", ADDRESS, 4, 0, ""},
-    {"P5", FRAME, 0, 1, FRAME},
-    {"P6", "00 " FRAME, 0, 0, FRAME},
-    {"P7", ADDRESS "03", 5, 0, ""},
-    {"P8", ADDRESS "0D", 6, 0, ""},
-    {"P9", ADDRESS "6F", 7, 0, ""},
-    {"P10", ADDRESS "87 01 02", 8, 0, ""},
-    {"P11", ADDRESS "87 F1 03 44", 0, 0, ADDRESS "87 01 02 44"},
-    {"P12", ADDRESS "01 AA", 0, 0, ADDRESS "01"},
+    REFUSED_INPUT("P1", "", 1),
+    REFUSED_INPUT("P2", "8E 82", 2),
+    REFUSED_INPUT("P3", SHORT, 3),
+    REFUSED_INPUT("P4", ADDRESS, 4),
+    CANONICAL_FRAME("P5", FRAME),
+    BEHIND_NULLS("P6", "00 " FRAME, 0),
+    REFUSED_INPUT("P7", ADDRESS "03", 5),
+    REFUSED_INPUT("P8", ADDRESS "0D", 6),
+    REFUSED_INPUT("P9", ADDRESS "6F", 7),
+    REFUSED_INPUT("P10", ADDRESS "87 01 02", 8),
+    OTHER_FRAME("P11", ADDRESS "87 F1 03 44", ADDRESS "87 01 02 44"),
+    OTHER_FRAME("P12", ADDRESS "01 AA", ADDRESS "01"),
     CANONICAL_FRAME("P13", ADDRESS "03 20"),
     CANONICAL_FRAME("reserved bits 11 in every address", ROUTED "03 F0 4F 4B"),
     CANONICAL_FRAME("reserved bits 10 in the destination", GAUGE "C0 " BOX12 "66 " HILL1 "65 03 F0 4F 4B"),
@@ -56,27 +63,42 @@ static const struct {
     CANONICAL_FRAME("reserved bits 00 in the repeater", GAUGE "E0 " BOX12 "66 " HILL1 "05 03 F0 4F 4B"),
     CANONICAL_FRAME("reserved bits 01, 10 and 00, as Response", GAUGE "20 " BOX12 "C6 " HILL1 "85 01"),
     CANONICAL_FRAME("reserved bits 00 beside SSID 15, and 11 beside SSID 0", GAUGE "9E " BOX12 "61 3F"),
-    {"reserved bits 01 and 10 stay, both marks clear", GAUGE "20 " BOX12 "47 03 F0", 0, 0, GAUGE "A0 " BOX12 "47 03 F0"},
-    {"reserved bits 00, 01 and 10 stay, both marks set", GAUGE "80 " BOX12 "A6 " HILL1 "C5 01", 0, 0,
-     GAUGE "80 " BOX12 "26 " HILL1 "C5 01"},
-    {"reserved bits 10 and 00 stay, a tail does not", GAUGE "C0 " BOX12 "07 01 AA", 0, 0, GAUGE "C0 " BOX12 "07 01"},
-    {"reserved bits 00, 10 and 01 stay, FRMR's unnamed bits do not", GAUGE "00 " BOX12 "C6 " HILL1 "25 87 F1 03 44", 0, 0,
-     GAUGE "00 " BOX12 "C6 " HILL1 "25 87 01 02 44"},
-    {"reserved bits 01 and 00 stay, nulls and a leftover octet do not", "00 00 " GAUGE "A0 " BOX12 "06 61 01", 0, 0,
-     GAUGE "A0 " BOX12 "07 01"},
+    OTHER_FRAME("reserved bits 01 and 10 stay, both marks clear", GAUGE "20 " BOX12 "47 03 F0", GAUGE "A0 " BOX12 "47 03 F0"),
+    OTHER_FRAME("reserved bits 00, 01 and 10 stay, both marks set", GAUGE "80 " BOX12 "A6 " HILL1 "C5 01",
+                GAUGE "80 " BOX12 "26 " HILL1 "C5 01"),
+    OTHER_FRAME("reserved bits 10 and 00 stay, a tail does not", GAUGE "C0 " BOX12 "07 01 AA", GAUGE "C0 " BOX12 "07 01"),
+    OTHER_FRAME("reserved bits 00, 10 and 01 stay, FRMR's unnamed bits do not", GAUGE "00 " BOX12 "C6 " HILL1 "25 87 F1 03 44",
+                GAUGE "00 " BOX12 "C6 " HILL1 "25 87 01 02 44"),
+    OTHER_FRAME("reserved bits 01 and 00 stay, a leftover octet does not", GAUGE "A0 " BOX12 "06 61 01", GAUGE "A0 " BOX12 "07 01"),
+    REFUSED_INPUT("one null", "00", 1),
+    REFUSED_INPUT("two nulls", "00 00", 1),
+    BEHIND_NULLS("a null and 02", "00 02", 2),
+    BEHIND_NULLS("a null and 01", "00 01", 3),
+    BEHIND_NULLS("a null before P2", "00 8E 82", 2),
+    BEHIND_NULLS("a null before P3, which makes 14 octets up to the end, and content", "00 " SHORT "01", 3),
+    BEHIND_NULLS("a null before P4", "00 " ADDRESS, 4),
+    BEHIND_NULLS("a null before P7", "00 " ADDRESS "03", 5),
+    BEHIND_NULLS("a null before P8", "00 " ADDRESS "0D", 6),
+    BEHIND_NULLS("a null before P9", "00 " ADDRESS "6F", 7),
+    BEHIND_NULLS("a null before P10", "00 " ADDRESS "87 01 02", 8),
+    BEHIND_NULLS("a null before nine repeaters", "00 " GAUGE "E0 " BOX12 "66 " THREE THREE HILL1 "64 " HILL1 "64 " HILL1 "65 01", 9),
+    BEHIND_NULLS("a null before P12, a tail behind it", "00 " ADDRESS "01 AA", 0),
+    BEHIND_NULLS("seven nulls before P5, as many as an address has octets", "00 00 00 00 00 00 00 " FRAME, 0),
+    BEHIND_NULLS("a null in the place of the first character", "00 82 AA 8E 8A 40 E0 " BOX12 "67 01", 3),
+    CANONICAL_FRAME("nulls that are not the first octet", "8E 00 00 00 00 00 E0 00 00 00 00 00 00 61 00 00 00"),
 };
 
 static int same_answer(const struct answer *a, const struct answer *b) {
-    return a->number == b->number && a->canonical == b->canonical && a->length == b->length &&
+    return a->number == b->number && a->old == b->old && a->canonical == b->canonical && a->length == b->length &&
            memcmp(a->reencoded, b->reencoded, a->length) == 0;
 }
 
 static void run_examples(void) {
-    uint8_t in[64], out[64];
+    uint8_t in[128], out[128];
     int modelled = 1;
     for (size_t i = 0; i < sizeof examples / sizeof *examples; i++) {
         size_t len = from_hex(examples[i].input, in);
-        struct answer want = {examples[i].number, examples[i].canonical, from_hex(examples[i].reencoded, out), out};
+        struct answer want = {examples[i].number, examples[i].old, examples[i].canonical, from_hex(examples[i].reencoded, out), out};
         set_begin(examples[i].name);
         examine_everywhere(in, len, &want);
         set_end_brief();
@@ -84,6 +106,23 @@ static void run_examples(void) {
         modelled = modelled && same_answer(&want, &other);
     }
     say(modelled, "the model that random inputs are held to gives the examples");
+}
+
+/* The octets behind so many nulls, for which they have room: 10, unless they are nulls themselves, whatever they are without; as an old
+   capture they are what they were. */
+static void examine_behind(uint8_t *in, size_t len, size_t nulls, unsigned old) {
+    memmove(in + nulls, in, len);
+    memset(in, 0, nulls);
+    struct answer want = {old == 1 ? 1 : 10, old, 0, 0, in};
+    examine_everywhere(in, nulls + len, &want);
+}
+
+static void run_nulls(void) {
+    uint8_t in[128];
+    set_begin("each of these behind 1 to 20 nulls");
+    for (size_t i = 0; i < sizeof examples / sizeof *examples; i++)
+        for (size_t nulls = 1; nulls <= 20; nulls++) examine_behind(in, from_hex(examples[i].input, in), nulls, examples[i].old);
+    set_end();
 }
 
 /* A frame whose address field spans `span` octets, with the content `01` (RR) or none. */
@@ -95,15 +134,16 @@ static size_t spanning(uint8_t *in, size_t span, int content) {
     return span + (content ? 1 : 0);
 }
 
-/* Document 01 on spans: 76 is eight repeaters, 77 is 9, 15 to 20 are none, below 14 is 3; nothing after the end is 4 before 9. */
+/* Document 01 on spans: 76 is eight repeaters, 77 is 9, 15 to 20 are none, below 14 is 3; nothing after the end is 4 before 9. Nulls are
+   no part of a span: an old capture has that of the frame behind them. */
 static void run_spans(void) {
     uint8_t in[128], out[128];
-    set_begin("spans 1 to 90");
+    set_begin("spans 1 to 90, and behind nulls");
     for (size_t span = 1; span <= 90; span++) {
         for (int content = 0; content < 2; content++) {
             size_t len = spanning(in, span, content);
             size_t repeaters = span < 14 ? 0 : (span - 14) / 7;
-            struct answer want = {0, 0, 0, out};
+            struct answer want = {0, 0, 0, 0, out};
             if (span < 14) want.number = 3;
             else if (!content) want.number = 4;
             else if (span >= 77) want.number = 9;
@@ -111,7 +151,9 @@ static void run_spans(void) {
                 want.length = spanning(out, 14 + 7 * repeaters, 1);
                 want.canonical = span == 14 + 7 * repeaters;
             }
+            want.old = want.number;
             examine_everywhere(in, len, &want);
+            examine_behind(in, len, 1 + span % 14, want.old);
         }
     }
     set_end();
@@ -123,6 +165,7 @@ static void run_empty(void) {
     uint8_t out[4] = {1, 2, 3, 4}, frame[32];
     size_t len = from_hex(FRAME, frame);
     say(ax25_decode(nowhere, 0) == 1, "ax25_decode of nothing at a pointer that leads nowhere is 1");
+    say(ax25_decode_old_capture(nowhere, 0) == 1, "ax25_decode_old_capture of nothing at a pointer that leads nowhere is 1");
     say(ax25_canonical(nowhere, 0) == 0, "ax25_canonical of nothing at a pointer that leads nowhere is 0");
     say(ax25_reencoded_length(nowhere, 0) == 0, "ax25_reencoded_length of nothing at a pointer that leads nowhere is 0");
     say(ax25_reencode(nowhere, 0, out, sizeof out) == 1 && memcmp(out, "\1\2\3\4", 4) == 0,
@@ -155,7 +198,7 @@ static void run_pids(void) {
     static const uint8_t controls[] = {0x00, 0x10, 0x03, 0x13};
     uint8_t in[64];
     size_t control = from_hex(ROUTED, in), len = control + from_hex("00 00 4F 4B", in + control);
-    struct answer want = {0, 1, len, in};
+    struct answer want = {0, 0, 1, len, in};
     set_begin("every PID in I and UI, P/F clear and set");
     for (size_t i = 0; i < sizeof controls; i++) {
         in[control] = controls[i];
@@ -172,7 +215,7 @@ static void run_pids(void) {
 static void run_seventh_octets(void) {
     uint8_t in[80];
     size_t len = spanning(in, 70, 1);
-    struct answer want = {0, 1, len, in};
+    struct answer want = {0, 0, 1, len, in};
     for (size_t i = 0; i < 10; i++) in[7 * i + 6] ^= (uint8_t)(i % 4 << 5);
     set_begin("every SSID with every setting of the reserved bits, in each of ten addresses");
     for (size_t at = 6; at < 70; at += 7) {
@@ -231,7 +274,7 @@ static size_t random_content(uint8_t *out) {
     size_t len = 0;
     out[len++] = (uint8_t)control;
     int has_pid = (control & 1) == 0 || (control & 0xEF) == 0x03;
-    if (has_pid && !one_in(12)) out[len++] = one_in(3) ? (uint8_t)below(256) : known_pids[below(sizeof known_pids)];
+    if (has_pid && !one_in(8)) out[len++] = one_in(3) ? (uint8_t)below(256) : known_pids[below(sizeof known_pids)];
     if ((control & 0xEF) == 0x87 && !one_in(4)) {
         out[len++] = (uint8_t)(one_in(2) ? below(256) : below(16));
         out[len++] = (uint8_t)(one_in(2) ? below(256) : below(128) << 1);
@@ -245,7 +288,7 @@ static size_t random_content(uint8_t *out) {
 /* A frame that is near to a good one: sometimes with nulls before it, octets left over, too many repeaters. */
 static size_t random_frame(uint8_t *out) {
     size_t len = 0;
-    if (one_in(8)) for (size_t n = below(20); n > 0; n--) out[len++] = 0;
+    if (one_in(4)) for (size_t n = 1 + below(20); n > 0; n--) out[len++] = 0;
     size_t groups = 2 + (one_in(3) ? 0 : below(one_in(6) ? 12 : 9));
     size_t at = len;
     for (size_t n = groups; n > 0; n--) len += random_group(out + len);
@@ -271,7 +314,8 @@ static size_t random_octets(uint8_t *out) {
     return len;
 }
 
-static unsigned long seen[10], seen_canonical, seen_rewritten, seen_clear;
+enum { NUMBERS = 11 }; /* decoding gives 0 to 10 */
+static unsigned long seen[NUMBERS], seen_behind[NUMBERS], seen_canonical, seen_rewritten, seen_clear;
 
 /* Whether some address of a canonical frame has a reserved bit that is clear. */
 static int has_clear_bit(const uint8_t *frame) {
@@ -283,10 +327,22 @@ static int has_clear_bit(const uint8_t *frame) {
 static void examine_one(const uint8_t *in, size_t len) {
     struct answer want = model(in, len);
     seen[want.number]++;
+    seen_behind[want.old] += model_nulls(in, len) > 0; /* by the number of what follows the nulls */
     seen_canonical += want.canonical;
     seen_clear += want.canonical && has_clear_bit(in);
     seen_rewritten += want.number == 0 && !want.canonical;
     examine(in, len, &want, below(3));
+}
+
+/* Prints how often each number up to the last was met; gives whether each was, so often or more. */
+static int print_met(const char *what, const unsigned long *met, int last, unsigned long least) {
+    int all = 1;
+    printf("  %s:", what);
+    for (int n = 0; n <= last; n++) {
+        printf(" %d: %lu%s", n, met[n], n < last ? "," : "\n");
+        all = all && met[n] >= least;
+    }
+    return all;
 }
 
 static void run_random(unsigned long thousands, uint64_t seed) {
@@ -314,15 +370,12 @@ static void run_random(unsigned long thousands, uint64_t seed) {
     }
     set_end();
 
-    int all = 1;
-    printf("  of these, by number:");
-    for (int n = 0; n < 10; n++) {
-        printf(" %d: %lu%s", n, seen[n], n < 9 ? "," : "");
-        all = all && seen[n] >= thousands;
-    }
-    printf("; canonical: %lu, with a reserved bit clear: %lu; accepted and not canonical: %lu\n", seen_canonical, seen_clear,
+    int all = print_met("of these, by number", seen, 10, thousands);
+    printf("  canonical: %lu, with a reserved bit clear: %lu; accepted and not canonical: %lu\n", seen_canonical, seen_clear,
            seen_rewritten);
     say(all && seen_canonical >= thousands && seen_rewritten >= thousands, "one random input in a thousand or more reaches each number of decoding, canonical or not");
+    say(print_met("of those behind nulls, by number as an old capture", seen_behind, 9, (thousands + 1) / 2),
+        "and one in two thousand or more has nulls before each number that an old capture can have");
     say(seen_clear >= thousands && seen_canonical - seen_clear >= thousands,
         "and one in a thousand or more is canonical with a reserved bit clear, and with all of them set");
 }
@@ -364,6 +417,7 @@ int main(int argc, char **argv) {
     uint64_t seed = argc > 2 ? strtoull(argv[2], NULL, 0) : 0xA25;
     examine_begin();
     run_examples();
+    run_nulls();
     run_spans();
     run_empty();
     run_short();

@@ -63,6 +63,13 @@ static void look_at_agreement(const struct lent *in, unsigned number, unsigned c
     look(AGREE, ax25_reencoded_length(out.at, length) == length, length, ax25_reencoded_length(out.at, length));
 }
 
+/* An old capture is answered as what follows its nulls is; so where it has none, as any other input. */
+static void look_at_nulls(const struct lent *in, unsigned number, unsigned old) {
+    size_t nulls = model_nulls(in->at, in->len);
+    unsigned rest = nulls == 0 ? number : ax25_decode(in->at + nulls, in->len - nulls);
+    look(AGREE, old == rest, rest, old);
+}
+
 /* Decoding a relayed frame gives the same frame with that one mark set: its re-encoding has it too, and is else as before. */
 static void look_at_relayed(const uint8_t *before, const uint8_t *after, size_t len, size_t due) {
     static uint8_t wanted[LONGEST], got[LONGEST];
@@ -147,6 +154,9 @@ void examine(const uint8_t *octets, size_t len, const struct answer *want, unsig
     unsigned number = ax25_decode(in.at, len);
     look(NUMBER, number == want->number, want->number, number);
     look_at_lent(&in, octets, NULL);
+    unsigned old = ax25_decode_old_capture(in.at, len);
+    look(OLD, old == want->old, want->old, old);
+    look_at_lent(&in, octets, NULL);
     unsigned canonical = ax25_canonical(in.at, len);
     look(CANONICAL, canonical == want->canonical, want->canonical, canonical);
     look_at_lent(&in, octets, NULL);
@@ -164,6 +174,7 @@ void examine(const uint8_t *octets, size_t len, const struct answer *want, unsig
         reencode_with(&in, octets, want, place, exact / 2);
     }
     look_at_agreement(&in, number, canonical, length);
+    look_at_nulls(&in, number, old);
     relay_by_stations(octets, len, place);
 }
 

@@ -1,4 +1,4 @@
-/* All that the five calls on frames owe on one input, looked at. */
+/* All that the six calls on frames owe on one input, looked at. */
 #ifndef EXAMINE_H
 #define EXAMINE_H
 

@@ -10,7 +10,9 @@ int main() {
     uint8_t routed[] = {0x8E, 0x82, 0xAA, 0x8E, 0x8A, 0x40, 0xE0, 0x84, 0x9E, 0xB0, 0x62, 0x64, 0x40, 0x66,
                         0x90, 0x92, 0x98, 0x98, 0x62, 0x40, 0x65, 0x01};
     const uint8_t hill[] = {'H', 'I', 'L', 'L', '1'};
-    bool held = ax25_decode(frame, sizeof frame) == AX25_ACCEPTED && ax25_canonical(frame, sizeof frame) == 0 &&
+    const uint8_t behind[] = {0x00, 0x02};
+    bool held = ax25_decode(frame, sizeof frame) == AX25_ACCEPTED && ax25_decode(behind, sizeof behind) == AX25_LEADING_NULL_BYTES &&
+                ax25_decode_old_capture(behind, sizeof behind) == AX25_NO_END_TO_ADDRESS_FIELD && ax25_canonical(frame, sizeof frame) == 0 &&
                 ax25_reencoded_length(frame, sizeof frame) == 15 && ax25_reencode(frame, sizeof frame, out, 15) == AX25_ACCEPTED &&
                 ax25_reencode(frame, sizeof frame, out, 14) == AX25_NO_ROOM && out[14] == 0x01 && out[15] == 0 &&
                 ax25_relay(hill, sizeof hill, 2, routed, sizeof routed) == AX25_ACCEPTED && routed[20] == 0xE5 &&

@@ -11,7 +11,6 @@ struct station {
 };
 
 struct fields {
-    size_t start;                           /* of the frame in the input */
     struct station destination, source, repeaters[8];
     size_t repeater_count;
     enum mark mark;
@@ -86,26 +85,37 @@ static unsigned read_content(struct fields *f, const uint8_t *content, size_t le
     }
 }
 
+size_t model_nulls(const uint8_t *in, size_t len) {
+    size_t nulls = 0;
+    while (nulls < len && in[nulls] == 0) nulls++;
+    return nulls;
+}
+
 static unsigned read_frame(struct fields *f, const uint8_t *in, size_t len) {
-    size_t start = 0, end = 0;
-    while (start < len && in[start] == 0) start++;
-    if (start == len) return 1;
+    size_t nulls = model_nulls(in, len), end = 0;
+    if (nulls == len) return 1;
+    if (nulls > 0) return 10;
     while (end < len && bit(in[end], 0) == 0) end++;
     if (end == len) return 2;
-    size_t span = end - start + 1;
+    size_t span = end + 1;
     if (span < 14) return 3;
     if (end + 1 == len) return 4;
     size_t count = (span - 14) / 7;
     if (count >= 9) return 9;
 
-    f->start = start;
-    f->destination = read_station(in + start);
-    f->source = read_station(in + start + 7);
+    f->destination = read_station(in);
+    f->source = read_station(in + 7);
     f->repeater_count = count;
-    for (size_t i = 0; i < count; i++) f->repeaters[i] = read_station(in + start + 14 + 7 * i);
+    for (size_t i = 0; i < count; i++) f->repeaters[i] = read_station(in + 14 + 7 * i);
     if (f->destination.mark == f->source.mark) f->mark = ABSENT;
     else f->mark = f->destination.mark ? COMMAND : RESPONSE;
     return read_content(f, in + end + 1, len - end - 1);
+}
+
+/* An old capture: what follows its nulls is read. */
+static unsigned read_old(struct fields *f, const uint8_t *in, size_t len) {
+    size_t nulls = model_nulls(in, len);
+    return read_frame(f, in + nulls, len - nulls);
 }
 
 static uint8_t written[LONGEST];
@@ -154,10 +164,11 @@ static void write_frame(const struct fields *f) {
 }
 
 struct answer model(const uint8_t *in, size_t len) {
-    struct fields f;
-    struct answer a = {0, 0, 0, written};
+    struct fields f, behind;
+    struct answer a = {0, 0, 0, 0, written};
     memset(&f, 0, sizeof f);
     a.number = read_frame(&f, in, len);
+    a.old = read_old(&behind, in, len);
     if (a.number != 0) return a;
     write_frame(&f);
     a.length = written_len;
@@ -203,7 +214,7 @@ struct relayed model_relay(const struct address *own, const uint8_t *in, size_t 
     else if (!is_ours(own, &f.repeaters[due])) r.number = 42;
     else {
         r.due = due;
-        out[f.start + 7 * (2 + due) + 6] |= 0x80;
+        out[14 + 7 * due + 6] |= 0x80;
     }
     return r;
 }
@@ -211,7 +222,7 @@ struct relayed model_relay(const struct address *own, const uint8_t *in, size_t 
 uint8_t model_station(const uint8_t *in, size_t len, uint8_t callsign[6]) {
     struct fields f;
     memset(&f, 0, sizeof f);
-    read_frame(&f, in, len);
+    read_old(&f, in, len);
     size_t due = due_place(&f);
     const struct station *s = due < f.repeater_count ? &f.repeaters[due] : due > 0 ? &f.repeaters[due - 1] : &f.source;
     memcpy(callsign, s->callsign, 6);

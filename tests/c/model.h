@@ -1,5 +1,5 @@
-/* Document 01's rules of reading and writing, with document 02's of the layer 3 PID (M-105) and of the reserved bits (M-106), and
-   document 02's of relaying, written once more in C from their words: what the calls must say of any octets. */
+/* Document 01's rules of reading and writing, with document 02's of the layer 3 PID (M-105), of the reserved bits (M-106) and of leading
+   nulls (M-108), and document 02's of relaying, written once more in C from their words: what the calls must say of any octets. */
 #ifndef MODEL_H
 #define MODEL_H
 
@@ -10,10 +10,14 @@
 
 struct answer {
     unsigned number;          /* what decoding gives */
+    unsigned old;             /* what decoding an old capture gives */
     unsigned canonical;       /* 1 or 0 */
     size_t length;            /* of the re-encoding; 0 where refused */
     const uint8_t *reencoded; /* those octets */
 };
+
+/* How many nulls there are before the first octet that is none, or in all. */
+size_t model_nulls(const uint8_t *in, size_t len);
 
 /* The answer for any octets up to LONGEST. What `reencoded` points to holds until the next call. */
 struct answer model(const uint8_t *in, size_t len);
@@ -35,7 +39,7 @@ struct relayed {
 struct relayed model_relay(const struct address *own, const uint8_t *in, size_t len, uint8_t *out);
 
 /* The six characters and, as its result, the SSID of the station to ask for relaying these octets: the one at the due place, or
-   where no place is due the last that sent the frame. */
+   where no place is due the last that sent the frame. Nulls are skipped here: a relay that skipped them too would find that station. */
 uint8_t model_station(const uint8_t *in, size_t len, uint8_t callsign[6]);
 
 #endif

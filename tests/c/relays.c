@@ -15,7 +15,7 @@
 /* The frame that M-102 reports: of three repeaters the first and the third are marked, and the second is not. */
 #define REPORTED PEERS HILL5 "E2 " HILL1 "64 " HILL6 "E3 03 F0"
 
-/* Document 02, M-100, M-102 and M-106: what they say of each, worked out by hand. A refusal leaves the frame as it was. */
+/* Document 02, M-100, M-102, M-106 and M-108: what they say of each, worked out by hand. A refusal leaves the frame as it was. */
 static const struct {
     const char *name, *input, *callsign;
     uint8_t ssid;
@@ -26,7 +26,6 @@ static const struct {
     {"relayed: as the second of two", PEERS HILL2 "E4 " HILL1 "65 01", "HILL1", 2, 0, PEERS HILL2 "E4 " HILL1 "E5 01"},
     {"relayed: as the first of two", PEERS HILL1 "64 " HILL2 "65 01", "HILL1", 2, 0, PEERS HILL1 "E4 " HILL2 "65 01"},
     {"relayed: twice in one route", PEERS HILL1 "64 " HILL1 "65 01", "HILL1", 2, 0, PEERS HILL1 "E4 " HILL1 "65 01"},
-    {"relayed: nulls stay", "00 00 00 " PEERS HILL1 "65 01", "HILL1", 2, 0, "00 00 00 " PEERS HILL1 "E5 01"},
     {"relayed: leftover octets stay", PEERS HILL1 "64 00 41 01", "HILL1", 2, 0, PEERS HILL1 "E4 00 41 01"},
     {"relayed: a tail stays", PEERS HILL1 "65 01 AA 55", "HILL1", 2, 0, PEERS HILL1 "E5 01 AA 55"},
     {"relayed: reserved bits 00 of ours stay", PEERS HILL1 "05 01", "HILL1", 2, 0, PEERS HILL1 "85 01"},
@@ -46,6 +45,15 @@ static const struct {
     {"not relayed: a mark right after ours, which is not set", PEERS HILL1 "64 " HILL2 "E5 01", "HILL1", 2, 43, NULL},
     {"not relayed: a mark two places after another's, which is not set", PEERS HILL2 "64 " HILL1 "64 " HILL2 "E5 01", "HILL1", 2, 43, NULL},
     {"not relayed: nothing", "", "HILL1", 2, 1, NULL},
+    {"not relayed: nulls alone", "00 00 00", "HILL1", 2, 1, NULL},
+    {"not relayed: a null before the frame", "00 " PEERS HILL1 "65 01", "HILL1", 2, 10, NULL},
+    {"not relayed: seven nulls before it", "00 00 00 00 00 00 00 " PEERS HILL1 "65 01", "HILL1", 2, 10, NULL},
+    {"not relayed: a null in the place of the first character", "00 82 AA 8E 8A 40 E0 " BOX12 "66 " HILL1 "65 01", "HILL1", 2, 10, NULL},
+    {"not relayed: a null before no end of the addresses", "00 " PEERS HILL1 "64 02 20", "HILL1", 2, 10, NULL},
+    {"not relayed: a null before SREJ", "00 " PEERS HILL1 "65 0D", "HILL1", 2, 10, NULL},
+    {"not relayed: a null before a frame without a repeater", "00 " GAUGE "E0 " BOX12 "67 03 20", "BOX12", 3, 10, NULL},
+    {"not relayed: a null before broken marks", "00 " REPORTED, "HILL1", 2, 10, NULL},
+    {"not relayed: a null before another station", "00 " PEERS HILL2 "65 01", "HILL1", 2, 10, NULL},
     {"not relayed: no end of the addresses", PEERS HILL1 "64 02 20", "HILL1", 2, 2, NULL},
     {"not relayed: too short an address field", "8E 82 AA 8E 8A 40 E0 84 9E B0 62 64 41 03 20", "HILL1", 2, 3, NULL},
     {"not relayed: no content", PEERS HILL1 "65", "HILL1", 2, 4, NULL},
@@ -180,7 +188,7 @@ static void relay_made(const struct frame *f, size_t who) {
     size_t len = make(f, in);
     struct address own = station(route[who].callsign, route[who].ssid);
     struct frame marked = *f;
-    struct relayed want = {due == f->repeaters ? 41 : marks >> due ? 43 : who == due ? 0 : 42, after, due};
+    struct relayed want = {f->nulls ? 10 : due == f->repeaters ? 41 : marks >> due ? 43 : who == due ? 0 : 42, after, due};
     if (want.number == 0) marked.marks |= 1u << due;
     make(&marked, after);
     struct relayed model_says = model_relay(&own, in, len, modelled);
@@ -214,22 +222,32 @@ static void run_reserved(void) {
     set_end();
 }
 
-/* Nulls, leftover octets, tails and FRMR's unnamed bits, which re-encoding changes; and layer 3 PIDs and reserved bits, which it
-   keeps. */
-static void run_kept(void) {
+/* Frames with so many nulls before them, and what re-encoding changes: leftover octets, tails and FRMR's unnamed bits; and layer 3 PIDs
+   and reserved bits, which it keeps. */
+static void relay_all(size_t nulls) {
     static const char *const contents[] = {"03 20 67", "00 9A", "21", "09 AA 55", "63 00", "3F FF", "87 F1 03 44"};
-    struct frame f;
-    set_begin("what re-encoding changes, and layer 3 PIDs and reserved bits");
+    struct frame f = {nulls, 0, 0, 0, 0, NULL};
     for (f.repeaters = 1; f.repeaters <= 8; f.repeaters += 7)
-        for (f.nulls = 0; f.nulls <= 9; f.nulls += 3)
-            for (f.leftover = 0; f.leftover <= 6; f.leftover++)
-                for (unsigned way = 0; way < SPREADS; way++)
-                    for (size_t i = 0; i < sizeof contents / sizeof *contents; i++) {
-                        f.marks = (1u << (i + f.leftover) % f.repeaters) - 1;
-                        f.reserved = spread(way);
-                        f.content = contents[i];
-                        relay_made(&f, in_order(f.marks));
-                    }
+        for (f.leftover = 0; f.leftover <= 6; f.leftover++)
+            for (unsigned way = 0; way < SPREADS; way++)
+                for (size_t i = 0; i < sizeof contents / sizeof *contents; i++) {
+                    f.marks = (1u << (i + f.leftover) % f.repeaters) - 1;
+                    f.reserved = spread(way);
+                    f.content = contents[i];
+                    relay_made(&f, in_order(f.marks));
+                }
+}
+
+static void run_kept(void) {
+    set_begin("what re-encoding changes, and layer 3 PIDs and reserved bits");
+    relay_all(0);
+    set_end();
+}
+
+/* By the station that would be due if the nulls were skipped. */
+static void run_nulls(void) {
+    set_begin("such frames behind 3, 6 and 9 nulls");
+    for (size_t nulls = 3; nulls <= 9; nulls += 3) relay_all(nulls);
     set_end();
 }
 
@@ -310,7 +328,8 @@ void run_relays(void) {
     run_marks();
     run_reserved();
     run_kept();
-    say(model_agrees, "the model gives what follows from the set of marks, in these three");
+    run_nulls();
+    say(model_agrees, "the model gives what follows from the set of marks, and of nulls, in these four");
     run_lengths();
     run_characters();
     run_ssids();

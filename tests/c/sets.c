@@ -10,6 +10,7 @@
 
 static const char *const names[CHECKS] = {
     "ax25_decode gives the number",
+    "ax25_decode_old_capture gives the number",
     "ax25_canonical gives 1 or 0",
     "ax25_reencoded_length gives the length",
     "ax25_reencode gives the number and the octets",
@@ -21,7 +22,7 @@ static const char *const names[CHECKS] = {
     "a refusal gives port 0 and length 0",
     "guard octets stay",
     "the input, the callsign and the piece stay",
-    "the five calls on frames agree",
+    "the six calls on frames agree",
     "reading and writing undo each other",
     "the plain C gives the same",
     "ax25_kiss_feed takes the piece through a packet's end, else the whole",

@@ -38,9 +38,9 @@ __asm__(".text\n"
         "    retq\n"
         ".size on_stack, . - on_stack\n");
 
-enum call { DECODE, CANONICAL, LENGTH, REENCODE, RELAY, KISS_READ, KISS_WRITE, KISS_FEED, CALLS };
-static const char *const names[CALLS] = {"ax25_decode", "ax25_canonical", "ax25_reencoded_length", "ax25_reencode", "ax25_relay",
-                                          "ax25_kiss_read", "ax25_kiss_write", "ax25_kiss_feed"};
+enum call { DECODE, OLD, CANONICAL, LENGTH, REENCODE, RELAY, KISS_READ, KISS_WRITE, KISS_FEED, CALLS };
+static const char *const names[CALLS] = {"ax25_decode", "ax25_decode_old_capture", "ax25_canonical", "ax25_reencoded_length", "ax25_reencode",
+                                          "ax25_relay", "ax25_kiss_read", "ax25_kiss_write", "ax25_kiss_feed"};
 static size_t deepest[CALLS];
 
 static uint8_t in[2064], out[sizeof in], port; /* room for a packet of 1,025 octets, each escaped */
@@ -51,6 +51,7 @@ static struct ax25_kiss_packet packet;
 static uint64_t address_of(enum call call) {
     switch (call) {
     case DECODE: return (uint64_t)(uintptr_t)ax25_decode;
+    case OLD: return (uint64_t)(uintptr_t)ax25_decode_old_capture;
     case CANONICAL: return (uint64_t)(uintptr_t)ax25_canonical;
     case LENGTH: return (uint64_t)(uintptr_t)ax25_reencoded_length;
     case REENCODE: return (uint64_t)(uintptr_t)ax25_reencode;
@@ -149,7 +150,9 @@ int main(void) {
     for (size_t repeaters = 0; repeaters <= 9; repeaters += repeaters == 1 ? 7 : 1)
         for (unsigned control = 0; control < 256; control++)
             for (size_t i = 0; i < sizeof contents / sizeof *contents; i++) {
-                make(control % 3, repeaters, control, contents[i]);
+                make(0, repeaters, control, contents[i]);
+                measure(i % 2 ? sizeof out : 15);
+                make(1 + control % 2, repeaters, control, contents[i]);
                 measure(i % 2 ? sizeof out : 15);
             }
     char line[120];
