@@ -121,6 +121,7 @@ def statements():
         'The layer 3 octet (document 02, M-105)',
         'The reserved bits (document 02, M-106)',
         'Nothing unseen at equal length (document 02, M-107)',
+        'Leading nulls and old captures (document 02, M-108)',
         'Smaller statements that stand for themselves',
     )
     for title in titles:
