@@ -20,7 +20,7 @@ use Rattle.frame.specs.Spell.{repeaterAt, past}
 use Rattle.frame.specs.declared.RouteEntry.{RouteEntry}
 use Rattle.frame.specs.declared.Ax25Frame.{Ax25Frame}
 use Rattle.decode.specs.Answer.{numberOf, isAccepted}
-use Rattle.decode.specs.Read.{startOf, decode}
+use Rattle.decode.specs.Read.{decode}
 use Rattle.decode.specs.declared.Decoded.{Decoded}
 use Rattle.decode.specs.declared.DecodeAnswer.{DecodeAnswer}
 use Rattle.decode.specs.declared.DecodeAnswer.the-variants as read

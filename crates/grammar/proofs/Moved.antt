@@ -20,8 +20,7 @@ use Rattle.parse.proofs.Read.{zero-length}
 use Rattle.decode.specs.Answer.{Report, reportOf, numberOf}
 use Rattle.decode.specs.Numbers.{noStart, leadingNull, noEnd, shortField, noContent, manyRepeaters, reported}
 use Rattle.parse.specs.Numbers.{lacksPid, strangeS, strangeU, wrongFrmr}
-use Rattle.decode.specs.Read.{nonzero, startOf, endOf, parsedAt, entryAt, placeAt, routeAt, frameAt, refusedWith, acceptedWith, withContent, repeatersOf, decodeField, decode}
-use Rattle.decode.specs.declared.Decoded.{Decoded}
+use Rattle.decode.specs.Read.{nonzero, startOf, endOf, parsedAt, placeAt, routeAt, frameAt, refusedWith, acceptedWith, withContent, repeatersOf, decodeField, decode}
 use Rattle.decode.specs.declared.DecodeAnswer.{DecodeAnswer}
 use Rattle.decode.specs.declared.DecodeAnswer.the-variants as read
 use Rattle.decode.proofs.Read.{start-past}

@@ -18,7 +18,7 @@ use Rattle.decode.specs.declared.DecodeAnswer.{DecodeAnswer}
 use Rattle.decode.specs.declared.DecodeAnswer.the-variants as read
 use Rattle.decode.proofs.DecodeAnswer.{the-type}
 use Rattle.decode.proofs.Read.{start-le-end}
-use Rattle.grammar.specs.Moved.{movedAnswer, movedInfo, moved}
+use Rattle.grammar.specs.Moved.{movedAnswer, movedInfo}
 use Rattle.grammar.proofs.Moved.{decode-at-start, ten-past, never-ten, moved-number, refused-drop, field-drop, report-inside}
 use Rattle.grammar.proofs.Plain.{inside}
 use Rattle.grammar.proofs.Refused.{refused-parts}

@@ -1,4 +1,4 @@
-// Searching octets for the start and the end of the address field.
+// Searching octets: for the first that is not null, and for the end of the address field.
 ghost use mathlib.Core.Path.{_≡_};
 ghost use Prim.Native.Nat.{_+_, _≤_};
 ghost use lib.ListN.{length, drop};
@@ -50,7 +50,8 @@ fn by_eights(bytes: &[u8], mask: u8) -> usize
     i
 }
 
-// The place of the first octet in which a bit of the mask is set, or the length: with FF hex the start, with 01 hex the end.
+// The place of the first octet in which a bit of the mask is set, or the length: with FF hex the first that is not null, with 01 hex
+// the end.
 // Every octet is looked at, not every seventh.
 pub fn find(bytes: &[u8], mask: u8) -> usize
     ensures { λ r. ⌜ r ≡ first (masked mask) (now (bytes .entry)) ⌝ }

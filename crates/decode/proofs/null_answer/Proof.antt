@@ -1,5 +1,5 @@
 -- One search, for the first octet that is not null.
-use mathlib.Core.Path.{_≡_, sym, _∙_}
+use mathlib.Core.Path.{_≡_, _∙_}
 use borrow.Author.Tests.{eq-eqb, ne-eqb}
 use Rattle.decode.specs.Read.{startOf}
 use Rattle.decode.proofs.Read.{start-masked}

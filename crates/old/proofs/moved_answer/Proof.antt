@@ -1,5 +1,5 @@
 -- Only 3 and 4 have places.
-use mathlib.Core.Path.{_≡_, refl, ap, sym, _∙_}
+use mathlib.Core.Path.{refl, ap}
 use native.Mathlib.Omega.{arith}
 use Rattle.decode.specs.Answer.{reportOf}
 use Rattle.decode.specs.declared.DecodeAnswer.{DecodeAnswer}
