@@ -1,6 +1,7 @@
 //! Times of the port and the Rust in one process, on the same inputs, in turns. Only their ratios say something, above all
 //! where the program is emulated; no time is asserted.
 
+use crate::check;
 use crate::domain;
 use crate::flat;
 use crate::inputs;
@@ -75,17 +76,25 @@ fn cases() -> Vec<Case> {
     let mut mix = inputs::good_frames();
     mix.extend(all.iter().map(|case| case.inputs[0].clone()));
     all.push(Case { name: "a mix of all kinds", inputs: mix });
+    all.push(case("UI of 18 octets behind 3 nulls", inputs::behind(3, &inputs::FRAME)));
     all
 }
 
 /// Times of the port and of the Rust by input.
 type Call = fn(&[Vec<u8>]) -> [f64; 2];
-const CALLS: [(&str, Call); 5] = [("decode", decode), ("read", read), ("canonical", canonical), ("length", length), ("re-encode", reencode)];
+const CALLS: [(&str, Call); 6] = [
+    ("decode", decode),
+    ("old capture", old_capture),
+    ("read", read),
+    ("canonical", canonical),
+    ("length", length),
+    ("re-encode", reencode),
+];
 
 pub fn run() -> Report {
     let mut report = Report::default();
     let mut rows = Vec::new();
-    println!("{:<30} {:<10} {:>10} {:>10} {:>12}", "input", "call", "port ns", "Rust ns", "Rust / port");
+    println!("{:<30} {:<11} {:>10} {:>10} {:>12}", "input", "call", "port ns", "Rust ns", "Rust / port");
     for case in cases() {
         for (name, call) in CALLS {
             row(&mut rows, case.name, name, call(&case.inputs), &[]);
@@ -103,7 +112,7 @@ pub fn run() -> Report {
 }
 
 fn row(rows: &mut Vec<String>, input: &str, call: &str, [port, rust]: [f64; 2], more: &[(&str, String)]) {
-    println!("{:<30} {:<10} {:>10.1} {:>10.1} {:>12.2}", input, call, port, rust, rust / port);
+    println!("{:<30} {:<11} {:>10.1} {:>10.1} {:>12.2}", input, call, port, rust, rust / port);
     let fields = [
         ("input", report::string(input)),
         ("call", report::string(call)),
@@ -115,7 +124,16 @@ fn row(rows: &mut Vec<String>, input: &str, call: &str, [port, rust]: [f64; 2], 
 }
 
 fn decode(inputs: &[Vec<u8>]) -> [f64; 2] {
-    let port = || inputs.iter().for_each(|input| keep(&bare::decode(input)));
+    beside_from_bytes(inputs, bare::decode)
+}
+
+fn old_capture(inputs: &[Vec<u8>]) -> [f64; 2] {
+    beside_from_bytes(inputs, bare::decode_old_capture)
+}
+
+/// A call that gives a number alone.
+fn beside_from_bytes(inputs: &[Vec<u8>], call: impl Fn(&[u8]) -> u32) -> [f64; 2] {
+    let port = || inputs.iter().for_each(|input| keep(&call(input)));
     let rust = || inputs.iter().for_each(|input| keep(&Ax25Frame::from_bytes(input)));
     race(inputs.len(), [&mut timed(port), &mut timed(rust)])
 }
@@ -198,7 +216,7 @@ struct OnItsWay {
 
 impl OnItsWay {
     fn of(input: &[u8]) -> Option<OnItsWay> {
-        let frame = Ax25Frame::from_bytes(input).ok()?;
+        let frame = check::decoded(input).ok()?;
         let record = flat::of_frame(&frame);
         let [_, _, due] = domain::hops(&record);
         let own = relays::of_route(&frame).into_iter().nth(due)?;
@@ -216,11 +234,11 @@ impl OnItsWay {
 /// calls read records, and the compiler leaves that a function of its own, which is done before the refusal. The row has the
 /// first less the second.
 fn encode(inputs: &[Vec<u8>]) -> Option<[f64; 3]> {
-    let read: Vec<_> = inputs.iter().filter_map(|input| Some((input, Ax25Frame::from_bytes(input).ok()?))).collect();
+    let read: Vec<_> = inputs.iter().filter_map(|input| Some((input, check::decoded(input).ok()?))).collect();
     if read.is_empty() {
         return None;
     }
-    let records: Vec<_> = read.iter().map(|(input, frame)| (oracle::accepted(input, frame).record, flat::info_of(frame).unwrap_or(&[]))).collect();
+    let records: Vec<_> = read.iter().map(|(input, frame)| (oracle::record(input, frame), flat::info_of(frame).unwrap_or(&[]))).collect();
     let mut refused = records.clone();
     refused.iter_mut().for_each(|(record, _)| record[flat::COUNT] = 9);
     let rust = || read.iter().for_each(|(_, frame)| keep(&frame.to_bytes()));

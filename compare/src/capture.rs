@@ -46,6 +46,8 @@ pub fn compare(list: &str) -> Result<(Report, usize), String> {
     println!("frames with the frame and info of an earlier one: {}, neither of the two canonical: {}", desk.again, desk.neither);
     report.extra("frames_again", desk.again.to_string());
     report.extra("neither_canonical", desk.neither.to_string());
+    println!("frames behind leading nulls, refused and read as old captures: {}", checker.seen.old_captures.nulled);
+    report.extra("leading_nulls", checker.seen.old_captures.nulled.to_string());
     report.extra("relayed_routes", checker.seen.relayed_routes.to_string());
     report.extra("captures", report::list(read.captures.iter().map(capture_json)));
     report.extra("refused_captures", report::list(read.refused.iter().map(refused_json)));

@@ -6,9 +6,9 @@ use crate::flat::{self, Flat, FlatAddress, ADDRESS, FLAT, KIND};
 use crate::inputs::{self, FIELD};
 use crate::kiss::{self, FEND, LONGEST};
 use crate::lent::{rooms, Room, Tried, LONGER};
-use crate::oracle::{self, Refusal};
+use crate::oracle::{self, Decode, Refusal};
 use crate::pairs::{Outcome, Way};
-use crate::port::{Beside, Fed, Packet, Port, State, FRESH, HOPS, PLACES};
+use crate::port::{Beside, Entry, Fed, Packet, Port, State, FRESH, HOPS, PLACES};
 use crate::records;
 use crate::relays::{self, Own};
 use crate::rng::Rng;
@@ -134,46 +134,62 @@ impl Checker {
         format!("{} and then, {}, {}", shown(owed), touched, show::hex(rest))
     }
 
-    /// Octets off the air: decoded, written again, and by the loader's calls but the relay.
+    /// Octets off the air: decoded, written again, and by the loader's calls but the relay; and decoded as an old capture.
     pub fn octets(&mut self, input: &[u8]) -> Vec<Difference> {
         let rust = oracle::read(input);
         self.seen.decodes += 1;
-        let field = domain::field(input);
-        if let Some((start, end)) = field {
-            self.seen.searched(input, start, end);
-        }
-        if domain::repeaters_of(field, input.len()) > flat::REPEATERS {
-            self.beyond(input, &rust);
-        } else {
-            match &rust {
-                Ok(frame) => self.accepted(input, frame),
-                Err(refusal) => self.refused(input, *refusal),
-            }
+        self.seen.searched(input);
+        self.listed(input, &rust);
+        let old = oracle::owed_of_old(input, &rust);
+        self.old_capture(input, &old);
+        let owed = oracle::owed(input, old);
+        match (&rust, &owed.record) {
+            (Ok(frame), Some(record)) => self.accepted(input, frame, &owed, record),
+            _ => self.refused(input, &owed),
         }
         self.finish()
     }
 
-    fn accepted(&mut self, input: &[u8], frame: &Ax25Frame) {
-        let owed = oracle::accepted(input, frame);
-        let octets = self.owed_octets(frame, &owed.record);
-        let info = &input[owed.info_start..owed.info_start + owed.info_len];
+    /// Where the port owes another answer than the Rust's, the Rust is held to what docs/DIFFERENCES.md says of it.
+    fn listed(&mut self, input: &[u8], rust: &Result<Ax25Frame, Refusal>) {
+        if domain::repeaters(input) > flat::REPEATERS {
+            self.beyond(input, rust);
+        }
+        if domain::is_nulled(input) {
+            self.behind_nulls(input, rust);
+        }
+    }
+
+    /// The number by both archives, the places and the record.
+    fn old_capture(&mut self, input: &[u8], owed: &Decode) {
+        self.seen.old_captures.capture(input, owed);
+        self.decode(Entry::OldCapture, input, owed);
+        let number = self.port.number(Entry::OldCapture, input);
+        if number != owed.number {
+            self.differ("the loader's call for old captures", || show::number(owed.number), |_| number.to_string());
+        }
+    }
+
+    fn accepted(&mut self, input: &[u8], frame: &Ax25Frame, owed: &Decode, record: &Flat) {
+        let octets = self.owed_octets(frame, record);
+        let info = owed.info(input);
         // That the flat record loses nothing of the Rust's frame, and is read as meant, is about the comparison and not the
         // product: a sample will do.
         if self.seen.decodes % 8 == 0 {
-            self.holds_all(&owed.record, info, frame);
-            self.again(&owed.record, &owed.record);
+            self.holds_all(record, info, frame);
+            self.again(record, record);
         }
-        self.seen.frame(&owed.record, octets == input);
-        self.decode(input, 0, [0, 0, 0, owed.info_start, owed.info_len], &owed.record);
+        self.seen.frame(record, octets == input);
+        self.decode(Entry::Decoder, input, owed);
         self.loader(input, 0, &octets);
         for room in self.rooms(Tried::Some, octets.len()) {
-            self.seen.written(Writer::Reencode, &owed.record, Room::of(room, octets.len()));
+            self.seen.written(Writer::Reencode, record, Room::of(room, octets.len()));
             self.reencode(input, 0, &octets, room);
         }
         self.seen.writes += 1;
         for room in self.rooms(Tried::Some, octets.len()) {
-            self.seen.written(Writer::Read, &owed.record, Room::of(room, octets.len()));
-            self.write_in(Writer::Read, &owed.record, info, 0, &octets, room);
+            self.seen.written(Writer::Read, record, Room::of(room, octets.len()));
+            self.write_in(Writer::Read, record, info, 0, &octets, room);
         }
     }
 
@@ -199,13 +215,13 @@ impl Checker {
         written.octets
     }
 
-    fn refused(&mut self, input: &[u8], refusal: Refusal) {
-        self.seen.refusal(refusal.number);
-        self.decode(input, refusal.number, [refusal.start, refusal.end, refusal.length, 0, 0], &[]);
-        self.loader(input, refusal.number, &[]);
+    fn refused(&mut self, input: &[u8], owed: &Decode) {
+        self.seen.refusal(owed.number);
+        self.decode(Entry::Decoder, input, owed);
+        self.loader(input, owed.number, &[]);
         for room in self.refused_rooms(input) {
-            self.seen.refused_room(refusal.number, room, input.len());
-            self.reencode(input, refusal.number, &[], room);
+            self.seen.refused_room(owed.number, room, input.len());
+            self.reencode(input, owed.number, &[], room);
         }
     }
 
@@ -220,7 +236,7 @@ impl Checker {
         if self.thorough { 0..enough + 1 } else { room..room + 1 }
     }
 
-    /// Nine or more repeaters: the port answers 9; the Rust reads them all and then looks at the content.
+    /// Nine or more repeaters: the port answers 9, or 10 behind nulls; the Rust reads them all and then looks at the content.
     fn beyond(&mut self, input: &[u8], rust: &Result<Ax25Frame, Refusal>) {
         self.seen.listed(Listed::B1);
         let as_listed = match rust {
@@ -231,16 +247,30 @@ impl Checker {
             let owed = || "the Rust reads any number of repeaters".to_string();
             self.differ("B1", owed, |_| format!("the Rust: {:?}", rust));
         }
-        self.refused(input, Refusal { number: 9, start: 0, end: 0, length: 0 });
+    }
+
+    /// Nulls before a frame: the port's decoder answers 10; the Rust reads what follows them, and counts places from the first null.
+    fn behind_nulls(&mut self, input: &[u8], rust: &Result<Ax25Frame, Refusal>) {
+        self.seen.listed(Listed::B8);
+        let nulls = domain::nulls(input);
+        let rest = oracle::read(&input[nulls..]).map_err(|refusal| refusal.behind(nulls));
+        if *rust != rest {
+            let owed = || format!("the Rust skips {} nulls and reads {:?}", nulls, rest);
+            self.differ("B8", owed, |_| format!("the Rust: {:?}", rust));
+        }
     }
 
     /// The number, the places, and the record, which a refusal leaves alone.
-    fn decode(&mut self, input: &[u8], owed: u32, places: [usize; PLACES], record: &[u8]) {
+    fn decode(&mut self, entry: Entry, input: &[u8], owed: &Decode) {
         let (room, sizes) = (self.enough(FLAT), self.enough(PLACES));
-        let number = self.port.decode(input, room, sizes);
-        if number != owed || !self.port.output_is(record) || !self.port.sizes_are(&places) {
-            let owes = || show::decode(owed, &places, &show::left(record));
-            self.differ("decode", owes, |me| show::decode(number, me.port.sizes(), &me.output(FLAT)));
+        let number = self.port.decode(entry, input, room, sizes);
+        if number != owed.number || !self.port.output_is(owed.left()) || !self.port.sizes_are(&owed.places) {
+            let what = match entry {
+                Entry::Decoder => "decode",
+                Entry::OldCapture => "decode, as an old capture",
+            };
+            let owes = || show::decode(owed.number, &owed.places, &show::left(owed.left()));
+            self.differ(what, owes, |me| show::decode(number, me.port.sizes(), &me.output(FLAT)));
         }
     }
 
@@ -248,7 +278,7 @@ impl Checker {
     fn loader(&mut self, input: &[u8], number: u32, octets: &[u8]) {
         let canonical = u32::from(number == 0 && octets == input);
         let owed = (number, canonical, octets.len());
-        let port = (self.port.number(input), self.port.canonical(input), self.port.reencoded_length(input));
+        let port = (self.port.number(Entry::Decoder, input), self.port.canonical(input), self.port.reencoded_length(input));
         if port != owed {
             let say = |(number, canonical, length): (u32, u32, usize)| {
                 format!("number {} canonical {} re-encoded length {}", show::number(number), canonical, length)
@@ -327,7 +357,7 @@ impl Checker {
     }
 
     fn accepted_beside(&mut self, input: &[u8], frame: &Ax25Frame, beside: &Beside) {
-        let (record, info) = (oracle::accepted(input, frame).record, flat::info_of(frame).unwrap_or(&[]));
+        let (record, info) = (oracle::record(input, frame), flat::info_of(frame).unwrap_or(&[]));
         let octets = self.owed_octets(frame, &record);
         for room in self.rooms(Tried::Some, octets.len()) {
             let (number, owed) = self.owed_in(Writer::Beside, room, 0, &octets);
@@ -530,7 +560,7 @@ impl Checker {
         let input = inputs::with_content(content);
         match oracle::read(&input) {
             Ok(frame) => {
-                let record = oracle::accepted(&input, &frame).record;
+                let record = oracle::record(&input, &frame);
                 self.read_content(content, 0, &record[KIND..]);
                 self.seen.writes += 1;
                 let octets = &self.owed_octets(&frame, &record)[FIELD..];
@@ -625,20 +655,23 @@ impl Checker {
         self.finish()
     }
 
-    /// An input passed on by each of its repeaters.
+    /// An input passed on by each of its repeaters, which owes 10 where nulls stand before it.
     pub fn relays(&mut self, input: &[u8]) -> Vec<Difference> {
-        let read = decoded(input);
+        let read = read_old(input);
         let route = read.as_ref().map_or(Vec::new(), relays::of_route);
-        self.seen.relayed_routes += u64::from(!route.is_empty());
+        self.seen.relayed_routes += u64::from(!route.is_empty() && !domain::is_nulled(input));
         route.iter().flat_map(|own| self.relay(own, input, &read)).collect()
     }
 
-    /// An input, which was decoded, passed on by a station: the number, and every octet. The Rust has no relay: what is owed follows
-    /// from its decode and document 02's words.
+    /// An input, which as an old capture was read so, passed on by a station: the number, and every octet. The Rust has no relay: what is
+    /// owed follows from its decode and document 02's words.
     pub fn relay(&mut self, own: &Own, input: &[u8], read: &Result<Ax25Frame, u32>) -> Vec<Difference> {
+        let behind = owed_of_relay(own, read);
+        let nulled = Err(10);
+        let read = if domain::is_nulled(input) { &nulled } else { read };
         let owed = owed_of_relay(own, read);
         let owed_number = owed.err().unwrap_or(0);
-        self.seen.relay(own, input, read, owed);
+        self.seen.relay(own, input, read, owed, behind);
         let octets = domain::relayed(input, owed);
         let number = self.port.relay(&own.callsign, own.ssid, input);
         if number != owed_number || !self.port.output_is(&octets) {
@@ -666,8 +699,7 @@ impl Checker {
         if rust.as_ref() != Ok(&owed) {
             self.differ("the relayed frame, read by the Rust", || format!("{:?}", owed), |_| format!("{:?}", rust));
         }
-        let owed = oracle::accepted(&octets, &owed);
-        self.decode(&octets, 0, [0, 0, 0, owed.info_start, owed.info_len], &owed.record);
+        self.decode(Entry::Decoder, &octets, &oracle::accepted(&octets, &owed));
     }
 
     /// A KISS packet of a capture, which captures.py read so.
@@ -864,10 +896,10 @@ impl Checker {
     /// What both make of an input. A difference that this finds stands with those of the next comparison.
     pub fn both(&mut self, input: &[u8]) -> Both {
         let canonical = self.port.canonical(input) == 1;
-        let number = self.port.decode(input, FLAT, PLACES);
+        let number = self.port.decode(Entry::Decoder, input, FLAT, PLACES);
         let (info_at, info_len) = (self.port.sizes()[PLACES - 2], self.port.sizes()[PLACES - 1]);
         let port = if number == 0 { Ok(self.shown(input, info_at, info_len)) } else { Err(number) };
-        Both { octets: input.to_vec(), canonical, port, info_at, rust: decoded(input) }
+        Both { octets: input.to_vec(), canonical, port, info_at, rust: read_old(input) }
     }
 
     /// What the last decode left of this input.
@@ -926,10 +958,12 @@ impl Checker {
     /// The refusals that are `probe`'s own: a lent buffer shorter than what is to be left there.
     pub fn short_buffers(&mut self, input: &[u8], short: usize) -> Vec<Difference> {
         let record = short % FLAT;
-        let number = self.port.decode(input, record, PLACES);
-        self.untouched("probe_decode, short record", number);
-        let number = self.port.decode(input, FLAT, short % PLACES);
-        self.untouched("probe_decode, short places", number);
+        for entry in [Entry::Decoder, Entry::OldCapture] {
+            let number = self.port.decode(entry, input, record, PLACES);
+            self.untouched(&format!("probe_decode ({:?}), short record", entry), number);
+            let number = self.port.decode(entry, input, FLAT, short % PLACES);
+            self.untouched(&format!("probe_decode ({:?}), short places", entry), number);
+        }
         let number = self.port.encode_into(input, input, FLAT, 0);
         self.untouched("probe_encode, no length", number);
         let number = self.port.again(input, record);
@@ -961,12 +995,18 @@ impl Checker {
     }
 }
 
-/// What decoding owes: the Rust's frame, or the number of its refusal; 9 for nine or more repeaters.
-pub fn decoded(input: &[u8]) -> Result<Ax25Frame, u32> {
+/// What the entry for old captures owes: the Rust's frame, which stands behind any nulls, or the number of its refusal; 9 for nine or more
+/// repeaters.
+pub fn read_old(input: &[u8]) -> Result<Ax25Frame, u32> {
     match oracle::read(input) {
         _ if domain::repeaters(input) > flat::REPEATERS => Err(9),
         read => read.map_err(|refusal| refusal.number),
     }
+}
+
+/// What decoding owes: the same, but 10 where nulls stand before the frame.
+pub fn decoded(input: &[u8]) -> Result<Ax25Frame, u32> {
+    if domain::is_nulled(input) { Err(10) } else { read_old(input) }
 }
 
 /// What relaying owes: the due place, which is to be marked, or the number of the first refusal that holds.

@@ -58,7 +58,7 @@ impl Class<'_> {
 
     /// Octets off the air, passed on by the stations of their route and by others.
     fn relays(&mut self, input: &[u8], draw: &mut Rng) {
-        let read = check::decoded(input);
+        let read = check::read_old(input);
         for own in relays::around(&read, draw) {
             self.relay(&own, input, &read);
         }
@@ -265,7 +265,7 @@ pub fn test(scale: usize, seed: u64, only: Option<String>) -> Report {
     kiss_streams(&mut checker, &mut report, scale, &mut seeds);
     unseen(&mut checker, &mut report, scale, &mut seeds);
     let missing = checker.seen.missing();
-    class(&mut checker, &mut report, "met: every number, kind, mark, PID, layer 3 octet, reserved bits, route length, room, search, due place, KISS port, cut, changed bit, pair and listed difference", |c| c.missing(missing));
+    class(&mut checker, &mut report, "met: every number, kind, mark, PID, layer 3 octet, reserved bits, route length, room, search, old capture, due place, KISS port, cut, changed bit, pair and listed difference", |c| c.missing(missing));
     report::totals(&mut report, &checker.seen);
     report::pairs(&mut report, &checker.seen);
     report::told_apart(&mut report, &checker.seen);
@@ -458,7 +458,7 @@ fn frames_passed_on(checker: &mut Checker, report: &mut Report, scale: usize, se
         let content = [0x03, 0xF0, 0x41];
         let mut each = |own: &Own, address: &FlatAddress| {
             let input = inputs::with_repeater(address, &content);
-            class.relay(own, &input, &check::decoded(&input));
+            class.relay(own, &input, &check::read_old(&input));
         };
         texts::addresses(e, 20_000 * scale, &mut |address| each(&Own::of(&padded(address)), &padded(address)));
         for length in 0..=12 {

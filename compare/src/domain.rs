@@ -22,9 +22,11 @@ pub enum Listed {
     B6,
     /// The reserved bits of an address.
     B7,
+    /// Nulls before a frame.
+    B8,
 }
 
-pub const LISTED: [(Listed, &str); 7] = [
+pub const LISTED: [(Listed, &str); 8] = [
     (Listed::B1, "nine or more repeaters"),
     (Listed::B2, "text with an octet of 128 or more"),
     (Listed::B3, "a record that the Rust can't hold"),
@@ -32,6 +34,7 @@ pub const LISTED: [(Listed, &str); 7] = [
     (Listed::B5, "content alone, empty"),
     (Listed::B6, "a layer 3 identifier written as the octet it carries, where the Rust writes 10 hex"),
     (Listed::B7, "reserved bits written as they were read, or as the record has them, where the Rust writes ones"),
+    (Listed::B8, "nulls before a frame refused by 10, where the Rust skips them"),
 ];
 
 /// What the Rust writes for every octet of the layer 3 class.
@@ -40,7 +43,18 @@ pub const RUST_LAYER_3: u8 = 0x10;
 /// The reserved bits in the seventh octet of a group, 6 and 5, which the Rust writes as ones.
 pub const RESERVED_BITS: u8 = 0x60;
 
-/// Where the address field starts and ends.
+/// How many nulls an input starts with.
+pub fn nulls(input: &[u8]) -> usize {
+    input.iter().take_while(|&&octet| octet == 0).count()
+}
+
+/// Whether nulls stand before a frame, or before what else it is: the input starts with a null and is not all nulls. Decoding refuses it
+/// by 10 (document 02, M-108).
+pub fn is_nulled(input: &[u8]) -> bool {
+    input.first() == Some(&0) && nulls(input) < input.len()
+}
+
+/// Where the address field starts and ends. It starts after leading nulls: the Rust skips them, and so does the entry for old captures.
 pub fn field(input: &[u8]) -> Option<(usize, usize)> {
     let start = input.iter().position(|&octet| octet != 0)?;
     let end = input.iter().position(|&octet| octet % 2 == 1)?;

@@ -1,7 +1,7 @@
 //! Deliberate faults, for `compare/faults` alone: each call of the port is wrapped, and spoils what the proved code answered by the
 //! fault that COMPARE_FAULT names. The linker puts these in the calls' places (`--wrap`) and leaves the port's own under `__real_`.
-//! Four faults are the Rust's: in its writing it is held to an octet, and to bits, that the port does not owe, and in its reading to what
-//! its frame lacks.
+//! Five faults are the Rust's: in its writing it is held to an octet, and to bits, that the port does not owe, and in its reading to what
+//! its frame lacks and to skipping nulls.
 
 use crate::check::{padded, with_plain_addresses};
 use crate::domain::{self, RESERVED_BITS, RUST_LAYER_3};
@@ -14,7 +14,7 @@ use std::slice::{from_raw_parts, from_raw_parts_mut};
 use std::sync::atomic::{AtomicUsize, Ordering};
 
 /// What each fault does, from 1 on, and words in the name of a class that has to find it.
-const FAULTS: [(&str, &str); 168] = [
+const FAULTS: [(&str, &str); 203] = [
     ("re-encoding writes the address field, then answers 24", "every prefix"),
     ("re-encoding writes the address field, then refuses the content", "every prefix"),
     ("re-encoding into no room at all answers 0", "every prefix"),
@@ -106,7 +106,7 @@ const FAULTS: [(&str, &str); 168] = [
     ("re-encoding a layer 3 frame changes its control", "example's addresses"),
     ("re-encoding a layer 3 frame changes its first info octet", "octets: every control octet"),
     ("layer 3 is canonical as 10 alone", "example's addresses"),
-    ("layer 3 is canonical whatever else", "leading nulls"),
+    ("layer 3 is canonical whatever else", "octets: every bit of good"),
     ("a decoded layer 3 identifier carries 10", "example's addresses"),
     ("a record read again forgets its layer 3 octet", "records: every PID"),
     ("writing a record writes 10 for every octet of the layer 3 class", "records: every PID"),
@@ -182,7 +182,42 @@ const FAULTS: [(&str, &str); 168] = [
     ("decoding leaves out zeros at the end of info", "unseen: canonical frames"),
     ("decoding puts the first two repeaters in order", "unseen: canonical frames"),
     ("a frame with a tail is canonical", "unseen: canonical frames"),
-    ("a frame behind nulls is canonical", "unseen: canonical frames"),
+    ("decoding answers 10 to nulls alone", "octets: leading nulls"),
+    ("decoding answers 2 before 10", "octets: every string"),
+    ("decoding answers 10 after all other refusals", "octets: leading nulls"),
+    ("decoding answers 1 where 80 stands among nulls at the fifth place of an eight", "search by eights"),
+    ("decoding skips one null", "octets: leading nulls"),
+    ("decoding gives a start with 10", "octets: leading nulls"),
+    ("decoding leaves a record with 10", "octets: leading nulls"),
+    ("the loader's decode skips nulls", "octets: leading nulls"),
+    ("a frame behind nulls is canonical", "octets: leading nulls"),
+    ("the length of a frame behind nulls is the frame's", "octets: leading nulls"),
+    ("re-encoding skips nulls", "octets: leading nulls"),
+    ("re-encoding answers 24 before 10", "octets: leading nulls"),
+    ("re-encoding refused by 10 touches the output", "octets: leading nulls"),
+    ("re-encoding refused by 10 writes into an output close by", "input and output side by side"),
+    ("the relay skips nulls", "relay: leading nulls"),
+    ("the relay answers 10 before 22", "relay: leading nulls"),
+    ("the relay looks at the route before 10", "relay: leading nulls"),
+    ("the relay marks a frame that it refuses by 10", "relay: leading nulls"),
+    ("an old capture is read by the decoder", "octets: leading nulls"),
+    ("the nulls of an old capture are a part of its first address", "octets: leading nulls"),
+    ("only one null of an old capture is skipped", "octets: leading nulls"),
+    ("an old capture of nulls alone is refused by 10", "octets: leading nulls"),
+    ("3's start in an old capture is counted from its frame", "octets: every string"),
+    ("3's end in an old capture is counted from its frame", "octets: every string"),
+    ("4's length of an old capture is its frame's", "octets: spans"),
+    ("info's start in an old capture is counted from its frame", "octets: leading nulls"),
+    ("info is moved in an old capture of a kind that has none", "octets: leading nulls"),
+    ("info is moved in a refused old capture", "octets: leading nulls"),
+    ("every refusal of an old capture gives a start", "octets: leading nulls"),
+    ("a refused old capture leaves a record", "octets: leading nulls"),
+    ("a short record is written for an old capture", "records: buffers too short"),
+    ("the loader's call for old captures is its decode", "octets: leading nulls"),
+    ("the loader's call for old captures skips eight nulls at most", "octets: leading nulls"),
+    ("the loader's call for old captures passes over 01 at the last place of an eight", "search by eights"),
+    ("the loader's call for old captures passes over the end at place 15 behind nulls", "search by eights"),
+    ("the Rust reads the last of nine repeaters otherwise behind nulls", "octets: long inputs"),
 ];
 
 /// A line for each fault: its number, the words, and what it does.
@@ -205,14 +240,16 @@ fn is(what: &str) -> bool {
 
 extern "C" {
     fn __real_ax25_decode(input: *const u8, input_len: usize) -> u32;
+    fn __real_ax25_decode_old_capture(input: *const u8, input_len: usize) -> u32;
     fn __real_ax25_canonical(input: *const u8, input_len: usize) -> u32;
-    fn ax25_reencoded_length(input: *const u8, input_len: usize) -> usize;
+    fn __real_ax25_reencoded_length(input: *const u8, input_len: usize) -> usize;
     fn __real_ax25_reencode(input: *const u8, input_len: usize, out: *mut u8, out_len: usize) -> u32;
     fn __real_ax25_relay(callsign: *const u8, callsign_len: usize, ssid: u8, frame: *mut u8, frame_len: usize) -> u32;
     fn __real_ax25_kiss_read(input: *const u8, input_len: usize, out: *mut u8, out_len: usize, port: *mut u8, length: *mut usize) -> u32;
     fn __real_ax25_kiss_write(port: u8, input: *const u8, input_len: usize, out: *mut u8, out_len: usize, length: *mut usize) -> u32;
     fn __real_ax25_kiss_feed(stream: *mut State, piece: *const u8, piece_len: usize, packet: *mut Packet) -> usize;
     fn __real_probe_decode(input: *const u8, input_len: usize, record: *mut u8, record_len: usize, places: *mut usize, places_len: usize) -> u32;
+    fn __real_probe_decode_old(input: *const u8, input_len: usize, record: *mut u8, record_len: usize, places: *mut usize, places_len: usize) -> u32;
     fn __real_probe_encode(record: *const u8, record_len: usize, info: *const u8, info_len: usize, out: *mut u8, out_len: usize, length: *mut usize, length_len: usize) -> u32;
     fn __real_probe_again(given: *const u8, given_len: usize, record: *mut u8, record_len: usize) -> u32;
     fn __real_probe_from_parts(callsign: *const u8, callsign_len: usize, ssid: u8, address: *mut u8, address_len: usize) -> u32;
@@ -303,6 +340,10 @@ pub fn misread_by_rust(mut frame: Ax25Frame, input: &[u8]) -> Ax25Frame {
     if let (Some(last), true) = (frame.route.last_mut(), is("the Rust's frame lacks the mark of the last repeater")) {
         last.has_repeated = false;
     }
+    let nine = frame.route.len() > REPEATERS && domain::is_nulled(input);
+    if let (Some(last), true) = (frame.route.last_mut(), nine && is("the Rust reads the last of nine repeaters otherwise behind nulls")) {
+        last.has_repeated = !last.has_repeated;
+    }
     frame
 }
 
@@ -311,19 +352,22 @@ fn has_excepted(frame: &[u8], which: usize, bits: u8) -> bool {
     domain::excepted(frame).get(which).map_or(false, |&(at, excepted)| octet(frame, at) & excepted & bits != 0)
 }
 
+/// An input without its nulls, by this fault; one of nulls alone stays as it is.
+fn skipped<'a>(input: &'a [u8], fault: &str) -> &'a [u8] {
+    if is(fault) && domain::is_nulled(input) { &input[domain::nulls(input)..] } else { input }
+}
+
 /// A frame as a faulty check might look at it: without a bit of FRMR, without the tail of a kind that has no info, or without its nulls.
 fn looked_at(input: &[u8]) -> Vec<u8> {
+    let input = skipped(input, "a frame behind nulls is canonical");
     let mut looked_at = input.to_vec();
-    let (start, end) = domain::field(input).unwrap_or((0, 0));
+    let (_, end) = domain::field(input).unwrap_or((0, 0));
     let control = octet(input, end + 1);
     if is("FRMR is canonical whatever bit 4 of its first info octet is") && has_excepted(input, 0, 0x10) {
         looked_at[end + 2] &= 0xEF;
     }
     if is("a frame with a tail is canonical") && control % 2 == 1 && ![0x03, 0x87].contains(&(control & 0xEF)) {
         looked_at.truncate(end + 2);
-    }
-    if is("a frame behind nulls is canonical") {
-        looked_at.drain(..start);
     }
     looked_at
 }
@@ -333,19 +377,42 @@ unsafe fn has_clear(input: &[u8]) -> bool {
     __real_ax25_decode(input.as_ptr(), input.len()) == 0 && domain::reserved_of(input).any(|reserved| reserved != ONES)
 }
 
-#[no_mangle]
-unsafe extern "C" fn __wrap_ax25_decode(input: *const u8, input_len: usize) -> u32 {
-    let octets = from_raw_parts(input, input_len);
-    let start = octets.iter().position(|&octet| octet != 0).unwrap_or(0);
-    let end = octets.iter().position(|&octet| octet % 2 == 1).unwrap_or(0);
-    let mut passed = octets.to_vec();
-    if is("a search passes over 01 at the last place of an eight") && start % 8 == 7 && octets[start] == 1 {
+/// An input as faulty searches might pass over it, by their names: 01 at the last place of an eight, and the first odd octet at place 15,
+/// counted from the first nonzero octet.
+fn passed_over(input: &[u8], [first, end]: [&str; 2]) -> Vec<u8> {
+    let mut passed = input.to_vec();
+    let Some((start, odd)) = domain::field(input) else {
+        return passed;
+    };
+    if is(first) && start % 8 == 7 && input[start] == 1 {
         passed[start] = 0;
     }
-    if is("a search passes over the first odd octet at place 15") && end == 15 {
-        passed[end] ^= 1;
+    if is(end) && odd - start == 15 {
+        passed[odd] ^= 1;
     }
-    __real_ax25_decode(passed.as_ptr(), input_len)
+    passed
+}
+
+#[no_mangle]
+unsafe extern "C" fn __wrap_ax25_decode(input: *const u8, input_len: usize) -> u32 {
+    let octets = skipped(from_raw_parts(input, input_len), "the loader's decode skips nulls");
+    let passed = passed_over(octets, [
+        "a search passes over 01 at the last place of an eight",
+        "a search passes over the first odd octet at place 15",
+    ]);
+    __real_ax25_decode(passed.as_ptr(), passed.len())
+}
+
+#[no_mangle]
+unsafe extern "C" fn __wrap_ax25_decode_old_capture(input: *const u8, input_len: usize) -> u32 {
+    let octets = from_raw_parts(input, input_len);
+    let many = is("the loader's call for old captures skips eight nulls at most") && domain::nulls(octets) > 8;
+    if is("the loader's call for old captures is its decode") || many {
+        return __real_ax25_decode(input, input_len);
+    }
+    let end = if domain::is_nulled(octets) { "the loader's call for old captures passes over the end at place 15 behind nulls" } else { "" };
+    let passed = passed_over(octets, ["the loader's call for old captures passes over 01 at the last place of an eight", end]);
+    __real_ax25_decode_old_capture(passed.as_ptr(), passed.len())
 }
 
 #[no_mangle]
@@ -369,9 +436,16 @@ unsafe extern "C" fn __wrap_ax25_canonical(input: *const u8, input_len: usize) -
 }
 
 #[no_mangle]
+unsafe extern "C" fn __wrap_ax25_reencoded_length(input: *const u8, input_len: usize) -> usize {
+    let octets = skipped(from_raw_parts(input, input_len), "the length of a frame behind nulls is the frame's");
+    __real_ax25_reencoded_length(octets.as_ptr(), octets.len())
+}
+
+#[no_mangle]
 unsafe extern "C" fn __wrap_ax25_reencode(input: *const u8, input_len: usize, out: *mut u8, out_len: usize) -> u32 {
-    let number = __real_ax25_reencode(input, input_len, out, out_len);
-    let (input, out) = (from_raw_parts(input, input_len), from_raw_parts_mut(out, out_len));
+    let input = skipped(from_raw_parts(input, input_len), "re-encoding skips nulls");
+    let number = __real_ax25_reencode(input.as_ptr(), input.len(), out, out_len);
+    let out = from_raw_parts_mut(out, out_len);
     let early = is("re-encoding writes the address field, then answers 24") && number == 24
         || is("re-encoding writes the address field, then refuses the content") && (5..=8).contains(&number);
     if early && out_len >= 14 {
@@ -379,8 +453,9 @@ unsafe extern "C" fn __wrap_ax25_reencode(input: *const u8, input_len: usize, ou
     }
     let beside = is("a refused re-encoding writes into an output close by") && (1..=8).contains(&number)
         || is("nine repeaters: writes into an output close by") && number == 9
+        || is("re-encoding refused by 10 writes into an output close by") && number == 10
         || is("too little room: writes into an output close by") && number == 24;
-    if beside && close(input, out) {
+    if beside && close(input, out) || is("re-encoding refused by 10 touches the output") && number == 10 {
         spoil(out);
     }
     if number == 0 {
@@ -389,7 +464,7 @@ unsafe extern "C" fn __wrap_ax25_reencode(input: *const u8, input_len: usize, ou
         } else {
             ["re-encoding writes 10 for every octet of the layer 3 class", "re-encoding sets the reserved bits"]
         };
-        let length = ax25_reencoded_length(input.as_ptr(), input_len);
+        let length = __real_ax25_reencoded_length(input.as_ptr(), input.len());
         misspell(&mut out[..length], [
             ten,
             "re-encoding a layer 3 frame changes the octet before its control",
@@ -408,7 +483,8 @@ unsafe extern "C" fn __wrap_ax25_reencode(input: *const u8, input_len: usize, ou
     if is("re-encoding into no room at all answers 0") && number == 24 && out_len == 0 {
         return 0;
     }
-    if is("re-encoding answers 24 before 9") && number == 9 && out_len < input_len {
+    let before = is("re-encoding answers 24 before 9") && number == 9 || is("re-encoding answers 24 before 10") && number == 10;
+    if before && out_len < input.len() {
         return 24;
     }
     number
@@ -419,6 +495,9 @@ unsafe extern "C" fn __wrap_ax25_relay(callsign: *const u8, callsign_len: usize,
     let octets = from_raw_parts_mut(frame, frame_len);
     let before = octets.to_vec();
     let number = __real_ax25_relay(callsign, callsign_len, ssid, frame, frame_len);
+    if domain::is_nulled(&before) {
+        return behind_nulls(callsign, callsign_len, ssid, octets, number);
+    }
     if is("the relay answers 42 for 41") && number == 41 || is("the relay answers 42 for 43") && number == 43 {
         return 42;
     }
@@ -458,6 +537,23 @@ unsafe extern "C" fn __wrap_ax25_relay(callsign: *const u8, callsign_len: usize,
         _ => {}
     }
     number
+}
+
+/// What a faulty relay might give in place of this number, or leave of the frame, where nulls stand before it.
+unsafe fn behind_nulls(callsign: *const u8, callsign_len: usize, ssid: u8, frame: &mut [u8], number: u32) -> u32 {
+    let before = frame.to_vec();
+    let rest = &mut frame[domain::nulls(&before)..];
+    let by_rest = __real_ax25_relay(callsign, callsign_len, ssid, rest.as_mut_ptr(), rest.len());
+    let marks = by_rest == 0 && (is("the relay skips nulls") || is("the relay marks a frame that it refuses by 10"));
+    if !marks {
+        frame.copy_from_slice(&before);
+    }
+    match number {
+        10 if is("the relay skips nulls") => by_rest,
+        10 if is("the relay looks at the route before 10") && by_rest > 40 => by_rest,
+        22 if is("the relay answers 10 before 22") || is("the relay looks at the frame before our own address") => 10,
+        _ => number,
+    }
 }
 
 /// The escapes with their second octets exchanged.
@@ -668,12 +764,35 @@ unsafe extern "C" fn __wrap_ax25_kiss_feed(stream: *mut State, piece: *const u8,
     taken
 }
 
+/// The number that a faulty decoder might give in place of this one, of what stands before a frame.
+unsafe fn misnumbered(input: &[u8], number: u32) -> u32 {
+    let rest = &input[domain::nulls(input)..];
+    match number {
+        1 if is("decoding answers 10 to nulls alone") && !input.is_empty() => 10,
+        10 if is("decoding answers 1 where 80 stands among nulls at the fifth place of an eight") => {
+            let alone = rest[0] == 0x80 && rest[1..].iter().all(|&octet| octet == 0);
+            if alone && (input.len() - rest.len()) % 8 == 4 { 1 } else { 10 }
+        }
+        10 if is("decoding answers 2 before 10") && domain::field(input).is_none() => 2,
+        10 if is("decoding answers 10 after all other refusals") => match __real_ax25_decode(rest.as_ptr(), rest.len()) {
+            0 => 10,
+            refused => refused,
+        },
+        _ => number,
+    }
+}
+
 #[no_mangle]
 unsafe extern "C" fn __wrap_probe_decode(input: *const u8, input_len: usize, record: *mut u8, record_len: usize, places: *mut usize, places_len: usize) -> u32 {
-    let number = __real_probe_decode(input, input_len, record, record_len, places, places_len);
+    let octets = from_raw_parts(input, input_len);
+    let one = usize::from(is("decoding skips one null") && domain::is_nulled(octets));
+    let number = misnumbered(octets, __real_probe_decode(input.add(one), input_len - one, record, record_len, places, places_len));
     let record = from_raw_parts_mut(record, record_len);
-    if is("a refused decode leaves a record") && (1..=9).contains(&number) {
+    if is("a refused decode leaves a record") && (1..=9).contains(&number) || is("decoding leaves a record with 10") && number == 10 {
         spoil(record);
+    }
+    if is("decoding gives a start with 10") && number == 10 {
+        *places = domain::nulls(octets);
     }
     if is("a decoded layer 3 identifier carries 10") && number == 0 && flat::is_layer_3(&padded(record)) {
         record[PID_OCTET] = RUST_LAYER_3;
@@ -691,6 +810,52 @@ unsafe extern "C" fn __wrap_probe_decode(input: *const u8, input_len: usize, rec
         }
     }
     number
+}
+
+#[no_mangle]
+unsafe extern "C" fn __wrap_probe_decode_old(input: *const u8, input_len: usize, record: *mut u8, record_len: usize, places: *mut usize, places_len: usize) -> u32 {
+    let octets = from_raw_parts(input, input_len);
+    let nulls = domain::nulls(octets);
+    if is("an old capture is read by the decoder") {
+        return __real_probe_decode(input, input_len, record, record_len, places, places_len);
+    }
+    if is("only one null of an old capture is skipped") && nulls > 1 {
+        return __real_probe_decode(input.add(1), input_len - 1, record, record_len, places, places_len);
+    }
+    let mut taken = octets.to_vec();
+    if is("the nulls of an old capture are a part of its first address") && domain::is_nulled(octets) {
+        taken[0] = 0x80;
+    }
+    let number = __real_probe_decode_old(taken.as_ptr(), input_len, record, record_len, places, places_len);
+    let (record, places) = (from_raw_parts_mut(record, record_len), from_raw_parts_mut(places, places_len));
+    let short = is("a short record is written for an old capture") && number == 24;
+    if short || is("a refused old capture leaves a record") && (1..=9).contains(&number) {
+        spoil(record);
+    }
+    if is("an old capture of nulls alone is refused by 10") && number == 1 && nulls > 0 {
+        return 10;
+    }
+    if number < 24 {
+        misplace_behind(places, number, record, nulls);
+    }
+    number
+}
+
+/// The places in an old capture with so many nulls as a faulty entry might give them.
+fn misplace_behind(places: &mut [usize], number: u32, record: &[u8], nulls: usize) {
+    let [start, end, length, info, ..] = places else {
+        return;
+    };
+    match number {
+        0 if flat::has_pid(&padded(record)) => *info -= if is("info's start in an old capture is counted from its frame") { nulls } else { 0 },
+        0 if is("info is moved in an old capture of a kind that has none") => *info = nulls,
+        1.. if is("info is moved in a refused old capture") => *info = nulls,
+        1.. if is("every refusal of an old capture gives a start") => *start = nulls,
+        3 if is("3's start in an old capture is counted from its frame") => *start -= nulls,
+        3 if is("3's end in an old capture is counted from its frame") => *end -= nulls,
+        4 if is("4's length of an old capture is its frame's") => *length -= nulls,
+        _ => {}
+    }
 }
 
 /// A decoded record as a reader might leave it that passes over a bit, or shows one of FRMR.

@@ -86,18 +86,6 @@ pub const PIDS: [ProtocolIdentifier; 15] = [
 pub const PID_LAYER_3: u8 = 0;
 pub const PID_UNKNOWN: u8 = 15;
 
-/// All that decoding gives.
-#[derive(Clone, PartialEq)]
-pub struct Decode {
-    pub number: u32,
-    pub start: usize,
-    pub end: usize,
-    pub length: usize,
-    pub info_start: usize,
-    pub info_len: usize,
-    pub record: Flat,
-}
-
 /// Six characters and an SSID, with reserved bits that are ones.
 pub fn station(&[a, b, c, d, e, f, ssid]: &[u8; RESERVED]) -> FlatAddress {
     [a, b, c, d, e, f, ssid, ONES]
@@ -223,7 +211,7 @@ pub fn info_of(frame: &Ax25Frame) -> Option<&[u8]> {
 }
 
 /// The Rust's addresses of these, of any seven-bit characters and without reserved bits. Its fields are private, so they are taken out
-/// of a decoded frame. The frame's destination is not among them, because a leading character 0 there is skipped as a null octet.
+/// of a decoded frame. The frame's destination is not among them, because the Rust skips a leading character 0 there as a null octet.
 pub fn addresses(flat: &[FlatAddress]) -> Vec<Address> {
     let mut octets = vec![b'X' << 1; GROUP];
     for address in flat {

@@ -53,6 +53,11 @@ pub fn with_repeater(address: &FlatAddress, content: &[u8]) -> Vec<u8> {
     frame
 }
 
+/// So many nulls before these octets.
+pub fn behind(nulls: usize, octets: &[u8]) -> Vec<u8> {
+    [&vec![0; nulls], octets].concat()
+}
+
 /// Each group is given as it is before it is shifted.
 fn with_groups(groups: impl Iterator<Item = [u8; GROUP]>, content: &[u8]) -> Vec<u8> {
     let mut octets = FRAME[..FIELD].to_vec();
@@ -223,9 +228,7 @@ pub fn set_reserved(frame: &mut [u8], group: usize, reserved: u8) {
 pub fn leading_nulls(each: Each) {
     for frame in good_frames() {
         for nulls in (0..=20).chain([63, 64, 65, 255, 256, 257, 300]) {
-            let mut input = vec![0; nulls];
-            input.extend(&frame);
-            each(&input);
+            each(&behind(nulls, &frame));
         }
     }
     for nulls in 0..=600 {
@@ -234,17 +237,17 @@ pub fn leading_nulls(each: Each) {
 }
 
 /// The first nonzero octet, each of its bits alone and all of them, at each place of a search by eights, and the first odd octet there
-/// or at each place after it. What follows lets the last eight be whole, or leaves the found octet to the rest.
+/// or at each place after it, or nothing but nulls. What follows lets the last eight be whole, or leaves the found octet to the rest.
 pub fn searches(each: Each) {
     let tails = [&[][..], &[0x00], &[0x01], &[0x03, 0xF0, 0x41], &[0x00; 8], &[0xFF; 9], &FRAME];
     for nulls in 0..=25 {
         for first in [0x01, 0xFF, 0x02, 0x04, 0x08, 0x10, 0x20, 0x40, 0x80, 0xFE] {
-            let mut input = vec![0; nulls];
-            input.push(first);
+            let input = behind(nulls, &[first]);
             if first % 2 == 1 {
                 tails.iter().for_each(|tail| each(&[&input[..], tail].concat()));
                 continue;
             }
+            [tails[0], tails[1], tails[4]].iter().for_each(|nulls| each(&[&input[..], nulls].concat()));
             for between in 0..=24 {
                 for (even, odd) in [(0x00, 0x01), (0xFE, 0xFF)] {
                     let field = [&input[..], &vec![even; between], &[odd]].concat();
@@ -374,9 +377,7 @@ pub fn long(seed: u64, each: Each) {
                 let mut input = with_repeaters(count, &[control, 0xF0]);
                 input.extend(rng.octets(size.saturating_sub(input.len())));
                 each(&input);
-                let mut late = vec![0; size];
-                late.extend(&input);
-                each(&late);
+                each(&behind(size, &input));
             }
         }
     }

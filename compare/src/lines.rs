@@ -3,9 +3,9 @@
 
 use crate::check;
 use crate::domain;
-use crate::flat::{self, Flat, FlatAddress, ADDRESS, COUNT, FLAT, GROUP, KIND, REPEATERS, ROUTE};
+use crate::flat::{self, Flat, FlatAddress, ADDRESS, COUNT, FLAT, GROUP, KIND, ROUTE};
 use crate::inputs;
-use crate::oracle::{self, Refusal};
+use crate::oracle::{self, Decode};
 use crate::relays::Own;
 use crate::show;
 use ax25::frame::Ax25Frame;
@@ -14,12 +14,15 @@ pub const HEADING: &str = "\
 # Inputs and the answers that are owed to them, by the Rust crate ax25 0.4.0, unchanged. Made by 'compare/build' and
 # 'target/compare/compare replay-list'; never edited by hand. Where a heading says 'document 01', the Rust has no such answer, and
 # the lines under it were worked out from that paper's rules. So is what is left in lent octets, everywhere. Where it says
-# 'document 02', they were worked out from what the Rust decodes and that paper's rules (M-100, M-102, M-105 and M-106).
+# 'document 02', they were worked out from what the Rust decodes and that paper's rules (M-100, M-102, M-105, M-106 and M-108).
 # One octet is nowhere the Rust's: for every PID of the layer 3 class (bits 5 and 4 are 01 or 10) the Rust writes 10 hex, and its
 # identifier holds no octet. By document 02 (M-105) the octet that was read, or that stands in the record, is the one that is written,
 # on every line, and canonical is 1 where what is so written is the input. Nor are two bits of every group, the reserved ones (6 and 5
 # of its seventh octet): the Rust writes ones, and its address holds none. By document 02 (M-106) those that were read, or that stand
 # in the record, are written, on every line, and canonical goes by them too; text, from_parts and the default frame have 3.
+# Nor is 10: the Rust skips leading nulls and reads what follows. By document 02 (M-108) such an input is refused, on every line of D and
+# of R, unless it is all nulls. An old capture, on lines of O, is what the Rust reads; beside every input of D that starts with a null
+# stands the same of O.
 # Words are separated by one space; octets are hex digits, and - is none of them; numbers are decimal. A record is 102 octets:
 # destination and source of 8 each (six characters, the SSID, and the reserved bits as a number, bit 6 the higher); eight places of 9
 # (an address and its mark); the route count; the mark (0 Command, 1 Response, 2 absent); then the content's 12: kind (0 I, 1 RR,
@@ -29,6 +32,7 @@ pub const HEADING: &str = "\
 # them, and three more after them, which have to stay. A frame to be relayed is lent itself, and stands there untouched too; a dot
 # where it is empty.
 # D input: number start end length info_start info_length record; by the loader's calls: number canonical number length octets
+# O input: number start end length info_start info_length record; by the loader's call: number     an old capture
 # K content: number flat_content                   content read alone
 # E flat_content info room: number length octets   content written alone, into room for so many octets
 # W record info room: number length octets         a frame written
@@ -68,28 +72,32 @@ impl List {
     }
 
     pub fn decode(&mut self, input: &[u8]) {
-        let (owed, octets) = match oracle::read(input) {
-            _ if domain::repeaters(input) > REPEATERS => (oracle::refused(nine()), Vec::new()),
-            Ok(frame) => {
-                let owed = oracle::accepted(input, &frame);
-                let octets = oracle::written(&frame, &owed.record).octets;
-                (owed, octets)
-            }
-            Err(refusal) => (oracle::refused(refusal), Vec::new()),
+        let rust = oracle::read(input);
+        let owed = oracle::owed(input, oracle::owed_of_old(input, &rust));
+        let octets = match (&rust, &owed.record) {
+            (Ok(frame), Some(record)) => oracle::written(frame, record).octets,
+            _ => Vec::new(),
         };
         let number = owed.number;
-        let record = if number == 0 { &owed.record[..] } else { &[] };
         let canonical = u8::from(number == 0 && octets == input);
-        let places = [owed.start, owed.end, owed.length, owed.info_start, owed.info_len].map(|place| place.to_string()).join(" ");
         let again = format!("{} {} {} {}", canonical, number, octets.len(), lent(&octets, octets.len()));
-        self.line(format!("D {} {} {} {} {} {}", hex(input), number, places, lent(record, FLAT), number, again));
+        self.line(format!("D {} {} {} {}", hex(input), decoded(&owed), number, again));
+        if input.first() == Some(&0) {
+            self.old_capture(input);
+        }
+    }
+
+    /// Not counted: which other lines there are does not hang on how many these are.
+    pub fn old_capture(&mut self, input: &[u8]) {
+        let owed = oracle::owed_of_old(input, &oracle::read(input));
+        println!("O {} {} {}", hex(input), decoded(&owed), owed.number);
     }
 
     /// Content alone, and what was read of it written again.
     pub fn content(&mut self, content: &[u8]) {
         let input = inputs::with_content(content);
         let read = oracle::read(&input);
-        let record = read.as_ref().map(|frame| oracle::accepted(&input, frame).record);
+        let record = read.as_ref().map(|frame| oracle::record(&input, frame));
         let number = read.as_ref().map_or_else(|refusal| refusal.number, |_| 0);
         let flat = record.as_ref().map_or(&[][..], |record| &record[KIND..]);
         self.line(format!("K {} {} {}", hex(content), number, lent(flat, FLAT - KIND)));
@@ -213,8 +221,10 @@ fn lent(written: &[u8], room: usize) -> String {
     if buffer.iter().all(|&octet| octet == LENT) { ".".to_string() } else { show::hex(&buffer) }
 }
 
-fn nine() -> Refusal {
-    Refusal { number: 9, start: 0, end: 0, length: 0 }
+/// A decoder's number, its places, and what it leaves of the record.
+fn decoded(owed: &Decode) -> String {
+    let places = owed.places.map(|place| place.to_string()).join(" ");
+    format!("{} {} {}", owed.number, places, lent(owed.left(), FLAT))
 }
 
 /// A record written where there is room.

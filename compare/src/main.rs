@@ -47,7 +47,7 @@ compare captures [--raw FILE | FILE]..
                                    pcap and pcapng (link types 3 and 202), KISS logs, hex lines; --raw, or a file named
                                    .raw, .bin or .ax25: one raw frame
 compare frames                     what captures.py, which reads the captures, prints, on standard input
-compare one HEX                    one input: both answers in full ('-': hex on standard input)
+compare one HEX                    one input: both answers in full, the port's as an old capture too ('-': hex on standard input)
 compare pair HEX HEX               a canonical input and another: where they differ, and whether that is seen
 compare text TEXT..                texts to addresses (text-hex HEX..: the text's octets)
 compare parts-hex HEX SSID         a callsign and an SSID to an address

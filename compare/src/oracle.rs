@@ -1,7 +1,8 @@
 //! The Rust's answers, by document 01's numbers.
 
 use crate::domain::{self, RESERVED_BITS};
-use crate::flat::{self, Decode, Flat, FlatAddress, PID_OCTET, RESERVED};
+use crate::flat::{self, Flat, FlatAddress, PID_OCTET, REPEATERS, RESERVED};
+use crate::port::PLACES;
 use ax25::frame::{Address, AddressParseError, Ax25Frame, FrameParseError};
 use std::panic::catch_unwind;
 use std::str::FromStr;
@@ -29,6 +30,18 @@ pub struct Refusal {
     pub start: usize,
     pub end: usize,
     pub length: usize,
+}
+
+impl Refusal {
+    /// The same where so many nulls stand before the octets, in the words of document 02's M-108: places are counted from the first of
+    /// them, and 4's length is that of the whole.
+    pub fn behind(self, nulls: usize) -> Refusal {
+        match self.number {
+            3 => Refusal { start: nulls + self.start, end: nulls + self.end, ..self },
+            4 => Refusal { length: nulls + self.length, ..self },
+            _ => self,
+        }
+    }
 }
 
 fn plain(number: u32) -> Refusal {
@@ -60,19 +73,57 @@ fn refusal(error: &FrameParseError) -> Refusal {
     }
 }
 
-/// What the port owes where the Rust accepts: info is the input's end, wherever the Rust copied it to, and what the Rust's frame does
-/// not hold is the input's own, the reserved bits and the octet of a layer 3 identifier.
+/// All that a decoder owes.
+pub struct Decode {
+    pub number: u32,
+    /// Start, end and length, which some refusals give, and info's start and length.
+    pub places: [usize; PLACES],
+    /// A refusal leaves none.
+    pub record: Option<Flat>,
+}
+
+impl Decode {
+    /// The octets that are left of the record.
+    pub fn left(&self) -> &[u8] {
+        self.record.as_ref().map_or(&[], |record| &record[..])
+    }
+
+    /// Info's octets.
+    pub fn info<'a>(&self, input: &'a [u8]) -> &'a [u8] {
+        let [_, _, _, start, length] = self.places;
+        &input[start..start + length]
+    }
+}
+
+/// What the entry for old captures owes: what the Rust, which skips leading nulls, reads, and 9 for nine or more repeaters (B1).
+pub fn owed_of_old(input: &[u8], rust: &Result<Ax25Frame, Refusal>) -> Decode {
+    match rust {
+        _ if domain::repeaters(input) > REPEATERS => refused(plain(9)),
+        Ok(frame) => accepted(input, frame),
+        Err(refusal) => refused(*refusal),
+    }
+}
+
+/// What the decoder owes, beside what is owed of an old capture: the same, but 10 where nulls stand before the frame (B8).
+pub fn owed(input: &[u8], old: Decode) -> Decode {
+    if domain::is_nulled(input) { refused(plain(10)) } else { old }
+}
+
+/// What is owed where the Rust accepts: info is the input's end, wherever the Rust copied it to.
 pub fn accepted(input: &[u8], frame: &Ax25Frame) -> Decode {
     let info_len = flat::info_of(frame).map(<[u8]>::len);
-    Decode {
-        number: 0,
-        start: 0,
-        end: 0,
-        length: 0,
-        info_start: info_len.map_or(0, |len| input.len() - len),
-        info_len: info_len.unwrap_or(0),
-        record: flat::carrying(flat::of_frame(frame), domain::reserved_of(input), domain::pid_of(input)),
-    }
+    let info_start = info_len.map_or(0, |len| input.len() - len);
+    Decode { number: 0, places: [0, 0, 0, info_start, info_len.unwrap_or(0)], record: Some(record(input, frame)) }
+}
+
+/// The record of an input that the Rust reads as this frame: what the frame does not hold is the input's own, the reserved bits and the
+/// octet of a layer 3 identifier.
+pub fn record(input: &[u8], frame: &Ax25Frame) -> Flat {
+    flat::carrying(flat::of_frame(frame), domain::reserved_of(input), domain::pid_of(input))
+}
+
+fn refused(refusal: Refusal) -> Decode {
+    Decode { number: refusal.number, places: [refusal.start, refusal.end, refusal.length, 0, 0], record: None }
 }
 
 /// What the port owes to write.
@@ -119,12 +170,6 @@ pub fn simple_ui(source: &FlatAddress, destination: &FlatAddress, info: &[u8]) -
     let reserved = [destination, source].map(|address| address[RESERVED]);
     let record = flat::carrying(flat::of_frame(&frame), reserved.into_iter(), 0);
     (frame, record)
-}
-
-/// What the port owes beside a refusal: the default frame.
-pub fn refused(refusal: Refusal) -> Decode {
-    let Refusal { number, start, end, length } = refusal;
-    Decode { number, start, end, length, info_start: 0, info_len: 0, record: flat::of_frame(&Ax25Frame::default()) }
 }
 
 fn text_number(error: &AddressParseError) -> u32 {

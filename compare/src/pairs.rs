@@ -28,7 +28,7 @@ pub enum Way {
     Moved,
     /// Reserved bits, the layer 3 octet, marks or an SSID given anew.
     Field,
-    /// Nulls, leftover octets or a tail added.
+    /// Leftover octets or a tail added, which leave frame and info as they are; or nulls, behind which it is refused.
     Longer,
     /// As it came: with the frame and info of another of a capture, or given by hand.
     Met,
@@ -71,7 +71,7 @@ pub const WAYS: [(Way, &str, &[Outcome]); 9] = [
     (Way::Written, "written by the port", &[Outcome::Same, Outcome::Frame, Outcome::Info]),
     (Way::Moved, "octets moved", &[Outcome::Same, Outcome::Refused, Outcome::Frame, Outcome::Info]),
     (Way::Field, "one field given anew", &[Outcome::Same, Outcome::Frame]),
-    (Way::Longer, "made longer", &[Outcome::Length]),
+    (Way::Longer, "made longer", &[Outcome::Length, Outcome::Neither]),
     (Way::Met, "met with the same frame and info", &[]),
 ];
 
@@ -258,16 +258,12 @@ fn moved(rng: &mut Rng, frame: &[u8]) -> Vec<u8> {
         _ => octets.split_off(frame.len() - rng.within(1, (frame.len() - end - 1).min(3))),
     };
     match rng.below(4) {
-        0 => add_nulls(&mut octets, taken.len()),
+        0 => octets = inputs::behind(taken.len(), &octets),
         1 => add_leftover(rng, &mut octets, taken.len()),
         2 => octets.extend(taken),
         _ => octets.extend(rng.octets(taken.len())),
     }
     octets
-}
-
-fn add_nulls(octets: &mut Vec<u8>, count: usize) {
-    octets.splice(..0, vec![0; count]);
 }
 
 /// Octets behind the last group, which then is not the end.
@@ -304,7 +300,7 @@ fn longer(rng: &mut Rng, frame: &[u8], has_tail: bool) -> Vec<u8> {
         add_leftover(rng, &mut octets, count);
     }
     if what & 1 != 0 {
-        add_nulls(&mut octets, rng.within(1, 9));
+        octets = inputs::behind(rng.within(1, 9), &octets);
     }
     if what & 4 != 0 {
         let length = rng.within(1, 9);

@@ -6,6 +6,7 @@ use crate::lent::{self, Between, Lent};
 #[link(name = "loader", kind = "static")]
 extern "C" {
     fn ax25_decode(input: *const u8, input_len: usize) -> u32;
+    fn ax25_decode_old_capture(input: *const u8, input_len: usize) -> u32;
     fn ax25_canonical(input: *const u8, input_len: usize) -> u32;
     fn ax25_reencoded_length(input: *const u8, input_len: usize) -> usize;
     fn ax25_reencode(input: *const u8, input_len: usize, output: *mut u8, output_len: usize) -> u32;
@@ -32,6 +33,14 @@ extern "C" {
 #[link(name = "probe", kind = "static")]
 extern "C" {
     fn probe_decode(
+        input: *const u8,
+        input_len: usize,
+        record: *mut u8,
+        record_len: usize,
+        places: *mut usize,
+        places_len: usize,
+    ) -> u32;
+    fn probe_decode_old(
         input: *const u8,
         input_len: usize,
         record: *mut u8,
@@ -122,7 +131,16 @@ pub struct Fed {
     pub data: Vec<u8>,
 }
 
-/// The number of places that `probe_decode` gives: start, end, length, and info's start and length.
+/// The port's two decoders.
+#[derive(Clone, Copy, Debug)]
+pub enum Entry {
+    /// The one that all other calls read by.
+    Decoder,
+    /// The one that skips leading nulls, for captures that were taken before they were refused (document 02, M-108).
+    OldCapture,
+}
+
+/// The number of places that both give: start, end, length, and info's start and length.
 pub const PLACES: usize = 5;
 /// The number of numbers that `probe_hops` gives: hop set, hops used, due place.
 pub const HOPS: usize = 3;
@@ -187,9 +205,13 @@ impl Port {
         self.see(holds, "the second input, or an octet beside it, was written");
     }
 
-    pub fn number(&mut self, input: &[u8]) -> u32 {
+    pub fn number(&mut self, entry: Entry, input: &[u8]) -> u32 {
         self.input.hold(input);
-        let number = unsafe { ax25_decode(self.input.ptr(), self.input.len()) };
+        let call = match entry {
+            Entry::Decoder => ax25_decode,
+            Entry::OldCapture => ax25_decode_old_capture,
+        };
+        let number = unsafe { call(self.input.ptr(), self.input.len()) };
         self.see_input(input);
         number
     }
@@ -288,13 +310,16 @@ impl Port {
     }
 
     /// Leaves the record in the output and the places in the sizes.
-    pub fn decode(&mut self, input: &[u8], room: usize, places: usize) -> u32 {
+    pub fn decode(&mut self, entry: Entry, input: &[u8], room: usize, places: usize) -> u32 {
         self.input.hold(input);
         self.output.room(room);
         self.sizes.room(places);
-        let number = unsafe {
-            probe_decode(self.input.ptr(), self.input.len(), self.output.mut_ptr(), room, self.sizes.mut_ptr(), places)
+        let call = match entry {
+            Entry::Decoder => probe_decode,
+            Entry::OldCapture => probe_decode_old,
         };
+        let number =
+            unsafe { call(self.input.ptr(), self.input.len(), self.output.mut_ptr(), room, self.sizes.mut_ptr(), places) };
         self.see_input(input);
         number
     }
@@ -539,6 +564,10 @@ impl Port {
 pub mod bare {
     pub fn decode(input: &[u8]) -> u32 {
         unsafe { super::ax25_decode(input.as_ptr(), input.len()) }
+    }
+
+    pub fn decode_old_capture(input: &[u8]) -> u32 {
+        unsafe { super::ax25_decode_old_capture(input.as_ptr(), input.len()) }
     }
 
     pub fn canonical(input: &[u8]) -> u32 {

@@ -317,7 +317,7 @@ pub fn marked(rng: &mut Rng, kind: u8, count: usize) -> Flat {
         put(&mut record, address, any_address(rng));
     }
     if record[DESTINATION] == 0 {
-        // A single bit: without it the input starts with a null.
+        // A single bit: without it the input starts with a null, and is refused.
         record[DESTINATION] = 1 << rng.below(7);
     }
     settle_octet(&mut record);

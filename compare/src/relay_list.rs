@@ -3,7 +3,7 @@
 use crate::check;
 use crate::domain;
 use crate::flat::{self, ONES, RESERVED};
-use crate::inputs;
+use crate::inputs::{self, behind};
 use crate::lines::List;
 use crate::relays::{self, Own};
 use crate::replay::{spanned, LONGEST, STATIONS};
@@ -75,10 +75,11 @@ fn readme(list: &mut List) {
 
 fn no_address(list: &mut List) {
     heading(list, "22 before all else: seven octets, one of 128 or more, an SSID over 15, all of them. The frame is empty (1),");
-    list.heading("is refused and has no repeater (7, 41), or has one that most of these would be if they were cut to their bits.");
+    list.heading("is refused and has no repeater (7, 41), has one that most of these would be if they were cut to their bits, or has nulls before");
+    list.heading("it (10).");
     let none = [(&b"HILL1  "[..], 2), (b"HILL\xB1", 2), (b"HILL1\x80", 2), (b"HILL1", 16), (b"HILL1", 0xF2), (b"HILL1\xA0 ", 18)];
     for (callsign, ssid) in none {
-        for frame in [vec![], inputs::with_content(&[0x6F]), ours(&CONTENT)] {
+        for frame in [vec![], inputs::with_content(&[0x6F]), ours(&CONTENT), behind(1, &ours(&CONTENT))] {
             list.relay(&Own::new(callsign, ssid), &frame);
         }
     }
@@ -159,15 +160,23 @@ fn marks(list: &mut List) {
 }
 
 fn around_the_route(list: &mut List) {
-    heading(list, "nulls before the frame stay.");
+    heading(list, "10, nulls before a frame that is ours to pass on (M-108), the last one with octets left over in its address");
+    list.heading("field.");
     for nulls in (1..=8).chain([20]) {
-        list.relay(&hill(), &[&vec![0; nulls], &ours(&CONTENT)[..]].concat());
+        list.relay(&hill(), &behind(nulls, &ours(&CONTENT)));
     }
-    heading(list, "one to six octets left over in the address field stay, also behind nulls. The second of two is due.");
+    list.relay(&named(1), &behind(3, &spanned(33, &CONTENT)));
+    heading(list, "10 comes before decoding's other numbers, and before 41, 42 and 43 (M-108).");
+    for frame in [vec![0x02], spanned(13, &CONTENT), ours(&[]), inputs::with_repeaters(9, &CONTENT), ours(&[0x6F])] {
+        list.relay(&hill(), &behind(1, &frame));
+    }
+    for frame in [marked(3, 0b111), marked(3, 0b101), marked(3, 0b001)] {
+        list.relay(&hill(), &behind(1, &frame));
+    }
+    heading(list, "one to six octets left over in the address field stay. The second of two is due.");
     for left_over in 1..=6 {
         list.relay(&named(1), &spanned(28 + left_over, &CONTENT));
     }
-    list.relay(&named(1), &[&[0; 3], &spanned(33, &CONTENT)[..]].concat());
     heading(list, "reserved bits stay, set or clear, and so do the marks of destination and source.");
     [0x05, 0x25, 0x45, 0x65].iter().for_each(|&last| list.relay(&hill(), &ours_with(last)));
     for (destination, source) in [(0x00, 0x06), (0x60, 0xE6), (0xE0, 0xE6)] {
@@ -240,11 +249,12 @@ fn stations(list: &mut List) {
 }
 
 fn seeded(list: &mut List) {
-    heading(list, "seeded frames and damaged copies, by a station of the route, almost the one that is due, or none.");
+    heading(list, "seeded frames and damaged copies, by a station of the route, almost the one that is due, or none; leading");
+    list.heading("nulls by M-108.");
     let mut draw = Rng::new(8);
     let mut keep = |input: &[u8]| {
         if input.len() < LONGEST {
-            let all = relays::around(&check::decoded(input), &mut draw);
+            let all = relays::around(&check::read_old(input), &mut draw);
             list.relay(draw.pick(&all), input);
         }
     };

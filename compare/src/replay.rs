@@ -4,7 +4,7 @@ use crate::check::padded;
 use crate::domain;
 use crate::flat::{self, station, Flat, FlatAddress, ADDRESS, ADDRESSES, NOCALL, ONES, REPEATERS, RESERVED};
 use crate::flat::{COUNT, DESTINATION, ENTRY, KIND, MARK, PID, PID_OCTET, POLL, RECEIVE, ROUTE, SEND, SOURCE};
-use crate::inputs;
+use crate::inputs::{self, behind};
 use crate::lines::{List, HEADING};
 use crate::records;
 use crate::relay_list;
@@ -15,7 +15,7 @@ use crate::texts;
 pub const LONGEST: usize = 120;
 
 /// Prints about this many lines: what is always there, and seeded inputs up to the number. The lines of relaying, of single groups, of
-/// the layer 3 octet and of the reserved bits come on top of these, so that no other line hangs on how many they are.
+/// the layer 3 octet, of the reserved bits and of old captures come on top of these, so that no other line hangs on how many they are.
 pub fn list(lines: usize) {
     println!("{}", HEADING);
     let mut list = List { lines: 0 };
@@ -29,7 +29,7 @@ pub fn list(lines: usize) {
     hops(&mut list);
     text(&mut list);
     printing(&mut list);
-    list.heading("Seeded frames and damaged copies.");
+    list.heading("Seeded frames and damaged copies; leading nulls by document 02 (M-108).");
     let left = lines.saturating_sub(list.lines);
     let mut keep = |input: &[u8]| {
         if domain::repeaters(input) <= flat::REPEATERS && input.len() < LONGEST {
@@ -42,18 +42,27 @@ pub fn list(lines: usize) {
     groups(&mut list);
     layer_3(&mut list);
     reserved_bits(&mut list);
+    old_captures(&mut list);
+}
+
+/// P1 to P13 of document 01.
+fn proved_examples() -> Vec<Vec<u8>> {
+    let [short, field] = [[&inputs::FRAME[..12], &[0x41]].concat(), inputs::FRAME[..inputs::FIELD].to_vec()];
+    let frames = [&[][..], &[0x8E, 0x82], &short, &field, &inputs::FRAME, &behind(1, &inputs::FRAME)].map(<[u8]>::to_vec);
+    let contents = [&[0x03][..], &[0x0D], &[0x6F], &[0x87, 1, 2], &[0x87, 0xF1, 3, 0x44], &[0x01, 0xAA], &[0x03, 0x20]];
+    frames.into_iter().chain(contents.map(inputs::with_content)).collect()
 }
 
 /// Document 01's examples, each under its name there.
 fn examples(list: &mut List) {
-    let [short, field] = [[&inputs::FRAME[..12], &[0x41]].concat(), inputs::FRAME[..inputs::FIELD].to_vec()];
-    let nulled = [&[0], &inputs::FRAME[..]].concat();
-    let frames = [&[][..], &[0x8E, 0x82], &short, &field, &inputs::FRAME, &nulled].map(<[u8]>::to_vec);
-    let contents = [&[0x03][..], &[0x0D], &[0x6F], &[0x87, 1, 2], &[0x87, 0xF1, 3, 0x44], &[0x01, 0xAA], &[0x03, 0x20]];
-    for (i, input) in frames.into_iter().chain(contents.map(inputs::with_content)).enumerate() {
-        let by = if i + 1 == 13 { ", by document 02 (M-105): the Rust writes 03 10" } else { "" };
+    for (i, input) in proved_examples().iter().enumerate() {
+        let by = match i + 1 {
+            6 => ", by document 02 (M-108): the Rust skips the null",
+            13 => ", by document 02 (M-105): the Rust writes 03 10",
+            _ => "",
+        };
         list.heading(&format!("Example P{}{}.", i + 1, by));
-        list.decode(&input);
+        list.decode(input);
     }
     list.heading("Example span 76: eight repeaters.");
     both(list, 76);
@@ -103,8 +112,8 @@ fn slips(list: &mut List) {
 }
 
 fn decoding(list: &mut List) {
-    list.heading("The smallest inputs of docs/DIFFERENCES.md, A1 to A15: without A13, which is a record and stands among those, and for A5 and");
-    list.heading("A6 those of B7 and B6, by document 02 (M-106, M-105).");
+    list.heading("The smallest inputs of docs/DIFFERENCES.md, A1 to A15: without A13, which is a record and stands among those, and for A1,");
+    list.heading("A5 and A6 those of B8, B7 and B6, by document 02 (M-108, M-106, M-105).");
     for input in departures() {
         list.decode(&input);
     }
@@ -113,10 +122,10 @@ fn decoding(list: &mut List) {
         list.decode(&spanned(span, &[0x01]));
         list.decode(&spanned(span, &[]));
     }
-    list.heading("Leading nulls, nothing but nulls, no end.");
+    list.heading("Nothing but nulls; leading nulls, by document 02 (M-108); no end.");
     for nulls in 1..=20 {
         list.decode(&vec![0; nulls]);
-        list.decode(&[&vec![0; nulls], &inputs::FRAME[..]].concat());
+        list.decode(&behind(nulls, &inputs::FRAME));
         list.decode(&vec![0x82; nulls]);
     }
     list.heading("Every control octet, with content of 1 and 4 octets; the PID 5A by document 02 (M-105).");
@@ -141,7 +150,7 @@ fn decoding(list: &mut List) {
         input[13] = (bits >> 3) << 5 | 0x07;
         list.decode(&input);
     }
-    list.heading("Callsign characters: empty, zeros, inner spaces, lower case.");
+    list.heading("Callsign characters: empty, zeros, inner spaces, lower case; a destination that starts with zero by document 02 (M-108).");
     for callsign in [b"      ", b"\0\0\0\0\0\0", b"A B   ", b" A    ", b"\0A    ", b"a     ", b"\x7f\x01!%-*", b"A\0    "] {
         for at in [0, 7] {
             let mut input = inputs::FRAME.to_vec();
@@ -155,12 +164,12 @@ fn decoding(list: &mut List) {
             list.decode(&inputs::with_repeaters(count, content));
         }
     }
-    list.heading("Spans of a field of twelve stations, odd ones among them, behind nulls, with content and without; the PID 20 and reserved");
-    list.heading("bits that are clear by document 02 (M-105, M-106).");
+    list.heading("Spans of a field of twelve stations, odd ones among them, with content and without; the PID 20, reserved bits that are");
+    list.heading("clear and leading nulls by document 02 (M-105, M-106, M-108).");
     for span in [13, 14, 15, 18, 20, 21, 28, 69, 70, 71, 75, 76] {
         for nulls in [0, 1, 3] {
             for content in [&[0x13, 0x20, 0x41, 0x42, 0x43][..], &[]] {
-                let mut input = [&vec![0; nulls], &STATIONS[..span]].concat();
+                let mut input = behind(nulls, &STATIONS[..span]);
                 input[nulls + span - 1] |= 1;
                 input.extend(content);
                 list.decode(&input);
@@ -183,14 +192,14 @@ fn with_ssids(first: u8, second: u8, content: &[u8]) -> Vec<u8> {
     input
 }
 
-/// One input for each place where the Rust departs from AX.25 (docs/DIFFERENCES.md, A; the sixth is B6 since M-105, and the fifth B7
-/// since M-106).
+/// One input for each place where the Rust departs from AX.25 (docs/DIFFERENCES.md, A; the sixth is B6 since M-105, the fifth B7 since
+/// M-106, and the first B8 since M-108).
 fn departures() -> Vec<Vec<u8>> {
     let mut empty_callsign = inputs::with_content(&[0x01]);
     empty_callsign[..6].fill(b' ' << 1);
     let left_over = with_ssids(0xE0, 0x66, &[0x01, 0x01]);
     vec![
-        [&[0x00], &inputs::with_content(&[0x01])[..]].concat(),
+        behind(1, &inputs::with_content(&[0x01])),
         left_over,
         empty_callsign,
         inputs::with_content(&[0x01, 0xAA]),
@@ -497,7 +506,7 @@ const OVER: [u8; 8] = [4, 5, 7, 8, 0x40, 0x60, 0x80, 0xFF];
 
 fn reserved_bits(list: &mut List) {
     list.heading("Decoding, by document 02 (M-106): every setting of the reserved bits in each group of a frame with eight repeaters; each");
-    list.heading("group with another than the one before it, behind nulls and without, with octets left over.");
+    list.heading("group with another than the one before it, with octets left over; and the same behind nulls (M-108).");
     for group in 0..ADDRESSES {
         for reserved in 0..=ONES {
             let mut input = inputs::with_repeaters(REPEATERS, &[0x03, 0xF0]);
@@ -509,7 +518,7 @@ fn reserved_bits(list: &mut List) {
         let mut input = spanned(span, &[0x03, 0xF0, 0x41]);
         (0..span / 7).for_each(|group| inputs::set_reserved(&mut input, group, group as u8 % 4));
         list.decode(&input);
-        list.decode(&[&[0, 0], &input[..]].concat());
+        list.decode(&behind(2, &input));
     }
     written_reserved(list);
     addresses_reserved(list);
@@ -566,6 +575,22 @@ fn addresses_reserved(list: &mut List) {
         BITS.iter().for_each(|&[mark, end]| list.group(&box12(number), mark, end, 1));
         list.group(&box12(number), true, false, 3);
     }
+}
+
+fn old_captures(list: &mut List) {
+    list.heading("Leading nulls, by document 02 (M-108): the smallest input that the Rust refuses by another number; what the Rust refuses by");
+    list.heading("its address field, or reads with nine repeaters; and every sort of content.");
+    list.decode(&[0x00, 0x02]);
+    for input in [spanned(13, &[0x01]), spanned(14, &[]), spanned(77, &[0x01])] {
+        [1, 9].iter().for_each(|&nulls| list.decode(&behind(nulls, &input)));
+    }
+    for content in inputs::contents() {
+        [1, 9].iter().for_each(|&nulls| list.decode(&behind(nulls, &inputs::with_repeaters(1, &content))));
+    }
+    list.heading("Old captures without nulls: examples P1 to P5 and P7 to P13, the last by document 02 (M-105); eight repeaters; nine, by");
+    list.heading("document 01 (9).");
+    proved_examples().iter().filter(|input| input.first() != Some(&0)).for_each(|input| list.old_capture(input));
+    [76, 77].iter().for_each(|&span| list.old_capture(&spanned(span, &[0x03, 0xF0, 0x41])));
 }
 
 fn beyond(list: &mut List) {

@@ -120,6 +120,9 @@ pub fn totals(report: &mut Report, seen: &Seen) {
     let numbers = seen.number_counts();
     let said: Vec<String> = numbers.iter().map(|(number, count)| format!("{}: {}", number, count)).collect();
     println!("decode numbers: {}", said.join(", "));
+    let old = seen.old_captures.counts();
+    let said: Vec<String> = old.iter().map(|(number, count)| format!("{}: {}", number, count)).collect();
+    println!("decode numbers as old captures: {}; behind nulls: {}", said.join(", "), seen.old_captures.nulled);
     let kinds = seen.kind_counts();
     let said: Vec<String> = kinds.iter().map(|(kind, count)| format!("{}: {}", kind, count)).collect();
     println!("kinds accepted: {}; canonical: {} of {}", said.join(", "), seen.canonical[1], seen.canonical[0] + seen.canonical[1]);
@@ -136,6 +139,7 @@ pub fn totals(report: &mut Report, seen: &Seen) {
     report.extra("canonical", seen.canonical[1].to_string());
     report.extra("accepted", (seen.canonical[0] + seen.canonical[1]).to_string());
     report.extra("decode_numbers", counts(numbers.iter().map(|(number, count)| (number.to_string(), *count))));
+    report.extra("old_capture_numbers", counts(old.iter().map(|(number, count)| (number.to_string(), *count))));
     report.extra("packet_numbers", counts(packets.iter().map(|(number, count)| (number.to_string(), *count))));
     let of_streams = [("streams", streams.streams), ("octets", streams.octets), ("packets", streams.given), ("dropped", streams.dropped)];
     report.extra("kiss_streams", counts(of_streams.into_iter().map(|(name, count)| (name.to_string(), count))));

@@ -4,23 +4,26 @@ use crate::domain::{self, Listed, LISTED, RESERVED_BITS, RUST_LAYER_3};
 use crate::flat::*;
 use crate::kiss::{self, FEND, FESC, LONGEST, PORTS, TFEND, TFESC};
 use crate::lent::{Room, ROOMS};
+use crate::oracle::Decode;
 use crate::pairs::{Outcome, Way, OUTCOMES, WAYS};
 use crate::port::State;
 use crate::relays::Own;
 use crate::show;
 use ax25::frame::Ax25Frame;
 
-/// The numbers of document 01 that each kind of input can give.
-const DECODE_NUMBERS: [u32; 10] = [0, 1, 2, 3, 4, 5, 6, 7, 8, 9];
+/// The numbers of documents 01 and 02 that each kind of input can give.
+const DECODE_NUMBERS: [u32; 11] = [0, 1, 2, 3, 4, 5, 6, 7, 8, 9, 10];
+/// The same of an old capture.
+const OLD_NUMBERS: [u32; 10] = [0, 1, 2, 3, 4, 5, 6, 7, 8, 9];
 const WRITE_NUMBERS: [u32; 4] = [21, 22, 23, 25];
 const TEXT_NUMBERS: [u32; 6] = [0, 31, 32, 33, 34, 35];
 const PRINT_NUMBERS: [u32; 2] = [0, 22];
 /// The numbers of content alone, read and written.
 const CONTENT_NUMBERS: [u32; 8] = [0, 4, 5, 6, 7, 8, 23, 25];
 /// The numbers that writing an input again, side by side with it, can give.
-const BESIDE_NUMBERS: [u32; 11] = [0, 1, 2, 3, 4, 5, 6, 7, 8, 9, 24];
+const BESIDE_NUMBERS: [u32; 12] = [0, 1, 2, 3, 4, 5, 6, 7, 8, 9, 10, 24];
 /// Those of the relay: the refusals in their order.
-const RELAY_NUMBERS: [u32; 14] = [0, 22, 1, 2, 3, 4, 9, 5, 6, 7, 8, 41, 43, 42];
+const RELAY_NUMBERS: [u32; 15] = [0, 22, 1, 10, 2, 3, 4, 9, 5, 6, 7, 8, 41, 43, 42];
 /// Those of them that an accepted frame gets, by its route.
 const ROUTE_NUMBERS: [u32; 4] = [0, 41, 43, 42];
 /// Those of a KISS packet, read and written.
@@ -235,6 +238,57 @@ impl Streams {
     }
 }
 
+/// How many nulls an old capture starts with.
+const NULLS: [&str; 3] = ["without nulls", "behind one null", "behind more nulls"];
+
+/// What of old captures was met (document 02, M-108).
+#[derive(Default)]
+pub struct OldCaptures {
+    /// Those with nulls before something.
+    pub nulled: u64,
+    /// By number, without nulls, behind one and behind more.
+    numbers: [[u64; OLD_NUMBERS.len()]; NULLS.len()],
+    /// Frames that were read behind nulls, by kind, mark and repeaters; and in I and UI, without info and with it.
+    kinds: [u64; UNKNOWN_CONTENT as usize],
+    marks: [u64; 3],
+    routes: [u64; REPEATERS + 1],
+    infos: [[u64; 2]; 2],
+}
+
+impl OldCaptures {
+    /// A capture, which owes this.
+    pub fn capture(&mut self, input: &[u8], owed: &Decode) {
+        let nulls = domain::nulls(input);
+        count(&mut self.numbers[nulls.min(2)], owed.number as usize);
+        self.nulled += u64::from(domain::is_nulled(input));
+        if let (1.., Some(record)) = (nulls, &owed.record) {
+            count(&mut self.kinds, record[KIND].into());
+            count(&mut self.marks, record[MARK].into());
+            count(&mut self.routes, record[COUNT].into());
+            if has_pid(record) {
+                self.infos[pid_kind(record)][usize::from(!owed.info(input).is_empty())] += 1;
+            }
+        }
+    }
+
+    /// How often each number was met.
+    pub fn counts(&self) -> Vec<(u32, u64)> {
+        OLD_NUMBERS.iter().map(|&number| (number, self.numbers.iter().map(|of| of[number as usize]).sum())).collect()
+    }
+
+    fn missing(&self, missing: &mut Missing) {
+        for (nulls, numbers) in NULLS.iter().zip(&self.numbers) {
+            missing.numbers(&format!("old capture {}, number", nulls), &OLD_NUMBERS, numbers);
+        }
+        missing.cases("old capture behind nulls, kind", &self.kinds);
+        missing.cases("old capture behind nulls, mark", &self.marks);
+        missing.cases("old capture behind nulls, repeaters", &self.routes);
+        for (kind, infos) in ["I", "UI"].iter().zip(&self.infos) {
+            missing.cases(&format!("old capture behind nulls, {} without info and with it: case", kind), infos);
+        }
+    }
+}
+
 /// What a bit of a canonical frame is part of.
 #[derive(Clone, Copy)]
 enum Part {
@@ -398,7 +452,7 @@ pub struct Seen {
     content_numbers: [u64; TABLE],
     beside_numbers: [u64; TABLE],
     /// By decode number, a refused input re-encoded into no room, into less than the input and into more.
-    refused_rooms: [[u64; 3]; 10],
+    refused_rooms: [[u64; 3]; DECODE_NUMBERS.len()],
     read_kinds: [u64; 11],
     marks: [u64; 3],
     pids: [u64; 16],
@@ -425,9 +479,11 @@ pub struct Seen {
     outside_before: [[u64; 2]; 2],
     /// Each class with the rooms that each writer was lent in it.
     classes: Vec<(String, [Rooms; WRITERS.len()])>,
-    /// By place, a first nonzero octet 01; and the first odd octet. Both apart for a place in a whole eight and one in the rest.
+    /// By place, a first nonzero octet 01; by place and bit, an octet with one bit among nulls, which alone tell 10 from 1; and the first odd
+    /// octet, without nulls, and behind nulls by its place after them. Each apart for a place in a whole eight and one in the rest.
     first_ones: [[u64; 2]; SEARCHED],
-    ends: [[u64; 2]; SEARCHED],
+    among_nulls: [[[u64; 8]; 2]; SEARCHED],
+    ends: [[[u64; 2]; SEARCHED]; 2],
     /// By place modulo 8, an even first nonzero octet and the first odd octet after it.
     fields: [[u64; 8]; 8],
     listed: [u64; LISTED.len()],
@@ -448,8 +504,10 @@ pub struct Seen {
     broken: [[u64; 3]; REPEATERS - 1],
     /// By the length of the callsign that relayed a frame.
     callsigns: [u64; 7],
-    /// Whether a relayed frame had nulls before it, and octets left over in its address field.
-    around_relayed: [[u64; 2]; 2],
+    /// Whether a relayed frame had octets left over in its address field.
+    left_over: [u64; 2],
+    /// 10 to a station for which what stands behind the nulls would be passed on, refused by its route, refused by decoding.
+    relay_nulls: [u64; 3],
     /// 22 for a callsign that is too long, an octet of 128 or more, an SSID over 15.
     not_own: [u64; 3],
     /// By whether the callsign is another, 42 for a station with the same SSID and with another.
@@ -459,6 +517,7 @@ pub struct Seen {
     packets: Packets,
     pub streams: Streams,
     pub pairs: Pairs,
+    pub old_captures: OldCaptures,
 }
 
 fn count(table: &mut [u64], at: usize) {
@@ -522,7 +581,7 @@ impl Seen {
             print_numbers: [0; TABLE],
             content_numbers: [0; TABLE],
             beside_numbers: [0; TABLE],
-            refused_rooms: [[0; 3]; 10],
+            refused_rooms: [[0; 3]; DECODE_NUMBERS.len()],
             read_kinds: [0; 11],
             marks: [0; 3],
             pids: [0; 16],
@@ -540,7 +599,8 @@ impl Seen {
             outside_before: [[0; 2]; 2],
             classes: Vec::new(),
             first_ones: [[0; 2]; SEARCHED],
-            ends: [[0; 2]; SEARCHED],
+            among_nulls: [[[0; 8]; 2]; SEARCHED],
+            ends: [[[0; 2]; SEARCHED]; 2],
             fields: [[0; 8]; 8],
             listed: [0; LISTED.len()],
             wide: [0; 2],
@@ -553,7 +613,8 @@ impl Seen {
             relay_reserved: Default::default(),
             broken: [[0; 3]; REPEATERS - 1],
             callsigns: [0; 7],
-            around_relayed: [[0; 2]; 2],
+            left_over: [0; 2],
+            relay_nulls: [0; 3],
             not_own: [0; 3],
             others: [[0; 2]; 2],
             packet_numbers: [0; TABLE],
@@ -561,6 +622,7 @@ impl Seen {
             packets: Packets::default(),
             streams: Streams::default(),
             pairs: Pairs::default(),
+            old_captures: OldCaptures::default(),
         }
     }
 
@@ -588,16 +650,25 @@ impl Seen {
         count(&mut self.decode_numbers, number as usize);
     }
 
-    /// Where a search for the first nonzero octet and one for the first odd octet of the input come to their ends.
-    pub fn searched(&mut self, input: &[u8], start: usize, end: usize) {
-        let rest = |place: usize| usize::from(place >= input.len() / 8 * 8);
-        if let Some(cell) = self.ends.get_mut(end) {
-            cell[rest(end)] += 1;
+    /// Where a search for the first nonzero octet of the input and one for the first odd octet from there on come to their ends.
+    pub fn searched(&mut self, input: &[u8]) {
+        let rest = |place: usize, length: usize| usize::from(place >= length / 8 * 8);
+        let nulls = domain::nulls(input);
+        if let ([one, others @ ..], Some(cells)) = (&input[nulls..], self.among_nulls.get_mut(nulls)) {
+            if one.is_power_of_two() && others.iter().all(|&octet| octet == 0) {
+                cells[rest(nulls, input.len())][one.trailing_zeros() as usize] += 1;
+            }
+        }
+        let Some((start, end)) = domain::field(input) else {
+            return;
+        };
+        if let Some(cell) = self.ends[usize::from(start > 0)].get_mut(end - start) {
+            cell[rest(end - start, input.len() - start)] += 1;
         }
         if start < end {
             self.fields[start % 8][end % 8] += 1;
         } else if let (1, Some(cell)) = (input[start], self.first_ones.get_mut(start)) {
-            cell[rest(start)] += 1;
+            cell[rest(start, input.len())] += 1;
         }
     }
 
@@ -739,8 +810,15 @@ impl Seen {
         self.stations[usize::from(held)][usize::from(reserved)][usize::from(same)] += 1;
     }
 
-    /// A relay, which owes this due place or this number.
-    pub fn relay(&mut self, own: &Own, input: &[u8], read: &Result<Ax25Frame, u32>, owed: Result<usize, u32>) {
+    /// A relay, which owes this due place or this number; `behind` is what would be owed without any nulls before the frame.
+    pub fn relay(
+        &mut self,
+        own: &Own,
+        input: &[u8],
+        read: &Result<Ax25Frame, u32>,
+        owed: Result<usize, u32>,
+        behind: Result<usize, u32>,
+    ) {
         let number = owed.err().unwrap_or(0);
         count(&mut self.relay_numbers, number as usize);
         if let Some(case) = ROUTE_NUMBERS.iter().position(|&by_route| by_route == number) {
@@ -752,7 +830,15 @@ impl Seen {
                 self.due_places[due][usize::from(reserved)] += 1;
                 count(&mut self.callsigns, own.callsign.len());
                 let (start, end) = domain::field(input).unwrap_or((0, 0));
-                self.around_relayed[usize::from(start > 0)][usize::from((end - start + 1) % 7 > 0)] += 1;
+                self.left_over[usize::from((end - start + 1) % 7 > 0)] += 1;
+            }
+            (Err(10), _) => {
+                let case = match behind {
+                    Ok(_) => 0,
+                    Err(number) if ROUTE_NUMBERS.contains(&number) => 1,
+                    Err(_) => 2,
+                };
+                self.relay_nulls[case] += 1;
             }
             (Err(22), _) => {
                 let causes = [own.callsign.len() > 6, domain::is_wide(&own.callsign), own.ssid > 15];
@@ -872,6 +958,7 @@ impl Seen {
         self.packets.missing(&mut missing);
         self.streams.missing(&mut missing);
         self.pairs.missing(&mut missing);
+        self.old_captures.missing(&mut missing);
         for number in 1..self.refused_rooms.len() {
             missing.cases(&format!("re-encoding refused by {} with no room, less than the input, more: case", number), &self.refused_rooms[number]);
         }
@@ -879,7 +966,12 @@ impl Seen {
             // The last place of an eight is never in the rest.
             let parts = if place % 8 == 7 { 1 } else { 2 };
             missing.cases(&format!("first nonzero octet 01 at {}, in an eight or the rest: case", place), &self.first_ones[place][..parts]);
-            missing.cases(&format!("first odd octet at {}, in an eight or the rest: case", place), &self.ends[place][..parts]);
+            for (part, bits) in ["in an eight", "in the rest"].iter().zip(&self.among_nulls[place][..parts]) {
+                missing.cases(&format!("one bit among nulls at {}, {}: bit", place, part), bits);
+            }
+            for (nulls, ends) in ["", ", counted behind nulls"].iter().zip(&self.ends) {
+                missing.cases(&format!("first odd octet at {}{}, in an eight or the rest: case", place, nulls), &ends[place][..parts]);
+            }
         }
         for start in 0..8 {
             missing.cases(&format!("start even at {} modulo 8, end modulo 8 at", start), &self.fields[start]);
@@ -902,8 +994,8 @@ impl Seen {
             missing.cases(&format!("relay refused by 43 where place {} is due, to it, to a marked one after it, to another: case", place), whose);
         }
         missing.cases("relay by a callsign of length", &self.callsigns);
-        missing.cases("relay without nulls before, with none or some octets left over: case", &self.around_relayed[0]);
-        missing.cases("relay with nulls before, with none or some octets left over: case", &self.around_relayed[1]);
+        missing.cases("relay with none or some octets left over: case", &self.left_over);
+        missing.cases("relay refused by 10 where it would be passed on, refused by its route, refused by decoding: case", &self.relay_nulls);
         missing.cases("relay refused by 22 for a long callsign, a wide octet, an SSID: case", &self.not_own);
         missing.cases("relay refused by 42 for the SSID alone, case", &self.others[0][1..]);
         missing.cases("relay refused by 42 for the callsign, with the same SSID or another: case", &self.others[1]);

@@ -7,7 +7,7 @@ use crate::inputs;
 use crate::kiss;
 use crate::oracle;
 use crate::pairs::Way;
-use crate::port::{Port, FRESH, HOPS, PLACES};
+use crate::port::{Entry, Port, FRESH, HOPS, PLACES};
 use crate::relays::Own;
 use crate::show;
 use crate::streams;
@@ -37,6 +37,7 @@ pub fn one(input: &[u8]) -> bool {
     if domain::repeaters(input) > flat::REPEATERS {
         println!("outside the domain of equality (B1): {} repeaters, the port owes 9", domain::repeaters(input));
     }
+    show_nulled(input);
     show_rust(input);
     show_port(&mut checker, input);
     let mut found = checker.octets(input);
@@ -67,6 +68,12 @@ pub fn pair(one: &[u8], other: &[u8]) -> bool {
     verdict(found)
 }
 
+fn show_nulled(input: &[u8]) {
+    if domain::is_nulled(input) {
+        println!("outside the domain of equality (B8): leading nulls, the port owes 10; as an old capture, the answer to what follows them");
+    }
+}
+
 fn show_rust(input: &[u8]) {
     match oracle::read(input) {
         Ok(frame) => {
@@ -74,10 +81,9 @@ fn show_rust(input: &[u8]) {
             let octets = frame.to_bytes();
             println!("Rust: re-encoded {} octets {}, canonical {}", octets.len(), show::hex(&octets), u8::from(octets == input));
             if frame.route.len() <= flat::REPEATERS {
-                let owed = oracle::accepted(input, &frame);
-                let places = [owed.start, owed.end, owed.length, owed.info_start, owed.info_len];
+                let places = oracle::accepted(input, &frame).places;
                 println!("Rust: {}", show::decode(0, &places, &show::record(&flat::of_frame(&frame))));
-                show_masked(&owed.record, "input");
+                show_masked(&oracle::record(input, &frame), "input");
             }
         }
         Err(refusal) => println!("Rust: refused {}: {:?}", show::number(refusal.number), refusal),
@@ -99,9 +105,12 @@ fn show_masked(record: &Flat, whose: &str) {
 
 fn show_port(checker: &mut Checker, input: &[u8]) {
     let port = &mut checker.port;
-    let number = port.decode(input, FLAT, PLACES);
-    println!("port: {}", show::decode(number, port.sizes(), &left(port)));
-    let (number, canonical, length) = (port.number(input), port.canonical(input), port.reencoded_length(input));
+    for (entry, who) in [(Entry::Decoder, "port"), (Entry::OldCapture, "port, as an old capture")] {
+        let number = port.decode(entry, input, FLAT, PLACES);
+        println!("{}: {}", who, show::decode(number, port.sizes(), &left(port)));
+    }
+    println!("port, as an old capture: decode {}", port.number(Entry::OldCapture, input));
+    let (number, canonical, length) = (port.number(Entry::Decoder, input), port.canonical(input), port.reencoded_length(input));
     // A length that is out of all reason is not lent.
     let room = length.min(input.len() + FLAT);
     let answer = port.reencode(input, room);
@@ -216,7 +225,7 @@ pub fn content(content: &[u8]) -> bool {
         match oracle::read(&input) {
             Ok(frame) => {
                 println!("Rust: {:?}", frame.content);
-                show_masked(&oracle::accepted(&input, &frame).record, "content");
+                show_masked(&oracle::record(&input, &frame), "content");
             }
             Err(refusal) => println!("Rust: refused {}", show::number(refusal.number)),
         }
@@ -253,11 +262,12 @@ pub fn same_station(one: &[u8], other: &[u8]) -> bool {
 
 pub fn relay(own: &Own, input: &[u8]) -> bool {
     println!("{} relays {} octets: {}", own.words(), input.len(), show::hex(input));
+    show_nulled(input);
     show_rust(input);
     let mut checker = Checker::thorough();
     let number = checker.port.relay(&own.callsign, own.ssid, input);
     println!("port: number {} octets {}", number, show::hex(checker.port.output()));
-    verdict(checker.relay(own, input, &check::decoded(input)))
+    verdict(checker.relay(own, input, &check::read_old(input)))
 }
 
 pub fn packet(packet: &[u8]) -> bool {

@@ -24,10 +24,18 @@ fn show_written(answer: u32, length: usize, lent: &[u8]) {
     show_lent(lent);
 }
 
-fn decode(input: &[u8]) {
+// A decoder, by its letter: the one for frames, or the one for old captures.
+fn decode_by(letter: u8, input: &[u8], flat: &mut [u8], places: &mut [usize]) -> u32 {
+    match letter {
+        b'D' => probe::probe_decode(input, flat, places),
+        _ => probe::probe_decode_old(input, flat, places),
+    }
+}
+
+fn decode(letter: u8, input: &[u8]) {
     let mut flat = [0xEEu8; 105];
     let mut places: [usize; 5] = [0, 0, 0, 0, 0];
-    show_answer(probe::probe_decode(input, &mut flat, &mut places));
+    show_answer(decode_by(letter, input, &mut flat, &mut places));
     show_number(places[0]);
     show_number(places[1]);
     show_number(places[2]);
@@ -148,8 +156,12 @@ pub(crate) fn answer(letter: u8, one: &[u8], other: &[u8], n: usize) {
     match letter {
         b'#' => (),
         b'D' => {
-            decode(one);
+            decode(letter, one);
             reencode(one)
+        }
+        b'O' => {
+            decode(letter, one);
+            show_answer(loader::ax25_decode_old_capture(one))
         }
         b'W' => write(letter, one, other, n),
         b'E' => write(letter, one, other, n),
