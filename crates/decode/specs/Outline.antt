@@ -17,6 +17,7 @@ use Rattle.decode.specs.declared.Outline.{Outline}
 abbrev pub outlineBy : ℕ → Decoded → Outline
 outlineBy end d = record { answer = d .answer; end = cond (isAccepted (d .answer)) end 0; «route_count» = d .frame .«route_count» }
 
+-- the outline of a refusal
 abbrev pub refusedOutline : DecodeAnswer → Outline
 refusedOutline a = record { answer = a; end = 0; «route_count» = defaultFrame .«route_count» }
 

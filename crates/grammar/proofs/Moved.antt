@@ -23,10 +23,9 @@ use Rattle.parse.specs.Numbers.{lacksPid, strangeS, strangeU, wrongFrmr}
 use Rattle.decode.specs.Read.{nonzero, startOf, endOf, parsedAt, placeAt, routeAt, frameAt, refusedWith, acceptedWith, withContent, repeatersOf, decodeField, decode}
 use Rattle.decode.specs.declared.DecodeAnswer.{DecodeAnswer}
 use Rattle.decode.specs.declared.DecodeAnswer.the-variants as read
-use Rattle.decode.proofs.Read.{start-past}
 use Rattle.grammar.specs.Moved.{movedAnswer, movedInfo, moved}
 use Rattle.grammar.proofs.Back.{parsed-drop, entry-drop}
-use Rattle.grammar.proofs.Numbers.{decode-report, decode-rows}
+use Rattle.grammar.proofs.Numbers.{leads, decode-report, decode-rows}
 
 module _ (s : List ℕ) (k : ℕ) where
   abbrev t : List ℕ
@@ -103,16 +102,14 @@ pub decode-at-start : (s : List ℕ) → (eqb (startOf s) (length s) ≡ false �
 unfolding decode
 decode-at-start s h = by (eqb (startOf s) (length s)) (λ e. rw e refl) (λ e. rw (e, h e) refl)
 
--- the same by the number: 10 is given exactly where octets that are not all null start past the first
-leads : (s : List ℕ) → eqb (startOf s) (length s) ≡ false → ltb 0 (startOf s) ≡ leadingNull s
-leads s e = start-past s (omega (arith, eqb-false (startOf s) (length s) e, first-le nonzero s))
-
+-- so it is where 10 is not given
 pub ten-past : (s : List ℕ) → (numberOf (decode s .answer) ≡ 10 → ⊥) → eqb (startOf s) (length s) ≡ false → startOf s ≡ 0
 ten-past s n e =
     by (ltb 0 (startOf s))
     (λ z. absurd (n (decode-rows s ∙ rw (sym (first-all nonzero s) ∙ e, sym (leads s e) ∙ z) refl)))
     (λ z. omega (arith, ltb-false 0 (startOf s) z))
 
+-- and 10 is not given where octets start with the first
 pub never-ten : (s : List ℕ) → startOf s ≡ 0 → eqb (numberOf (decode s .answer)) 10 ≡ false
 never-ten s h = rw (decode-rows s)
     (let P : ℕ → Type 0 = λ n. eqb n 10 ≡ false in

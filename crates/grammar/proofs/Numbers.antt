@@ -2,7 +2,7 @@
 use Prim.Native.Nat.{ℕ, _+_, _-_, _<_}
 use mathlib.Core.Path.{_≡_, refl, ap, sym, _∙_}
 use mathlib.Core.List.{List}
-use mathlib.Core.Bool.{cond, not}
+use mathlib.Core.Bool.{false, cond, not}
 use native.Mathlib.Nat.{sub-zero}
 use native.Mathlib.Omega.{arith}
 use borrow.Author.Tests.{eqb-false}
@@ -38,6 +38,10 @@ content-report s start n control UnrecognisedSFieldType = refl
 content-report s start n control UnrecognisedUFieldType = refl
 content-report s start n control WrongSizeFrmrInfo = refl
 
+-- octets that are not all null start past the first exactly where that is null
+pub leads : (s : List ℕ) → eqb (startOf s) (length s) ≡ false → ltb 0 (startOf s) ≡ leadingNull s
+leads s e = start-past s (omega (arith, eqb-false (startOf s) (length s) e, first-le nonzero s))
+
 pub decode-report : (s : List ℕ) → reportOf (decode s .answer) ≡ reported s
 unfolding decode decodeField refusedWith reported
 decode-report s =
@@ -46,7 +50,7 @@ decode-report s =
     let two : eqb (endOf s) (length s) ≡ noEnd s = first-all (bit 0) s in
     let three : ltb (endOf s + 1 - 0) 14 ≡ shortField s = ap (λ (n : ℕ). ltb n 14) (sub-zero (endOf s + 1)) in
     either P (eqb (startOf s) (length s)) (λ a. rw (sym one ∙ a) refl)
-    (λ a. let ten : ltb 0 (startOf s) ≡ leadingNull s = start-past s (omega (arith, eqb-false (startOf s) (length s) a, first-le nonzero s)) in
+    (λ a. let ten = leads s a in
     either P (ltb 0 (startOf s)) (λ z. rw (sym one ∙ a, sym ten ∙ z) refl)
     (λ z. either P (eqb (endOf s) (length s)) (λ b. rw (sym one ∙ a, sym ten ∙ z, sym two ∙ b) refl)
     (λ b. either P (ltb (endOf s + 1 - 0) 14) (λ c. rw (sym one ∙ a, sym ten ∙ z, sym two ∙ b, sym three ∙ c) refl)
