@@ -87,8 +87,9 @@ enum ax25_number {
 uint32_t ax25_decode(const uint8_t *in, size_t in_len);
 
 /* The same of a frame from an old capture, one that was taken while the box skipped null octets before a frame: they are skipped here,
-   and the answer is that of ax25_decode for the octets that are left. So AX25_LEADING_NULL_BYTES is never given; an input of nulls
-   alone, and an empty one, is AX25_ONLY_NULL_BYTES; and an input that does not begin with a null is answered as by ax25_decode.
+   and the answer, a number and no more, is that of ax25_decode for the octets that are left. So AX25_LEADING_NULL_BYTES is never
+   given; an input of nulls alone, and an empty one, is AX25_ONLY_NULL_BYTES; and an input that does not begin with a null is answered
+   as by ax25_decode.
 
    NOT FOR LIVE TRAFFIC. Nulls before a frame are the sign of a stuck line driver, which AX25_LEADING_NULL_BYTES shows and this call
    hides. No other call skips them: what this one accepts behind nulls can't be re-encoded or relayed. */
@@ -110,7 +111,7 @@ uint32_t ax25_canonical(const uint8_t *in, size_t in_len);
 
    Otherwise the answer is the first of these that holds, and all of `frame` stays as it was:
    - AX25_NOT_ENCODABLE: our own address has more than six octets, or one of 128 or more, or an SSID over 15, whatever the frame is;
-   - the number of ax25_decode(frame, frame_len), where that is not 0;
+   - the number of ax25_decode(frame, frame_len), where that is not 0: so AX25_LEADING_NULL_BYTES where nulls stand before the frame;
    - AX25_ROUTE_USED_UP: the due place is the number of repeaters;
    - AX25_BROKEN_MARKS: a repeater after the due place is marked;
    - AX25_ANOTHER_STATION: the repeater at the due place is not our own station. */

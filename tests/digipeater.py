@@ -70,7 +70,7 @@ def alike():
     for route in ('HILL5-1*,HILL6-1,HILL1-2*', 'HILL6-1,HILL1-2*', 'HILL2-2,HILL5-1*,HILL1-2', EARLIER[:-2] + ',HILL1-2*'):
         yield Case(spelled(route), 43)
     yield Case(spelled('HILL1-2,HILL2-1' + LATER), 9)
-    # Nulls before a frame make other addresses of it, in which HILL1-2 is not due.
+    # One or seven nulls before this frame make other addresses of it, in which HILL1-2 is not due.
     for nulls in (1, 7):
         yield Case(bytes(nulls) + spelled('HILL1-2'), 10)
 
@@ -89,6 +89,8 @@ def otherwise():
     # Nulls in the place of the first character, and of the whole first address.
     for nulls in (1, 7):
         yield Case(bytes(nulls) + spelled('HILL1-2')[nulls:], 10, 'D3', both(bytes(nulls) + spelled('HILL1-2*')[nulls:]))
+    # Seven nulls before a frame with a marked source: they are the destination, and that source is a repeater that has a mark.
+    yield Case(bytes(7) + spelled('HILL1-2', source='BOX12-3*'), 10, 'D3', both(bytes(7) + spelled('HILL1-2*', source='BOX12-3*')))
     yield Case(spelled('HILL1-2,HILL2-1')[:21] + b'\x01' + UI, 0, 'D4', both(None), spelled('HILL1-2*,HILL2-1')[:21] + b'\x01' + UI)
     for content, number in ((b'\x0D', 6), (b'', 4), (b'\x03', 5), (b'\x00', 5), (b'\x6F', 7), (b'\xAF', 7), (b'\xE3', 7),
                             (b'\x87\x01', 8)):

@@ -135,7 +135,7 @@ def nulls(part):
     if part["mismatches"]:
         outcome = "what the decoder and the entry for old captures make of them was compared, and something above differs"
     else:
-        outcome = "the decoder refuses them by 10, and the entry for old captures reads them as the Rust does"
+        outcome = "the decoder refuses them by 10, and the entry for old captures answers as the Rust does, but for the listed differences"
     return f"{part['leading_nulls']} of {frames} frames had leading nulls: {outcome}."
 
 

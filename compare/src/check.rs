@@ -659,7 +659,7 @@ impl Checker {
     pub fn relays(&mut self, input: &[u8]) -> Vec<Difference> {
         let read = read_old(input);
         let route = read.as_ref().map_or(Vec::new(), relays::of_route);
-        self.seen.relayed_routes += u64::from(!route.is_empty() && !domain::is_nulled(input));
+        self.seen.relayed_routes += u64::from(!route.is_empty());
         route.iter().flat_map(|own| self.relay(own, input, &read)).collect()
     }
 

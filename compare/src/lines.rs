@@ -21,8 +21,8 @@ pub const HEADING: &str = "\
 # of its seventh octet): the Rust writes ones, and its address holds none. By document 02 (M-106) those that were read, or that stand
 # in the record, are written, on every line, and canonical goes by them too; text, from_parts and the default frame have 3.
 # Nor is 10: the Rust skips leading nulls and reads what follows. By document 02 (M-108) such an input is refused, on every line of D and
-# of R, unless it is all nulls. An old capture, on lines of O, is what the Rust reads; beside every input of D that starts with a null
-# stands the same of O.
+# of R, unless it is all nulls. An old capture, on lines of O, is what the Rust reads, or 9 as on other lines; beside every input of D
+# that starts with a null stands the same of O.
 # Words are separated by one space; octets are hex digits, and - is none of them; numbers are decimal. A record is 102 octets:
 # destination and source of 8 each (six characters, the SSID, and the reserved bits as a number, bit 6 the higher); eight places of 9
 # (an address and its mark); the route count; the mark (0 Command, 1 Response, 2 absent); then the content's 12: kind (0 I, 1 RR,

@@ -21,7 +21,6 @@ use Rattle.decode.specs.declared.DecodeAnswer.{DecodeAnswer}
 pub record Accepts (s : List ℕ) (d : Decoded) : Type 0 where
   pub count : ℕ
   pub kind : FrameContent
-  pub start : startOf s ≡ 0
   pub first : nonzero (getD s 0 0) ≡ true
   pub end-in : endOf s < length s
   pub long : 14 ≤ endOf s + 1
@@ -46,7 +45,7 @@ module _ (s : List ℕ) where
       → (a : ContentAnswer) → contentOf (drop (endOf s + 1) s) ≡ a → If (withContent s 0 n (endOf s + 1) a)
   unfolding withContent If
   by-content n st ei lo co fe (content.Accepted k) e =
-      λ _. record { count = n; kind = k; start = st; first = rw st at (first-passes nonzero s 0 (rw st (omega arith))); end-in = ei; long = lo; counted = co; few = fe; read = e; made = refl }
+      λ _. record { count = n; kind = k; first = rw st at (first-passes nonzero s 0 (rw st (omega arith))); end-in = ei; long = lo; counted = co; few = fe; read = e; made = refl }
   by-content n st ei lo co fe content.ContentZeroLength e = refuse _ refl
   by-content n st ei lo co fe content.MissingPidField e = refuse _ refl
   by-content n st ei lo co fe content.UnrecognisedSFieldType e = refuse _ refl

@@ -1,5 +1,5 @@
--- Laws of reading that the functions' proofs share: a route with one repeater more, the start no later than the end, a refused
--- content.
+-- Laws of reading that the functions' proofs share: a route with one repeater more, what the first octet says of the start, the start
+-- no later than the end, a refused content.
 use Prim.Native.Nat.{ℕ, zero, suc, _+_, _*_, _%_, _/_, _≤_, _<_}
 use mathlib.Core.Path.{_≡_, refl, ap, _∙_}
 use mathlib.Core.Bool.{true, false, false≢true, not}
@@ -50,7 +50,7 @@ low-nonzero x e = ap not (ne-eqb x 0 (λ z. let o : x / 1 % 2 ≡ 1 = eqb-true _
 pub start-le-end : (s : List ℕ) → startOf s ≤ endOf s
 start-le-end s = first-sooner (bit 0) nonzero low-nonzero s
 
--- octets start at once where the first is not null, and past it where it is
+-- the start is 0 where the first octet is not null, and else beyond it
 pub some-first : (s : List ℕ) → nonzero (getD s 0 0) ≡ true → 0 < length s
 some-first [] e = absurd (false≢true e)
 some-first (x ∷ s) e = omega arith

@@ -14,7 +14,7 @@ use Rattle.decode.specs.Read.{nonzero, endOf, repeatersOf}
 abbrev pub noStart : List ℕ → Bool
 noStart s = all (λ b. not (nonzero b)) s
 
--- 10: a leading null, of octets that are not all null
+-- 10: the first octet is null. Of octets that are all null, and of none, 1 comes before
 abbrev pub leadingNull : List ℕ → Bool
 leadingNull s = not (nonzero (getD s 0 0))
 

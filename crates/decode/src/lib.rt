@@ -129,7 +129,7 @@ fn starts(bytes: &[u8]) -> bool
     bytes[0] != 0
 }
 
-// The answer where there is none or it is null: 1 where all octets are, else 10.
+// The answer where the first octet is not there or null: 1 where all are null, else 10.
 fn null_answer(bytes: &[u8]) -> DecodeAnswer
     ensures { λ r. ⌜ r ≡ nullAnswer (now (bytes .entry)) ⌝ }
 {

@@ -62,7 +62,7 @@ fn contents(list: &[u8]) {
     );
 }
 
-// P1 to P4, P7 to P10 and nine repeaters: the number, and the details of 3 and 4.
+// P1 to P4 and P7 to P10, and more of the kind: the number, and the details of 3 and 4.
 fn refusals() {
     frames(
         b"\x00\x02\x00\x00\x02\x8E\x82\x0D\x8E\x82\xAA\x8E\x8A\x40\xE0\x84\x9E\xB0\x62\x64\x41\x01\x01\x0E\x8E\x82\xAA\x8E\x8A\x40\xE0\x84\x9E\xB0\x62\x64\x40\x67",

@@ -113,7 +113,7 @@ module _ (s t : List ℕ) (a : Accepts s (decode s)) (l : length t ≡ length s)
   same-start : startOf t ≡ startOf s
   same-start =
       let inside = a .end-in in
-      start-first t (rw (field 0 (omega arith)) (a .first)) ∙ sym (a .start)
+      start-first t (rw (field 0 (omega arith)) (a .first)) ∙ sym (start-first s (a .first))
 
   same-end : endOf t ≡ endOf s
   same-end =

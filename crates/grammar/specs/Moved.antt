@@ -6,7 +6,7 @@ use Rattle.decode.specs.declared.DecodeAnswer.{DecodeAnswer}
 use Rattle.decode.specs.declared.DecodeAnswer.the-variants as read
 use Rattle.decode.specs.declared.Decoded.{Decoded}
 
--- of an answer to what follows the first k of `len` octets: start and end are counted from the first of them, and 4's length is theirs
+-- of an answer to what follows the first k of `len` octets: start and end are counted from the first of the `len`, and 4's length is `len`
 abbrev pub movedAnswer : ℕ → ℕ → DecodeAnswer → DecodeAnswer
 movedAnswer k len read.Accepted = read.Accepted
 movedAnswer k len read.OnlyNullBytes = read.OnlyNullBytes
@@ -20,7 +20,7 @@ movedAnswer k len read.WrongSizeFrmrInfo = read.WrongSizeFrmrInfo
 movedAnswer k len read.TooManyRepeaters = read.TooManyRepeaters
 movedAnswer k len read.LeadingNullBytes = read.LeadingNullBytes
 
--- where info starts: no info starts at 0, which says that there is none
+-- where info starts; 0, where none can start, says that there is none
 abbrev pub movedInfo : ℕ → ℕ → ℕ
 movedInfo k at = cond (eqb at 0) 0 (k + at)
 
