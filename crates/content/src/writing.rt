@@ -216,11 +216,11 @@ impl FrameContent {
         let octets = self.front();
         // The usual lengths by their own stores: quicker than a copy whose length is not known.
         if n == 2 {
-            lent::put(out, 0, &octets[..2]);
+            lent_buffer::put(out, 0, &octets[..2]);
         } else if n == 1 {
-            lent::put(out, 0, &octets[..1]);
+            lent_buffer::put(out, 0, &octets[..1]);
         } else {
-            lent::put(out, 0, &octets[..n]);
+            lent_buffer::put(out, 0, &octets[..n]);
         }
         n
     }
@@ -249,7 +249,7 @@ impl FrameContent {
             };
         }
         let n = self.put_front(out);
-        lent::put(out, n, info);
+        lent_buffer::put(out, n, info);
         ContentWritten {
             answer: EncodeAnswer::Written,
             length: n + info.len(),

@@ -10,7 +10,7 @@ use Rattle.octets.specs.Octet.{bit}
 use Rattle.octets.proofs.First.{first-before, first-passes}
 use Rattle.content.specs.Spell.{hasInfo, front}
 use Rattle.content.specs.declared.FrameContent.{FrameContent}
-use Rattle.lean.proofs.Laws.{front-two, front-some}
+use Rattle.content_as_written.proofs.Laws.{front-two, front-some}
 use Rattle.frame.specs.Spell.{spell, Plain}
 use Rattle.frame.specs.declared.Ax25Frame.{Ax25Frame}
 use Rattle.frame.proofs.Write.{spell-length}

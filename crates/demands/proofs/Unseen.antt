@@ -19,8 +19,8 @@ use Rattle.address.specs.Group.{addressOf, markOf, ssidOctet, groupOf}
 use Rattle.content.specs.declared.FrameReject.{FrameReject}
 use Rattle.content.specs.declared.FrameContent.the-variants as kind
 use Rattle.parse.specs.Content.{iOf, sOf, uiOf, responseOf, frmrOf, uOf, contentOf}
-use Rattle.lean.specs.Unseen.{unseen}
-use Rattle.lean.proofs.Unseen.{only-frmr}
+use Rattle.content_as_written.specs.Unseen.{unseen}
+use Rattle.content_as_written.proofs.Unseen.{only-frmr}
 use Rattle.frame.specs.Frame.{noEntry, noRoute, simpleUi, defaultFrame}
 use Rattle.frame.specs.Spell.{groupsOf, addressField, spell, marked}
 use Rattle.frame.specs.declared.Ax25Frame.{Ax25Frame}

@@ -14,7 +14,7 @@ pub(crate) fn put(out: &mut [u8], at: usize, part: &[u8]) -> usize
     requires { ⌜ at + length (now part) ≤ length (now out) ⌝ }
     ensures { λ r. ⌜ Put (now (out .entry)) (now (out .exit)) at r (now (part .entry)) ⌝ }
 {
-    lent::put(out, at, part);
+    lent_buffer::put(out, at, part);
     at + part.len()
 }
 

@@ -117,7 +117,7 @@ pub fn dump(input: &[u8], out: &mut [u8]) -> Dumped
             length: 0,
         };
     }
-    lent::put(out, 0, &text[..length]);
+    lent_buffer::put(out, 0, &text[..length]);
     Dumped {
         answer: DumpAnswer::Done,
         length,

@@ -25,8 +25,8 @@ fn behind(front: &[u8], octets: &[u8]) {
         return;
     }
     let mut input = [0u8; 128];
-    lent::put(&mut input, 0, front);
-    lent::put(&mut input, front.len(), octets);
+    lent_buffer::put(&mut input, 0, front);
+    lent_buffer::put(&mut input, front.len(), octets);
     let n = front.len() + octets.len();
     shown(&input[..n]);
 }

@@ -10,7 +10,7 @@ fn show_field(name: &[u8], n: usize) {
 
 // The example frame, with as much info of nulls as the input has room for.
 fn frame_of(input: &mut [u8]) {
-    lent::put(
+    lent_buffer::put(
         input,
         0,
         b"\x8E\x82\xAA\x8E\x8A\x40\xE0\x84\x9E\xB0\x62\x64\x40\x67\x03\xF0",
@@ -36,15 +36,15 @@ fn shown_over(over: &mut [u8]) {
 // A short field behind 4,000 nulls; and a length of four digits: nothing after an end that is the last of 4,096 octets.
 fn far() {
     let mut short = [0u8; 4096];
-    lent::put(
+    lent_buffer::put(
         &mut short,
         4000,
         b"\x8E\x82\xAA\x8E\x8A\x40\xE0\x84\x9E\xB0\x62\x64\x41",
     );
     shown(&short);
     let mut bare = [0u8; 4096];
-    lent::put(&mut bare, 0, b"\x8E");
-    lent::put(&mut bare, 4095, b"\x67");
+    lent_buffer::put(&mut bare, 0, b"\x8E");
+    lent_buffer::put(&mut bare, 4095, b"\x67");
     shown(&bare);
 }
 

@@ -20,7 +20,7 @@ pub fn put_address(out: &mut [u8], at: usize, address: Address)
     ensures { λ r. ⌜ now (out .exit) ≡ splice (now (out .entry)) at (addressFlat address) ⌝ }
 {
     let c = address.callsign;
-    lent::put(
+    lent_buffer::put(
         out,
         at,
         &[
@@ -41,7 +41,7 @@ fn put_entry(out: &mut [u8], at: usize, entry: RouteEntry)
 {
     let repeater = entry.repeater;
     let c = repeater.callsign;
-    lent::put(
+    lent_buffer::put(
         out,
         at,
         &[
@@ -209,7 +209,7 @@ pub fn put_content(out: &mut [u8], content: FrameContent)
     ensures { λ r. ⌜ now (out .exit) ≡ splice (now (out .entry)) 0 (contentFlat content) ⌝ }
 {
     let octets = content_octets(content);
-    lent::put(out, 0, &octets);
+    lent_buffer::put(out, 0, &octets);
 }
 
 // What follows the route: its count, the mark, the content.
@@ -219,9 +219,9 @@ fn put_rest(out: &mut [u8], frame: Ax25Frame)
 {
     let mark = frame.command_or_response;
     let content = frame.content;
-    lent::put(out, 88, &[count_octet(frame.route_count), mark_octet(mark)]);
+    lent_buffer::put(out, 88, &[count_octet(frame.route_count), mark_octet(mark)]);
     let octets = content_octets(content);
-    lent::put(out, 90, &octets);
+    lent_buffer::put(out, 90, &octets);
 }
 
 // A frame at the start of what is lent; nothing where it does not fit.

@@ -18,7 +18,7 @@ use Rattle.address.proofs.Laws.{group-length, read-written, mark-written}
 use Rattle.content.specs.Spell.{hasInfo, front}
 use Rattle.parse.specs.Content.{contentOf}
 use Rattle.parse.specs.declared.ContentAnswer.the-variants.{Accepted}
-use Rattle.lean.proofs.Laws.{content-back, content-some, front-two}
+use Rattle.content_as_written.proofs.Laws.{content-back, content-some, front-two}
 use Rattle.decode.specs.Read.{startOf, endOf, groupAt, parsedAt, entryAt, placeAt, routeAt, commandOf, frameAt, acceptedWith, withContent, decodeField, decode, infoIn}
 use Rattle.frame.specs.Spell.{repeaterAt, groupsOf, destinationMark, sourceMark, addressField, spell, marked, Plain, placeInUse, routeInUse, inUse}
 use Rattle.frame.specs.declared.Mark.{Mark}

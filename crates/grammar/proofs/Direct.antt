@@ -16,10 +16,10 @@ use Rattle.octets.proofs.Place.{getD-part, of-eight}
 use Rattle.address.specs.Group.{groupOf, markOf, markSet}
 use Rattle.address.proofs.Laws.{mark-written, written-read, mark-last}
 use Rattle.content.specs.Spell.{hasInfo, front}
-use Rattle.lean.specs.Lean.{lean, infoOf}
+use Rattle.content_as_written.specs.AsWritten.{asWritten, infoOf}
 use Rattle.content.specs.declared.FrameContent.{FrameContent}
-use Rattle.lean.proofs.Laws.{content-kept, content-exact, front-some}
-use Rattle.lean.proofs.Lean.{lean-spelled}
+use Rattle.content_as_written.proofs.Laws.{content-kept, content-exact, front-some}
+use Rattle.content_as_written.proofs.AsWritten.{as-written-spelled}
 use Rattle.decode.specs.Read.{endOf, groupAt, parsedAt, entryAt, placeAt, routeAt, commandOf, frameAt, acceptedWith, decode, infoIn}
 use Rattle.frame.specs.Spell.{past, repeaterAt, groupsOf, destinationMark, sourceMark, addressField, spell, marked, Plain, inUse}
 use Rattle.frame.proofs.Write.{spell-length}
@@ -57,7 +57,7 @@ module _ (f : Ax25Frame) (i : List ℕ) (p : Plain f i) where
       let l = spell-length f i in
       let end : bit 0 (getD s (13 + 7 * n) 0) ≡ true =
       rw (spelled-end f i p) at (first-passes (bit 0) s 0 (rw (spelled-end f i p) (omega (arith, front-some (f .content) (p .content))))) in
-      let tail : lean (drop (14 + 7 * n) s) ≡ true = rw (after-field f i p) (lean-spelled (f .content) i (p .content) (p .bare)) in
+      let tail : asWritten (drop (14 + 7 * n) s) ≡ true = rw (after-field f i p) (as-written-spelled (f .content) i (p .content) (p .bare)) in
       rw (frame-spell f i p, end, spelled-marks, tail)
 
 marks-back : (a b : Bool) → marked (commandOf a b) ≡ true → (destinationMark (commandOf a b) ≡ a) × (sourceMark (commandOf a b) ≡ b)
@@ -186,6 +186,6 @@ parsed-mark s at = mark-last (groupAt s at) ∙ ap markSet (getD-part 7 at s 6 0
 pub direct-is : (s : List ℕ) (n : ℕ)
     → direct s n
     ≡ (bit 0 (getD s (13 + 7 * n) 0)
-    && (marked (commandOf (markSet (getD s 6 0)) (markSet (getD s 13 0))) && lean (drop (14 + 7 * n) s)))
+    && (marked (commandOf (markSet (getD s 6 0)) (markSet (getD s 13 0))) && asWritten (drop (14 + 7 * n) s)))
 unfolding direct
 direct-is s n = rw (parsed-mark s 0, parsed-mark s 7) refl

@@ -13,7 +13,7 @@ use Rattle.content.specs.Spell.{hasInfo, front}
 use Rattle.content.specs.declared.FrameContent.{FrameContent}
 use Rattle.parse.specs.Content.{contentOf}
 use Rattle.parse.specs.declared.ContentAnswer.the-variants.{Accepted}
-use Rattle.lean.proofs.Laws.{content-plain, content-fits, front-two}
+use Rattle.content_as_written.proofs.Laws.{content-plain, content-fits, front-two}
 use Rattle.decode.specs.Answer.{isAccepted}
 use Rattle.decode.specs.Read.{endOf, groupAt, parsedAt, commandOf, frameAt, acceptedWith, decode, infoIn}
 use Rattle.decode.specs.declared.Decoded.{Decoded}

@@ -17,7 +17,7 @@ use Rattle.address.specs.Address.{PlainAddress}
 use Rattle.address.proofs.Laws.{read-plain, no-call-plain, group-character}
 use Rattle.content.specs.Spell.{hasInfo, front, PlainContent}
 use Rattle.content.specs.declared.FrameContent.{FrameContent}
-use Rattle.lean.proofs.Laws.{content-plain, content-fits, content-some, front-two}
+use Rattle.content_as_written.proofs.Laws.{content-plain, content-fits, content-some, front-two}
 use Rattle.parse.proofs.Read.{content-room}
 use Rattle.frame.specs.Frame.{noEntry}
 use Rattle.decode.specs.Answer.{isAccepted}

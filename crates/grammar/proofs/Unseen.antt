@@ -18,10 +18,10 @@ use Rattle.content.specs.Spell.{hasInfo, front, spellContent}
 use Rattle.content.specs.declared.FrameContent.{FrameContent}
 use Rattle.parse.specs.Content.{contentOf}
 use Rattle.parse.specs.declared.ContentAnswer.the-variants.{Accepted}
-use Rattle.lean.specs.Lean.{infoOf}
-use Rattle.lean.specs.Unseen.{unseen}
-use Rattle.lean.proofs.Laws.{content-fits, content-kept}
-use Rattle.lean.proofs.Unseen.{content-bits, unseen-read, info-seen}
+use Rattle.content_as_written.specs.AsWritten.{infoOf}
+use Rattle.content_as_written.specs.Unseen.{unseen}
+use Rattle.content_as_written.proofs.Laws.{content-fits, content-kept}
+use Rattle.content_as_written.proofs.Unseen.{content-bits, unseen-read, info-seen}
 use Rattle.frame.specs.Spell.{spell, marked}
 use Rattle.frame.specs.declared.Ax25Frame.{Ax25Frame}
 use Rattle.frame.proofs.Write.{spell-length}

@@ -4,7 +4,7 @@ use mathlib.Core.Bool.{Bool, _&&_}
 use mathlib.Core.List.{List}
 use lib.ListN.{getD, drop}
 use Rattle.octets.specs.Octet.{bit}
-use Rattle.lean.specs.Lean.{lean}
+use Rattle.content_as_written.specs.AsWritten.{asWritten}
 use Rattle.decode.specs.Read.{parsedAt, commandOf}
 use Rattle.frame.specs.Spell.{marked}
 
@@ -14,4 +14,4 @@ unfoldable pub direct : List ℕ → ℕ → Bool
 direct s n =
     bit 0 (getD s (13 + 7 * n) 0)
     && (marked (commandOf (parsedAt s 0 .«high_bit») (parsedAt s 7 .«high_bit»))
-    && lean (drop (14 + 7 * n) s))
+    && asWritten (drop (14 + 7 * n) s))

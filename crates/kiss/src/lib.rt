@@ -95,7 +95,7 @@ fn put_next(out: &mut [u8], to: usize, info: &[u8], from: usize) -> Place
         };
     }
     let stop = escapes::plain_to(info, from);
-    lent::put(out, to, &info[from..stop]);
+    lent_buffer::put(out, to, &info[from..stop]);
     Place {
         from: stop,
         to: to + (stop - from),

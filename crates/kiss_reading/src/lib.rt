@@ -239,7 +239,7 @@ fn copy_step(input: &[u8], at: usize, out: &mut [u8], to: usize) -> Step
     let octet = input[at];
     if octet != FESC {
         let stop = escapes::plain_to(input, at);
-        lent::put(out, to, &input[at..stop]);
+        lent_buffer::put(out, to, &input[at..stop]);
         return Step {
             width: stop - at,
             length: stop - at,

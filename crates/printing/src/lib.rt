@@ -65,7 +65,7 @@ fn put_text(address: Address, out: &mut [u8]) -> usize
     if out.len() < length {
         return length;
     }
-    lent::put(out, 0, &callsign[..n]);
+    lent_buffer::put(out, 0, &callsign[..n]);
     put_suffix(out, n, address.ssid);
     length
 }
@@ -106,8 +106,8 @@ fn put_suffix(out: &mut [u8], at: usize, ssid: u8)
         return;
     }
     if ssid < 10 {
-        lent::put(out, at, &[b'-', b'0' + ssid]);
+        lent_buffer::put(out, at, &[b'-', b'0' + ssid]);
         return;
     }
-    lent::put(out, at, &[b'-', b'0' + ssid / 10, b'0' + ssid % 10]);
+    lent_buffer::put(out, at, &[b'-', b'0' + ssid / 10, b'0' + ssid % 10]);
 }

@@ -123,7 +123,7 @@ fn relay_in(callsign: &[u8], ssid: u8, out: &mut [u8], length: usize) {
 
 fn relay(callsign: &[u8], frame: &[u8], ssid: u8) {
     let mut out = [0xEEu8; 515];
-    lent::put(&mut out, 0, frame);
+    lent_buffer::put(&mut out, 0, frame);
     relay_in(callsign, ssid, &mut out, frame.len());
 }
 

@@ -31,7 +31,7 @@ fn is_direct(bytes: &[u8], count: usize) -> bool
         return false;
     }
     let control = 14 + 7 * count;
-    lean::is_lean(&bytes[control..])
+    content_as_written::is_as_written(&bytes[control..])
 }
 
 // Whether the octets are the one spelling of a frame.

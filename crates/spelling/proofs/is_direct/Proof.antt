@@ -68,17 +68,17 @@ mul-control c = search needs
 add-control : tie.Need-add-control
 add-control c = search needs
 
-sub-is-lean : tie.Need-sub-is-lean
-sub-is-lean c = search needs
+sub-is-as-written : tie.Need-sub-is-as-written
+sub-is-as-written c = search needs
 
-part-is-lean-start : tie.Need-part-is-lean-start
-part-is-lean-start c = search needs
+part-is-as-written-start : tie.Need-part-is-as-written-start
+part-is-as-written-start c = search needs
 
-part-is-lean-end : tie.Need-part-is-lean-end
-part-is-lean-end c = search needs
+part-is-as-written-end : tie.Need-part-is-as-written-end
+part-is-as-written-end c = search needs
 
-is-lean-requires : tie.Need-is-lean-requires
-is-lean-requires c κs = search needs
+is-as-written-requires : tie.Need-is-as-written-requires
+is-as-written-requires c κs = search needs
 
 returns-3 : tie.Need-returns-3
 returns-3 c =
@@ -88,7 +88,7 @@ returns-3 c =
       direct-is,
       low e,
       sym (marks (m .before)) ∙ not-false _ (m .if2 .left),
-      c .is-lean .ensures,
+      c .is-as-written .ensures,
       part-from,
     )
 
@@ -108,8 +108,8 @@ is-direct-spec =
     returns-2
     mul-control
     add-control
-    sub-is-lean
-    part-is-lean-start
-    part-is-lean-end
-    is-lean-requires
+    sub-is-as-written
+    part-is-as-written-start
+    part-is-as-written-end
+    is-as-written-requires
     returns-3)

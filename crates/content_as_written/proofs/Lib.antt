@@ -1,0 +1,4 @@
+pub mod Back
+pub mod AsWritten
+pub mod Laws
+pub mod Unseen

@@ -1,0 +1,75 @@
+// The demands on the calls that C links as contracts of the code, as in `demand_contracts_frames`.
+ghost use mathlib.Core.Path.{_≡_};
+ghost use mathlib.Core.Bool.{true, false};
+ghost use mathlib.Core.Logic.{_↔_};
+ghost use Prim.Native.Nat.{_≤_, _<_};
+ghost use lib.ListN.{length};
+ghost use Rattle.decode.specs.Answer.{numberOf, isAccepted};
+ghost use Rattle.decode.specs.Read.{decode};
+ghost use Rattle.old.specs.Old.{former};
+ghost use Rattle.spelling.specs.Canonical.{again};
+ghost use Rattle.octets.specs.Table.{FirstRow};
+ghost use Rattle.demands.specs.Numbers.{decodeTable};
+ghost use Rattle.octets.specs.Lent.{starting};
+ghost use Rattle.demands.specs.OneSpelling.{Spelled, Respelled};
+ghost use Rattle.demands.specs.Relay.{relayRows, badStation, Relayed};
+ghost use Rattle.relay.specs.Relay.{stationOf, relayedAs};
+
+// Demand 1: the number is that of the first row of the table that holds.
+pub fn decoded(input: &[u8]) -> u32
+    ensures { λ r. ⌜ FirstRow (decodeTable (now (input .entry))) r ⌝ }
+{
+    loader::ax25_decode(input)
+}
+
+// Document 02, M-108: the number that the decoder gave before leading nulls were refused, and still gives wherever that is not 10.
+pub fn decoded_old_capture(input: &[u8]) -> u32
+    ensures { λ r. ⌜ r ≡ numberOf (former (now (input .entry)) .answer) ⌝ }
+    ensures { λ r. ⌜ ((numberOf (decode (now (input .entry)) .answer) ≡ 10 → ⊥) → r ≡ numberOf (decode (now (input .entry)) .answer)) ⌝ }
+    ensures { λ r. ⌜ (r ≡ 10 → ⊥) ⌝ }
+{
+    loader::ax25_decode_old_capture(input)
+}
+
+// Demand 3: 1 exactly when some plain frame spells the input, else 0.
+pub fn canonical(input: &[u8]) -> u32
+    ensures { λ r. ⌜ (r ≡ 1) ↔ Spelled (now (input .entry)) ⌝ }
+    ensures { λ r. ⌜ ((Spelled (now (input .entry)) → ⊥) → r ≡ 0) ⌝ }
+{
+    loader::ax25_canonical(input)
+}
+
+// How many octets the respelling has; 0 where the input is refused.
+pub fn respelled_length(input: &[u8]) -> usize
+    ensures { λ r. ⌜ (isAccepted (decode (now (input .entry)) .answer) ≡ false → r ≡ 0) ⌝ }
+    ensures { λ r. ⌜ (isAccepted (decode (now (input .entry)) .answer) ≡ true → r ≡ length (again (now (input .entry)))) ⌝ }
+{
+    loader::ax25_reencoded_length(input)
+}
+
+// Demand 1: a refused input is answered by the number of its decode, and too little room by 24; both leave the output as it was.
+// Demand 3: else the respelling stands at the start of the output, and the octets beyond it stay; an accepted input's respelling is
+// canonical, no longer than the input, and means the same.
+pub fn respelled(input: &[u8], output: &mut [u8]) -> u32
+    ensures { λ r. ⌜ (isAccepted (decode (now (input .entry)) .answer) ≡ false
+        → FirstRow (decodeTable (now (input .entry))) r × (now (output .exit) ≡ now (output .entry))) ⌝ }
+    ensures { λ r. ⌜ (isAccepted (decode (now (input .entry)) .answer) ≡ true → length (now (output .entry)) < length (again (now (input .entry)))
+        → (r ≡ 24) × (now (output .exit) ≡ now (output .entry))) ⌝ }
+    ensures { λ r. ⌜ (isAccepted (decode (now (input .entry)) .answer) ≡ true → length (again (now (input .entry))) ≤ length (now (output .entry))
+        → (r ≡ 0) × (now (output .exit) ≡ starting (again (now (input .entry))) (now (output .entry)))) ⌝ }
+    ensures { λ r. ⌜ (isAccepted (decode (now (input .entry)) .answer) ≡ true → Respelled (now (input .entry)) (again (now (input .entry)))) ⌝ }
+{
+    loader::ax25_reencode(input, output)
+}
+
+// Document 02, M-100 and M-102: the number is that of the first row of the table that holds, our own address being refused for more than six
+// octets, an octet of 128 or more or an SSID over 15; a refusal leaves the frame as it was; what is relayed has our mark, and all else
+// is as it was received.
+pub fn relayed(callsign: &[u8], ssid: u8, frame: &mut [u8]) -> u32
+    ensures { λ r. ⌜ FirstRow (relayRows (badStation (now (callsign .entry)) ssid) (stationOf (now (callsign .entry)) ssid) (now (frame .entry))) r ⌝ }
+    ensures { λ r. ⌜ ((r ≡ 0 → ⊥) → now (frame .exit) ≡ now (frame .entry)) ⌝ }
+    ensures { λ r. ⌜ (r ≡ 0 → Relayed (now (frame .entry)) (now (frame .exit))) ⌝ }
+    ensures { λ r. ⌜ now (frame .exit) ≡ relayedAs (now (callsign .entry)) ssid (now (frame .entry)) ⌝ }
+{
+    loader::ax25_relay(callsign, ssid, frame)
+}

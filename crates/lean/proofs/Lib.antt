@@ -1,4 +1,0 @@
-pub mod Back
-pub mod Lean
-pub mod Laws
-pub mod Unseen

@@ -1,2 +1,0 @@
-pub mod Lean
-pub mod Unseen
