@@ -1,0 +1,148 @@
+"""What looks wrong with a capture that can be read: each doubt a line, with how often it was met and where first. Nothing here decides what
+is compared, and nothing here decodes: of a frame only the address field is looked at, where it ends and whether its characters are those
+of callsigns."""
+import binascii
+import re
+
+import readers
+from readers import CHARACTER, FEND, RAW_LIMIT, Frame, Packet, PassedOver
+
+STREAM_LIMIT = 1024  # of the data of a packet that ax25_kiss_feed gives out
+FLAG = b'\x7E'
+EVEN, ODD = (b'[' + b''.join(b'\\x%02X' % octet for octet in range(low, 256, 2)) + b']' for low in (0, 1))
+# Two to ten addresses of letters, digits and spaces, the last with the bit that ends the field, and an octet behind them.
+CLEAR = re.compile(rb'(?:' + CHARACTER + rb'{6}' + EVEN + rb'){1,9}' + CHARACTER + rb'{6}' + ODD + rb'.', re.DOTALL)
+END = re.compile(ODD)
+
+# What may be wrong with a frame, and what to do.
+WORDS = {
+    'packet': 'frames that start with C0 and a KISS type octet, as whole KISS packets do: give the KISS log itself, or take these octets and '
+              'the last C0 off',
+    'type': 'frames with a KISS type octet left on before them: take it off (a pcap of such frames has link type 202)',
+    'nulls': 'frames behind leading nulls, which the decoder refuses by 10: the nulls of a stuck line driver, or, where it is one null, a '
+             'KISS type octet that was left on',
+    'flags': 'frames with flags (7E) left on: take them off, a frame is what stands between them',
+    'check': 'frames whose last two octets are the check sequence of the others: take them off, a frame here ends before them',
+    'long': f'frames of more than {RAW_LIMIT} octets, which the dumper answers by 50',
+    'address': 'frames without an address field that can be read (the decoder answers 1, 2, 3, 4 or 9)',
+}
+# Why packets are passed over, by their number.
+PASSED_OVER = {
+    None: 'packets that were not captured whole',
+    52: 'KISS packets with a DB that is no escape',
+    53: 'KISS packets that no C0 ends, as where a log is cut',
+    54: 'KISS packets of another command than data',
+    55: 'KISS packets without a command octet',
+    56: f'KISS packets on ports over {readers.PORTS - 1}',
+}
+# What a name says of a file.
+NAMES = {'.pcap': 'pcap', '.pcapng': 'pcapng', '.kiss': 'KISS log', '.hex': 'hex lines', **dict.fromkeys(readers.RAW_NAMES, 'raw frame')}
+
+
+def has_check_sequence(octets):
+    """Whether the last two octets are CRC-16/X.25 of the others: then the remainder is always the same. binascii has this polynomial for the
+    other order of bits."""
+    return binascii.crc_hqx(octets.translate(MIRRORED), 0xFFFF) == 0x1D0F
+
+
+MIRRORED = bytes(int(f'{octet:08b}'[::-1], 2) for octet in range(256))
+
+
+def has_address_field(octets):
+    """Whether the address rules of the decoder hold but for leading nulls."""
+    end = END.search(octets)
+    return bool(end) and 14 <= end.end() < min(len(octets), 77)
+
+
+def of_frame(octets):
+    """What may be wrong with a frame: words of WORDS."""
+    clear = CLEAR.match(octets)
+    bare = octets.strip(FLAG)
+    behind_nulls = octets.lstrip(b'\0')
+    checked = has_check_sequence(bare)
+    found = []
+    if clear:
+        found += ['flags'] if checked and bare != octets else []
+    elif octets[:1] == FLAG and CLEAR.match(bare):
+        found.append('flags')
+    elif octets[:1] == FEND and CLEAR.match(octets, 2):
+        found.append('packet')
+    elif octets[:1] == b'\0':
+        found += ['nulls'] if behind_nulls else ['address']
+    elif octets and octets[0] & 0x0F == 0 and CLEAR.match(octets, 1):
+        found.append('type')
+    elif not has_address_field(octets):
+        found.append('address')
+    found += ['check'] if checked and CLEAR.match(bare) else []
+    return found + (['long'] if len(octets) > RAW_LIMIT else [])
+
+
+def counted(words, count, place):
+    return f'{words}: {count} (first: {place})' if count > 1 else f'{words}: 1 ({place})'
+
+
+class Doubts:
+    """The doubts of one capture, as what it holds goes by."""
+
+    def __init__(self, form):
+        self.form = form
+        self.met = {}
+        self.frames = self.packets = self.passed_over = 0
+        self.first = None
+        self.lengths = set()  # of all frames but the last
+        self.last = None
+
+    def meet(self, words, place):
+        count, first = self.met.get(words, (0, place))
+        self.met[words] = count + 1, first
+
+    def see(self, item):
+        if isinstance(item, Frame):
+            self.frames += 1
+            self.first = self.first or item
+            self.line_length(len(item.octets))
+            for found in of_frame(item.octets):
+                self.meet(found, item.place)
+        elif isinstance(item, Packet):
+            self.packets += 1
+            if len(item.data) > STREAM_LIMIT and self.form == 'KISS log':
+                self.meet('stream', item.place)
+        elif isinstance(item, PassedOver):
+            self.passed_over += 1
+            self.meet(item.number, item.place)
+
+    def line_length(self, length):
+        if self.last is not None and len(self.lengths) < 2:
+            self.lengths.add(self.last)
+        self.last = length
+
+    def is_dump(self):
+        """Whether the lines are one dump that was cut into pieces of one length, so that most of them are no frames."""
+        refused, _ = self.met.get('address', (0, None))
+        return self.form == 'hex lines' and len(self.lengths) == 1 and self.last <= max(self.lengths) and 2 * refused >= self.frames
+
+    def lines(self):
+        """In the order in which they were met first, but for those of the whole capture."""
+        if self.is_dump():
+            yield (f'every line has {max(self.lengths)} octets, and most are no frames: this looks like a dump that was cut into lines; '
+                   + readers.LINE_BY_LINE)
+        for found, (count, place) in self.met.items():
+            if found == 'check' and 100 * count < self.frames:
+                continue  # Two octets come out so by chance once in 65,536 frames.
+            if found == 'address' and (self.is_dump() or 2 * count < self.frames):
+                continue  # Bad frames are what a capture is there to show; where most are bad, it may be no capture of AX.25.
+            if found == 'stream':
+                yield counted(f'KISS packets of more than {STREAM_LIMIT} octets of data, which ax25_kiss_feed drops', count, place)
+            elif found in WORDS:
+                yield counted(WORDS[found], count, place)
+            else:
+                yield counted(f'passed over: {PASSED_OVER[found]}', count, place)
+
+
+def of_name(name, form, raw):
+    """A name that says another format than the octets."""
+    kind = next((kind for end, kind in NAMES.items() if name.lower().endswith(end)), None)
+    if raw or kind is None or form.startswith(kind):
+        return []
+    hint = ' (one raw frame: --raw FILE)' if kind == 'raw frame' else ''
+    return [f'its name says {kind}, and its octets say {form}: it is read as that{hint}']
