@@ -41,29 +41,9 @@ import tempfile
 sys.dont_write_bytecode = True
 
 import dumper
-from command import arguments, run, shown, stop, write
-from doubts import Doubts, of_name
+from command import Stop, arguments, run, shown, write
 from readers import Capture, Refused, opened
-
-
-class Survey:
-    """What one capture holds, in short."""
-
-    def __init__(self, path, raw):
-        with opened(path) as file:
-            capture = Capture(file, path, raw)
-            seen = Doubts(capture.form)
-            for item in capture:
-                seen.see(item)
-        self.form, self.seen = capture.form, seen
-        self.sha256, self.octets = capture.digest()
-        if not seen.frames:
-            raise Refused(f'no frame in it ({capture.form}){why_none(seen)}')
-        self.doubts = [*of_name(path, capture.form, raw), *seen.lines()]
-
-
-def why_none(seen):
-    return ': ' + '; '.join(seen.lines()) if seen.passed_over else ': nothing was captured'
+from survey import Survey, number
 
 
 def name_of(path):
@@ -74,7 +54,8 @@ def survey_all(captures):
     """Each capture with its survey, or with why it is refused."""
     for path, raw in captures:
         try:
-            yield path, raw, Survey(path, raw), None
+            with opened(path) as file:
+                yield path, raw, Survey(file, path, raw), None
         except Refused as why:
             yield path, raw, None, str(why)
 
@@ -95,14 +76,14 @@ def print_again(out, path, raw, survey):
     try:
         print_capture(out, path, raw, survey)
     except Refused as why:
-        stop(f'{shown(path)}: {why}')
+        raise Stop(f'{shown(path)}: {why}')
 
 
 def read(captures):
     surveys = list(survey_all(captures))
     refused = [f'{shown(path)}: {why}' for path, _, _, why in surveys if why is not None]
     if refused:
-        stop('\n'.join(refused))
+        raise Stop('\n'.join(refused))
     for path, raw, survey, _ in surveys:
         print_again(sys.stdout.buffer, path, raw, survey)
     return 0
@@ -135,20 +116,13 @@ def dumper_words(options):
         return []
 
 
-def number(count, what):
-    return f'{count:,} {what}' if count != 1 else f'1 {what[:-1]}'
-
-
 def print_survey(path, survey, words):
-    seen = survey.seen
-    held = [number(seen.frames, 'frames')]
-    held += [number(seen.packets, 'KISS packets')] if seen.packets else []
-    held += [f'{seen.passed_over:,} passed over'] if seen.passed_over else []
-    write(sys.stdout, f"{shown(path)}: {survey.form}, {number(survey.octets, 'octets')}: {', '.join(held)}")
+    write(sys.stdout, f'{shown(path)}: {survey.sentence()}')
     write(sys.stdout, f'  SHA-256 {survey.sha256}')
     if words:
-        write(sys.stdout, f'  the first frame, {seen.first.place}, {number(len(seen.first.octets), "octets")}:')
-        for line in dumper.prints(words, seen.first.octets).decode('utf-8', 'replace').splitlines():
+        first = survey.seen.first
+        write(sys.stdout, f"  the first frame, {first.place}, {number(len(first.octets), 'octets')}:")
+        for line in dumper.prints(words, first.octets).decode('utf-8', 'replace').splitlines():
             write(sys.stdout, f'    {line}')
     for doubt in survey.doubts:
         write(sys.stdout, f'  doubt: {doubt}')
@@ -188,21 +162,22 @@ def leave(path, value):
             json.dump(value, file, indent=1)
             file.write('\n')
     except OSError as why:
-        stop(f"{shown(path)}: it can't be written: {why.strerror}")
+        raise Stop(f"{shown(path)}: it can't be written: {why.strerror}")
 
 
 def main():
     mode, words = sys.argv[1:2], sys.argv[2:]
     known = {'read': [], 'compare': ['--json', '--differences'], 'check': ['--json', '--dumper']}.get(''.join(mode))
     if known is None or mode == ['compare'] and not words:
-        stop(__doc__)
+        raise Stop(__doc__)
     program = words.pop(0) if mode == ['compare'] else None
     captures, options = arguments(words, known)
     if not captures:
-        stop('no capture is named')
+        raise Stop('no capture is named')
     if mode == ['read']:
         return read(captures)
     return compare(program, captures, options) if program else check(captures, options)
 
 
-run(main)
+if __name__ == '__main__':
+    run(main)

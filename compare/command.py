@@ -27,15 +27,19 @@ def write(stream, text):
     stream.buffer.write(f'{text}\n'.encode())
 
 
-def stop(message, status=2):
+class Stop(Exception):
+    """Why a program ends with status 2, in words."""
+
+
+def complain(message):
     sys.stdout.flush()
     write(sys.stderr, message)
-    sys.exit(status)
+    sys.stderr.flush()
 
 
-def run(main):
-    """Runs a program. A signal ends it by an exception, so that what it started ends too; a reader that goes away ends it without a word,
-    as it ends other programs."""
+def run(main, name=''):
+    """Runs a program, which puts its name before what it complains of. A signal ends it by an exception, so that what it started ends too; a
+    reader that goes away ends it without a word, as it ends other programs."""
     for number, status in SIGNALS.items():
         if signal.getsignal(number) != signal.SIG_IGN:
             signal.signal(number, lambda *_, status=status: sys.exit(status))
@@ -46,8 +50,9 @@ def run(main):
         # What is left to be written is thrown away, so that Python does not complain of it at the end.
         os.dup2(os.open(os.devnull, os.O_WRONLY), sys.stdout.fileno())
         status = 128 + signal.SIGPIPE
-    except OSError as why:
-        stop(f"this can't go on: {why}")
+    except (Stop, OSError) as why:
+        complain(f'{name}{why}')
+        status = 2
     sys.exit(status)
 
 
@@ -62,14 +67,14 @@ def arguments(words, known=(), alone=None):
         elif word == '--raw' or word in known:
             value = next(words, alone if word == '--raw' else None)
             if value is None:
-                stop(f'{word} wants a file')
+                raise Stop(f'{word} wants a file')
             if word == '--raw':
                 captures.append((value, True))
             else:
                 values.append((word, value))
         elif word.startswith('-') and word != alone:
             others = ' '.join(['--raw', *known])
-            stop(f'no option {shown(word)}; there are: {others} (a file of such a name: ./{shown(word)}, or behind --)')
+            raise Stop(f'no option {shown(word)}; there are: {others} (a file of such a name: ./{shown(word)}, or behind --)')
         else:
             captures.append((word, False))
     return captures, values

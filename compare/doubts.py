@@ -139,10 +139,13 @@ class Doubts:
                 yield counted(f'passed over: {PASSED_OVER[found]}', count, place)
 
 
-def of_name(name, form, raw):
-    """A name that says another format than the octets."""
-    kind = next((kind for end, kind in NAMES.items() if name.lower().endswith(end)), None)
-    if raw or kind is None or form.startswith(kind):
+def of_name(name, capture, raw):
+    """Where the octets say another format than the name, or than what was asked for."""
+    if raw:
+        like = capture.looks_like
+        return [f'it is asked for as one raw frame, and its octets say something else: {like}'] if like else []
+    said = next((kind for end, kind in NAMES.items() if name.lower().endswith(end)), None)
+    if said is None or capture.form.startswith(said):
         return []
-    hint = ' (one raw frame: --raw FILE)' if kind == 'raw frame' else ''
-    return [f'its name says {kind}, and its octets say {form}: it is read as that{hint}']
+    hint = ' (one raw frame: --raw FILE)' if said == 'raw frame' else ''
+    return [f'its name says {said}, and its octets say {capture.form}: it is read as that{hint}']

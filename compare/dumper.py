@@ -39,7 +39,7 @@ def by_the_kit(program):
 def found(program=PROGRAM):
     """The words that run it here."""
     if not os.path.exists(program):
-        raise NoDumper('dist/dumper is not there: ./build makes it (README says how long that takes)')
+        raise NoDumper(f'{os.path.relpath(program, ROOT)} is not there: ./build makes it (README says how long that takes)')
     if platform.machine() == 'x86_64' and works([program]):
         return [program]
     words = by_the_kit(program)

@@ -5,6 +5,7 @@ import hashlib
 import io
 import os
 import re
+import shutil
 import stat
 import struct
 import subprocess
@@ -383,20 +384,38 @@ def head_of(stream):
     return stream.peek(HEAD)[:HEAD]
 
 
-def by_octets(stream):
-    """The form that the octets say and what they hold, None where they say nothing. A name hides nothing, so it does not count here."""
-    head = head_of(stream)
+def kind_of(head):
+    """What the first octets say that a file is: one of READERS, or the name of a foreign format; None where they say nothing. A name hides
+    nothing, so it does not count here."""
     if head[:4] in PCAP:
-        return pcap(stream)
+        return 'pcap'
     if head[:4] == PCAPNG:
-        return pcapng(stream)
-    for first, kind, turn in FOREIGN:
+        return 'pcapng'
+    for first, kind, _ in FOREIGN:
         if first.match(head):
-            raise Refused(f'{kind} is not read: {turn}')
+            return kind
     if head[:1] == FEND:
-        return 'KISS log', kiss(stream)
-    if is_text(head):
-        return 'hex lines', hex_lines(stream)
+        return 'KISS log'
+    return 'text' if is_text(head) else None
+
+
+# Each gives the form of a capture and what it holds.
+READERS = {
+    'pcap': pcap,
+    'pcapng': pcapng,
+    'KISS log': lambda stream: ('KISS log', kiss(stream)),
+    'text': lambda stream: ('hex lines', hex_lines(stream)),
+}
+
+
+def by_octets(stream):
+    """The form that the octets say and what they hold, None where they say nothing."""
+    head = head_of(stream)
+    kind = kind_of(head)
+    if kind in READERS:
+        return READERS[kind](stream)
+    if kind:
+        raise Refused(f'{kind} is not read: {next(turn for first, _, turn in FOREIGN if first.match(head))}')
     if KISS_PACKET.search(head):
         raise Unclear(f'a KISS log that starts inside a packet: cut what stands before its first C0 (tail -c +{head.index(FEND) + 1} IN >OUT)')
     return None
@@ -429,13 +448,15 @@ class Capture:
         self.digested = Digested(file)
         self.stream = io.BufferedReader(self.digested, HEAD)
         self.named_raw = name.lower().endswith(RAW_NAMES)
-        if not head_of(self.stream):
+        head = head_of(self.stream)
+        if not head:
             raise Refused('the file is empty')
+        self.looks_like = kind_of(head)
         try:
             told = None if raw else by_octets(self.stream)
         except Refused as why:
             raise self.with_hint(why) from None
-        if told is None and not (raw or lone or self.named_raw):
+        if told is None and not (raw or self.named_raw or lone and len(head) <= RAW_LIMIT):
             raise Refused('no pcap, pcapng, KISS log (which starts with C0) or lines of hex (in UTF-8); '
                           f"if it is one raw frame: --raw FILE, or a name that ends in {', '.join(RAW_NAMES)}")
         self.form, self.held = told or ('raw frame', raw_frame(self.stream))
@@ -460,10 +481,21 @@ KINDS = [(stat.S_ISDIR, 'this is a directory: name the files in it'), (stat.S_IS
 PIPE = 'this is a pipe, which can be read only once: save what comes out of it (cat PIPE >OUT)'
 
 
-def opened(path):
-    """A file, open, that can be gone over from its start."""
+def copied(pipe):
+    """What can be read only once, up to its end, as a file without a name. `pipe` has no buffer, so that one Ctrl-D at a terminal is enough."""
+    file = tempfile.TemporaryFile()
+    shutil.copyfileobj(pipe, file)
+    file.seek(0)
+    return file
+
+
+def opened(path, pipes=False):
+    """A file, open at its start; a pipe, where those are taken, as a copy of what comes out of it."""
     try:
         mode = os.stat(path).st_mode
+        if stat.S_ISFIFO(mode) and pipes:
+            with open(path, 'rb', buffering=0) as pipe:
+                return copied(pipe)
         for is_one, words in [*KINDS, (stat.S_ISFIFO, PIPE)]:
             if is_one(mode):
                 raise Refused(words)
