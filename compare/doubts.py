@@ -9,12 +9,13 @@ from readers import CHARACTER, FEND, RAW_LIMIT, Frame, Packet, PassedOver
 
 STREAM_LIMIT = 1024  # of the data of a packet that ax25_kiss_feed gives out
 FLAG = b'\x7E'
+ESCAPED_FEND = b'\xDB\xDC'
 EVEN, ODD = (b'[' + b''.join(b'\\x%02X' % octet for octet in range(low, 256, 2)) + b']' for low in (0, 1))
 # Two to ten addresses of letters, digits and spaces, the last with the bit that ends the field, and an octet behind them.
 CLEAR = re.compile(rb'(?:' + CHARACTER + rb'{6}' + EVEN + rb'){1,9}' + CHARACTER + rb'{6}' + ODD + rb'.', re.DOTALL)
 END = re.compile(ODD)
 
-# What may be wrong with a frame, and what to do.
+# What may be wrong with a frame or a KISS packet, and what to do.
 WORDS = {
     'packet': 'frames that start with C0 and a KISS type octet, as whole KISS packets do: give the KISS log itself, or take these octets and '
               'the last C0 off',
@@ -25,10 +26,12 @@ WORDS = {
     'check': 'frames whose last two octets are the check sequence of the others: take them off, a frame here ends before them',
     'long': f'frames of more than {RAW_LIMIT} octets, which the dumper answers by 50',
     'address': 'frames without an address field that can be read (the decoder answers 1, 2, 3, 4 or 9)',
+    'framed': 'packets of link type 202 that start with C0, which it leaves out: take both C0 off and undo the escapes, or give a KISS log',
+    'stream': f'KISS packets of more than {STREAM_LIMIT} octets of data, which ax25_kiss_feed drops',
 }
 # Why packets are passed over, by their number.
 PASSED_OVER = {
-    None: 'packets that were not captured whole',
+    None: 'packets that were not captured whole, as with a snap length (tcpdump -s 0 has none)',
     52: 'KISS packets with a DB that is no escape',
     53: 'KISS packets that no C0 ends, as where a log is cut',
     54: 'KISS packets of another command than data',
@@ -105,8 +108,12 @@ class Doubts:
                 self.meet(found, item.place)
         elif isinstance(item, Packet):
             self.packets += 1
-            if len(item.data) > STREAM_LIMIT and self.form == 'KISS log':
-                self.meet('stream', item.place)
+            if self.form == 'KISS log':
+                found = 'stream' if len(item.data) > STREAM_LIMIT else None
+            else:
+                found = 'framed' if item.octets[1:3] == ESCAPED_FEND else None
+            if found:
+                self.meet(found, item.place)
         elif isinstance(item, PassedOver):
             self.passed_over += 1
             self.meet(item.number, item.place)
@@ -126,17 +133,14 @@ class Doubts:
         if self.is_dump():
             yield (f'every line has {max(self.lengths)} octets, and most are no frames: this looks like a dump that was cut into lines; '
                    + readers.LINE_BY_LINE)
+        if self.form == 'raw frame' and self.first.octets[-1:] == b'\n':
+            yield "its last octet is a line end (0A), which may be an editor's and not the frame's"
         for found, (count, place) in self.met.items():
             if found == 'check' and 100 * count < self.frames:
                 continue  # Two octets come out so by chance once in 65,536 frames.
             if found == 'address' and (self.is_dump() or 2 * count < self.frames):
                 continue  # Bad frames are what a capture is there to show; where most are bad, it may be no capture of AX.25.
-            if found == 'stream':
-                yield counted(f'KISS packets of more than {STREAM_LIMIT} octets of data, which ax25_kiss_feed drops', count, place)
-            elif found in WORDS:
-                yield counted(WORDS[found], count, place)
-            else:
-                yield counted(f'passed over: {PASSED_OVER[found]}', count, place)
+            yield counted(WORDS[found] if found in WORDS else f'passed over: {PASSED_OVER[found]}', count, place)
 
 
 def of_name(name, capture, raw):
