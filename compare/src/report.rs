@@ -8,6 +8,9 @@ use std::io::Write;
 /// How many mismatches are printed in full. The others are counted.
 const SHOWN: usize = 20;
 
+/// The SHA-256 of the archive that this program was linked with, which compare/build gives.
+const ARCHIVE: &str = env!("COMPARE_ARCHIVE");
+
 pub struct Line {
     pub name: String,
     pub inputs: u64,
@@ -86,6 +89,7 @@ impl Report {
         };
         let mismatches: u64 = self.lines.iter().map(|line| line.mismatches).sum();
         let mut fields = vec![
+            ("archive", string(ARCHIVE)),
             ("classes", list(self.lines.iter().map(line))),
             ("mismatches", mismatches.to_string()),
             ("mismatches_shown", list(self.mismatches.iter().map(mismatch_json))),
