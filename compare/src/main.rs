@@ -40,6 +40,18 @@ extern "C" fn pthread_getattr_np(_thread: usize, _attributes: *mut u8) -> i32 {
     38
 }
 
+extern "C" {
+    fn signal(number: i32, handler: usize) -> usize;
+}
+
+/// Has a reader of the output who goes away end this program quietly, as he ends others: by the signal. Rust's standard library sets the
+/// signal aside before `main`, and `println!` then panics.
+fn end_with_the_reader() {
+    const SIGPIPE: i32 = 13;
+    const DEFAULT: usize = 0;
+    unsafe { signal(SIGPIPE, DEFAULT) };
+}
+
 const USAGE: &str = "\
 compare test [SCALE]               every class of inputs; the seeded ones SCALE times as large (1)
 compare captures [--raw FILE | FILE]..
@@ -152,6 +164,7 @@ fn status(holds: bool) -> ! {
 }
 
 fn main() {
+    end_with_the_reader();
     let options = options();
     let words: Vec<&str> = options.words.iter().map(String::as_str).collect();
     match words[..] {
