@@ -35,7 +35,7 @@ ok: the comparison
 9 passed, 0 failed
 '''
 # A name with all that Markdown or HTML could take for a mark.
-ODD = 'a|b`c`<d>&amp;*e*_f_\\\\g\\xFF [h](i).pcap'
+ODD = 'a | b|`c`<d>&amp;*e*_f_\\\\g\\xFF [h](i).pcap'
 CAPTURE = {'file': f'/tmp/{ODD}', 'format': 'KISS log', 'octets': 1234, 'sha256': 'ab' * 32, 'frames': 3, 'packets': 4, 'passed_over': 1,
            'doubts': ['one | doubt']}
 SOURCES = {'sha256': 'cd' * 32, 'files': 2, 'commit': 'ef' * 20, 'as_committed': True, 'why_unknown': None, 'changed': [],

@@ -73,8 +73,8 @@ def agree(work):
     for what, text in (('the odd name', f'/tmp/{ODD}'), ('the digest of the sources', 'cd' * 32), ('the digest of a capture', 'ab' * 32),
                        ('a reason', made['verdict']['parts'][1]['reason'])):
         check(f'{what} stands in both pages as it is', text in page.texts and text in marked, [cell for cell in page.texts + marked if cell[:8] == text[:8]])
-    widths = {len(line.split(' | ')) for line in markdown.split('\n') if line.startswith('| ') and '/tmp/a' in line}
-    equal('the row of the odd name has as many cells as its head', widths, {8})
+    bars = {line.count('|') for line in markdown.split('\n') if line.startswith('| ') and '/tmp/a' in line}
+    equal('the row of the odd name has as many cells as its head', bars, {9})
     says(made, page, markdown)
     met(page)
 

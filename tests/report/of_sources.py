@@ -53,6 +53,9 @@ def without_git(work, tree, clean):
     git(f'{work}/outer', 'commit', '-q', '--allow-empty', '-m', 'outer')
     inner = state(unpacked(tree, f'{work}/outer/inner'))
     check('nor is it of a commit of a repository around it', inner['commit'] is None and inner['sha256'] == clean['sha256'], inner)
+    os.mkdir(f'{work}/outer/inner/.git')
+    inner = state(f'{work}/outer/inner')
+    check('nor with a .git of which git makes nothing', inner['commit'] is None and inner['sha256'] == clean['sha256'], inner)
 
 
 def departures(tree, clean):
