@@ -6,7 +6,7 @@ import document
 import evidence
 import pages
 
-FILES = ('report.json', 'report.md', 'report.html')
+FILES = ('report.html', 'report.md', 'report.json')
 
 
 def made(root, folder, run):
@@ -18,6 +18,6 @@ def made(root, folder, run):
 
 def write(folder, report):
     title, blocks = document.title(report), document.document(report)
-    for name, text in zip(FILES, (json.dumps(report, indent=1) + '\n', pages.markdown(title, blocks), pages.page(title, blocks))):
+    for name, text in zip(FILES, (pages.page(title, blocks), pages.markdown(title, blocks), json.dumps(report, indent=1) + '\n')):
         with open(os.path.join(folder, name), 'w', encoding='utf-8', newline='\n') as file:
             file.write(text)

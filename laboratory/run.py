@@ -22,6 +22,7 @@ import report
 import sources
 from command import shown
 from progress import Progress, TestLog
+from verdict import many
 
 COMPONENT = 'ax25'
 # rt ci removes target/, so the run works beside it. Only a whole report gets a folder with the day's date.
@@ -30,6 +31,8 @@ DELIVERED = ('libax25frame.a', 'ax25.h', 'dumper')
 # What the report takes from outside its folder. It is removed before anything is run, so that it is of this run or not there.
 TAKEN = ('dist', 'target/compare')
 SAMPLES = ('*.pcap', '*.kiss', '*.hex', '*.raw')
+# How many octets of what was read from the captures are kept beside the report. It can be read again from the captures.
+LONGEST_LIST = 100_000_000
 
 
 class Refused(Exception):
@@ -165,10 +168,10 @@ class Run:
             return
         captures = evidence.parsed(self.folder, 'checked.json')['captures']
         frames = sum(capture['frames'] for capture in captures)
-        self.progress.step(f'2 of 4: the Rust beside the port on {len(captures)} captures, {frames} frames')
+        self.progress.step(f"2 of 4: the Rust beside the port on {many(len(captures), 'capture')}, {many(frames, 'frame')}")
         self.logged('captures', [compare, 'frames', f'{UNFINISHED}/frames.txt', '--of', str(frames), '--json', f'{UNFINISHED}/captures.json',
                                  '--differences', f'{UNFINISHED}/differences-captures.txt'])
-        self.progress.step('3 of 4: times')
+        self.progress.step('3 of 4: times, for a minute or so')
         self.logged('bench', [compare, 'bench', '--json', f'{UNFINISHED}/bench.json'])
 
     def logged(self, name, words):
@@ -199,6 +202,8 @@ class Run:
         self.progress.step('4 of 4: the report')
         made = report.made(ROOT, self.folder, self.facts())
         report.write(self.folder, made)
+        if os.path.getsize(self.left('frames.txt')) > LONGEST_LIST:
+            os.remove(self.left('frames.txt'))
         processes.ignore_signals()
         day, n = time.strftime('%Y-%m-%d'), 1
         while os.path.lexists(below(name := f'lab-{day}' + (f'-{n}' if n > 1 else ''))):

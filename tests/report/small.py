@@ -88,6 +88,9 @@ def small_tree(at):
             shutil.copytree(os.path.join(ROOT, name), into, ignore=shutil.ignore_patterns('__pycache__'))
         else:
             shutil.copy2(os.path.join(ROOT, name), into)
+    # A list that is long there: that of the samples.
+    run = read(f'{at}/laboratory/run.py')
+    write(f'{at}/laboratory/run.py', run.replace('LONGEST_LIST = 100_000_000', 'LONGEST_LIST = 50_000'))
     # No compiler is looked for there, nor fetched.
     stubs = 'need_rustc() { RUSTC_X86=true; }\nneed_cc() { CC_X86=true; }\n'
     write(f'{at}/tests/tools.sh', read(f'{ROOT}/tests/tools.sh') + stubs)
