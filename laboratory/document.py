@@ -4,6 +4,8 @@ import os
 from pages import Code, Heading, Items, Paragraph, Signatures, Table, Together, Verbatim
 from verdict import many
 
+# How many files that are not as committed stand on a page.
+MOST_FILES = 100
 YES_NO = {True: 'yes', False: 'no', None: "can't be told"}
 
 
@@ -117,11 +119,18 @@ def lines_of(heading, lines):
     return [Heading(heading), Items(lines)] if lines else []
 
 
+def changed(report):
+    """Every file that is not as committed; the verdict names the first."""
+    files = [[Code(change['file']), f": {change['how']}"] for change in report['sources']['changed']]
+    more = [f'{len(files) - MOST_FILES:,} more stand in report.json'] if len(files) > MOST_FILES else []
+    return lines_of('Files that are not as committed', files[:MOST_FILES] + more)
+
+
 def shown_difference(difference):
-    lines = [f"{difference['class']}", f"  input: {difference['input']}"]
+    lines = [difference['class'], f"  input: {difference['input']}"]
     for one in difference['differences']:
         lines += [f"  {one['what']}", f"    owed: {one['owed']}", f"    port: {one['port']}"]
-    return lines + [f"  again: {difference['again']}"]
+    return lines + [f"  again: {difference['again']}", '']
 
 
 def more_of(part, shown):
@@ -143,7 +152,7 @@ def unlisted(report):
         if part['unlisted']:
             shown = report[key]['mismatches_shown']
             out += [Paragraph(f"{many(part['unlisted'], 'difference')} {where}:")]
-            out += [Verbatim([line for difference in shown for line in shown_difference(difference)]), Paragraph(more_of(part, len(shown)))]
+            out += [Verbatim([line for difference in shown for line in shown_difference(difference)][:-1]), Paragraph(more_of(part, len(shown)))]
     return [Heading('Differences that docs/DIFFERENCES.md does not list')] + (out or [Paragraph(none_unlisted(report))])
 
 
@@ -289,6 +298,6 @@ def document(report):
     """The blocks of the report, in their order."""
     return [
         *cover(report), *judged(report), *limits(report), *to_sign(report),
-        *lines_of('Failed', report['failed']), *lines_of('Not checked on this host', report['skipped']),
+        *lines_of('Failed', report['failed']), *changed(report), *lines_of('Not checked on this host', report['skipped']),
         *unlisted(report), *listed(report), *captures(report), *compared(report), *proved(report), *appendices(report),
     ]

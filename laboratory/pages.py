@@ -143,7 +143,7 @@ code { overflow-wrap: anywhere; }
 code.digest { font-size: 0.82em; overflow-wrap: normal; }
 td.name { min-width: 36mm; }
 pre { border: 0.2mm solid #555; padding: 2mm; white-space: pre-wrap; }
-section { break-inside: avoid; page-break-inside: avoid; }
+section { break-inside: avoid; page-break-inside: avoid; padding-bottom: 2mm; }
 table.sign { margin-top: 4mm; }
 table.sign td { border: 0; border-bottom: 0.3mm solid #000; height: 10mm; width: 60mm; }
 table.sign th { border: 0; vertical-align: bottom; width: 26mm; }

@@ -64,7 +64,7 @@ def agree(work):
     results = Results(work)
     results.compared.update(mismatches=30, mismatches_shown=[MISMATCH], mismatches_written=25)
     results.log = results.log.replace('ok: the comparison', 'FAILED: <odd> | `line` \x1b[1m')
-    results.run['sources'] = {**SOURCES, 'as_committed': False, 'changed': [{'file': ODD, 'how': 'changed'}]}
+    results.run['sources'] = {**SOURCES, 'as_committed': False, 'changed': [{'file': f'{n} {ODD}', 'how': 'changed'} for n in range(9)]}
     made = results.made()
     equal('report.json holds the dictionary', json.loads(results.page('json')), made)
     page, markdown = Page(results.page('html')), results.page('md')
@@ -96,6 +96,8 @@ def says(made, page, markdown):
         equal(f'two lines to sign: {field}', (page.texts.count(field), every.count(f'\n{field}: ....')), (2, 2))
     check('what the run does not show, and docs/TRUST.md', 'docs/TRUST.md has all' in every and len(made['not_shown']) > 5
           and all(sentence in page.texts and f'- {sentence}\n' in every for sentence in made['not_shown']))
+    files = [f'{n} {ODD}: changed' for n in range(9)]
+    check('every file that is not as committed', all(file in page.texts and f'- {file}\n' in every for file in files))
     words = ('  input: 8e82|`<&', '    owed: 3', '29 more are not shown here: all of them stand in differences-test.txt, in this folder, but for 5, '
              'which are only counted there.')
     check('a difference stands there with its octets, and where the others are', all(word in text for text in ('\n'.join(page.texts), every) for word in words))
