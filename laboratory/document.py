@@ -30,6 +30,9 @@ def about_host(host):
     return f"{host['machine']}, {host['processor']}, {many(host['processors'], 'processor')}{memory}"
 
 
+COMPILERS = (('Rust', 'rustc'), ('C', 'c'), ("the kit's", 'clang'), ('Python', 'python'))
+
+
 def facts(report):
     host, kit, compilers = report['host'], report['kit'], report['compilers']
     none = 'not found on this host'
@@ -42,13 +45,15 @@ def facts(report):
         ('Kernel', host['kernel']),
         ('System', host['system']),
         ('Kit and logic', [code_or(kit['version'], 'no kit'), '; kit.txt pins ', Code(kit['pinned'])]),
-        ('Compilers', f"Rust: {compilers['rustc'] or none}; C: {compilers['c'] or none}; the kit's: {compilers['clang'] or none}; Python {compilers['python']}"),
+        ('Compilers', '; '.join(f'{name}: {compilers[key] or none}' for name, key in COMPILERS)),
         ('Commit', [code_or(report['sources']['commit'], 'none'), '. ' + report['verdict']['sources']['reason']]),
     ])
 
 
 def crate_state(crate):
-    return 'as published, by the digests that laboratory/sources.py has' if crate['as_published'] else 'NOT AS PUBLISHED: ' + ', '.join(crate['departs'])
+    if crate['as_published']:
+        return 'as published, by the digests that laboratory/sources.py has'
+    return 'NOT AS PUBLISHED: ' + ', '.join(crate['departs'])
 
 
 def digests(report):
@@ -57,10 +62,12 @@ def digests(report):
     for name, digest in crate['files'].items():
         rows.append((f"the Rust crate {crate['name']}, {name}", code_or(digest, 'not there')))
     rows += [(f'dist/{name}', code_or(digest, 'not built')) for name, digest in report['delivered'].items()]
-    rows += [(['capture ', Code(os.path.basename(capture['file']))], code_or(capture.get('sha256'), 'not read')) for capture in report['captures']]
+    for capture in report['captures']:
+        rows.append((['capture ', Code(os.path.basename(capture['file']))], code_or(capture.get('sha256'), 'not read')))
     return [
         Table(['what', 'SHA-256'], rows),
-        Paragraph(f"The Rust crate is {crate_state(crate)}. The digest of the archive in which it was published is not known here, so it is not compared."),
+        Paragraph(f'The Rust crate is {crate_state(crate)}. The digest of the archive in which it was published is not known here, '
+                  'so it is not compared.'),
     ]
 
 
@@ -87,21 +94,25 @@ def not_shown(report):
     sentences = [
         'The checker and its logic are what proves. kit.txt pins their sum, and no run of them shows that they are right.',
         'The definitions in crates/*/specs/ say what is proved. A wrong definition would prove a wrong program: they are to be read.',
-        'No proof speaks of the machine code that the kit\'s compiler makes. The tests and the comparison run it, on many inputs and not on all.',
+        "No proof speaks of the machine code that the kit's compiler makes. The tests and the comparison run it, on many inputs and "
+        'not on all.',
         f"The proofs of the programs assume functions of C, and those of the archive none. Assumed here: {assumed}.",
-        'That the Rust crate\'s files are those that its registry gives out is not shown: they are compared with digests that stand in these sources.',
+        "That the Rust crate's files are those that its registry gives out is not shown: they are compared with digests that stand in "
+        'these sources.',
         'Captures show what the port makes of their frames. What it makes of other frames follows from the proofs, not from captures.',
     ]
     if report['host']['machine'] != 'x86_64':
-        sentences.append('The archive is for x86-64: on this host its code ran by the kit\'s emulator.')
+        sentences.append("The archive is for x86-64: on this host its code ran by the kit's emulator.")
     if report['skipped']:
-        sentences.append(f"{many(len(report['skipped']), 'check')} could not be made on this host; the heading 'Not checked on this host' has them.")
+        left = many(len(report['skipped']), 'check')
+        sentences.append(f"{left} could not be made on this host: see 'Not checked on this host'.")
     return sentences
 
 
 def to_sign(report):
-    signed = [f"{title(report)}, ended {report['ended']}; sources with SHA-256 ", Code(report['sources']['sha256']), f": {report['verdict']['words']}"]
-    return [Together([Heading('To sign'), Paragraph(signed), Signatures()])]
+    what = f"{title(report)}, ended {report['ended']}; sources with SHA-256 "
+    signed = Paragraph([what, Code(report['sources']['sha256']), f": {report['verdict']['words']}"])
+    return [Together([Heading('To sign'), signed, Signatures()])]
 
 
 def limits(report):
@@ -157,7 +168,8 @@ def unlisted(report):
 
 
 def none_unlisted(report):
-    missing = [where for name, where in (('test', "the comparison's own classes"), ('captures', 'the captures')) if report['differences'][name]['unlisted'] is None]
+    parts = (('test', "the comparison's own classes"), ('captures', 'the captures'))
+    missing = [where for name, where in parts if report['differences'][name]['unlisted'] is None]
     return 'None.' if not missing else f"None is known: {' and '.join(missing)} were not compared."
 
 
@@ -182,7 +194,8 @@ def listed(report):
 
 
 def relays(part):
-    return f"{part['relayed_routes']} frames with a route were relayed by each of their repeaters: {part['relays']} relays, {part['relayed']} of them passed on."
+    return (f"{part['relayed_routes']} frames with a route were relayed by each of their repeaters: {part['relays']} relays, "
+            f"{part['relayed']} of them passed on.")
 
 
 def packets(part):
@@ -193,7 +206,8 @@ def packets(part):
 
 def streams(part):
     counts = part['kiss_streams']
-    return f"{counts['streams']} KISS streams of {counts['octets']} octets were read in pieces: {counts['packets']} packets given out, {counts['dropped']} dropped."
+    return (f"{counts['streams']} KISS streams of {counts['octets']} octets were read in pieces: {counts['packets']} packets given out, "
+            f"{counts['dropped']} dropped.")
 
 
 def pairs(part):
@@ -202,8 +216,9 @@ def pairs(part):
                   for way in ('re-encoded as that', 'met with the same frame and info'))
     forgotten = part.get('not_remembered')
     rest = f' {forgotten} frames were beside earlier ones, but not remembered for later ones.' if forgotten else ''
-    return (f"Beside what it is re-encoded as each accepted frame is: {again}. {part['frames_again']} frames have the frame and info of an earlier one, "
-            f"which for {part['neither_canonical']} of them is no more canonical than they are; beside the canonical one of the two the other is: {met}.{rest}")
+    return (f"Beside what it is re-encoded as each accepted frame is: {again}. {part['frames_again']} frames have the frame and info of an "
+            f"earlier one, which for {part['neither_canonical']} of them is no more canonical than they are; beside the canonical one of the "
+            f'two the other is: {met}.{rest}')
 
 
 def nulls(part):
@@ -226,8 +241,11 @@ def capture_row(capture):
     name = Code(capture['file'])
     if 'refused' in capture:
         return [name, 'refused', '', '', '', '', '', '']
-    return [name, capture['format'], f"{capture['octets']:,}", capture['frames'], capture['packets'], capture['passed_over'], Code(capture['sha256']),
-            len(capture['doubts']) or 'none']
+    return [name, capture['format'], f"{capture['octets']:,}", capture['frames'], capture['packets'], capture['passed_over'],
+            Code(capture['sha256']), len(capture['doubts']) or 'none']
+
+
+CAPTURE_HEADS = ['file', 'format', 'octets', 'frames', 'KISS packets', 'passed over', 'SHA-256', 'doubts']
 
 
 def captures(report):
@@ -236,7 +254,7 @@ def captures(report):
     if report['samples']:
         out += [Paragraph('No capture was given, so the samples in tests/captures/ were read.')]
     if every:
-        out += [Table(['file', 'format', 'octets', 'frames', 'KISS packets', 'passed over', 'SHA-256', 'doubts'], [capture_row(capture) for capture in every])]
+        out += [Table(CAPTURE_HEADS, [capture_row(capture) for capture in every])]
     doubts = [[Code(capture['file']), f": {doubt}"] for capture in every for doubt in capture.get('doubts', [])]
     doubts += [[Code(capture['file']), f": refused: {capture['refused']}"] for capture in every if 'refused' in capture]
     out += [Paragraph('What is doubtful in them:'), Items(doubts)] if doubts else []
@@ -280,9 +298,11 @@ def appendices(report):
         found.append(('the classes of the comparison', [Table(['class', 'inputs', 'mismatches'], rows)]))
     if report['ratios']:
         rows = [(ratio['input'], ratio['call'], f"{ratio['ratio']:.1f}") for ratio in report['ratios']]
-        found.append(('speed', [Paragraph("The Rust's time over the port's, in one process on the same inputs."), Table(['input', 'call', 'ratio'], rows)]))
+        about = Paragraph("The Rust's time over the port's, in one process on the same inputs.")
+        found.append(('speed', [about, Table(['input', 'call', 'ratio'], rows)]))
     if report['stack']:
-        found.append(('stack', [Paragraph('At most, in octets, by the code of the archive.'), Table(['call', 'octets'], list(report['stack'].items()))]))
+        about = Paragraph('At most, in octets, by the code of the archive.')
+        found.append(('stack', [about, Table(['call', 'octets'], list(report['stack'].items()))]))
     if report['crates']:
         rows = [(crate['crate'], crate['functions'], crate['seconds']) for crate in report['crates']]
         found.append(('the crates', [Table(['crate', 'functions', 'seconds'], rows)]))

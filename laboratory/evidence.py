@@ -47,7 +47,9 @@ def crates_of(root):
 
 
 def wrong_versions_of(root):
-    return sorted(f'{path.split(os.sep)[-3]}/{os.path.basename(path)[:-5]}' for path in glob.glob(os.path.join(glob.escape(root), 'crates/*/must-fail/*.edit')))
+    """Every wrong version that the checker has to refuse, as rt names it."""
+    paths = glob.glob(os.path.join(glob.escape(root), 'crates/*/must-fail/*.edit'))
+    return sorted(f"{path.split('/')[-3]}/{os.path.basename(path)[:-len('.edit')]}" for path in paths)
 
 
 def counted(log):

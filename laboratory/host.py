@@ -66,9 +66,6 @@ def kit(root):
 
 def compilers(root):
     """Those that the tests of this run take; None where there is none."""
-    try:
-        lines = subprocess.run(['sh', '-c', COMPILERS], cwd=root, capture_output=True, stdin=subprocess.DEVNULL).stdout.decode('utf-8', 'replace')
-    except OSError:
-        lines = ''
-    found = dict(line.split('\t', 1) for line in lines.splitlines() if '\t' in line)
-    return {'rustc': found.get('rustc') or None, 'c': found.get('c') or None, 'clang': found.get('clang') or None, 'python': platform.python_version()}
+    told = subprocess.run(['sh', '-c', COMPILERS], cwd=root, capture_output=True, stdin=subprocess.DEVNULL).stdout.decode('utf-8', 'replace')
+    found = dict(line.split('\t', 1) for line in told.splitlines() if '\t' in line)
+    return {**{name: found.get(name) or None for name in ('rustc', 'c', 'clang')}, 'python': platform.python_version()}

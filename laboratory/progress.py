@@ -84,5 +84,7 @@ class TestLog:
             return 'proofs', f'crates proved: {self.proved} of {self.crates}'
         if self.ended == 0 and self.refused < self.versions:
             return 'wrong versions', f'wrong versions refused: {self.refused} of {self.versions}'
-        part = self.parts[self.ended] if 2 <= self.ended < len(self.parts) else 'the programs and the documents' if self.ended < 2 else 'the end'
+        # The first two parts are those above.
+        left = self.parts[max(self.ended, 2):]
+        part = left[0].replace(', after those', '') if left else 'the end'
         return part, f'running: {part}'

@@ -22,7 +22,7 @@ import report
 import sources
 from command import shown
 from progress import Progress, TestLog
-from verdict import many
+from verdict import many, some
 
 COMPONENT = 'ax25'
 # rt ci removes target/, so the run works beside it. Only a whole report gets a folder with the day's date.
@@ -53,7 +53,8 @@ def arguments(words):
             check = True
             continue
         if word.startswith('-') and word != '--raw':
-            raise Refused(f'no option {shown(word)}; there are --check, --raw FILE and --help (a file of such a name: ./{shown(word)}, or behind --)')
+            there = f'there are --check, --raw FILE and --help (a file of such a name: ./{shown(word)}, or behind --)'
+            raise Refused(f'no option {shown(word)}; {there}')
         named.append(word)
         if word == '--raw':
             named += list(itertools.islice(left, 1))
@@ -72,7 +73,8 @@ def read_captures(mode, *words, **more):
 
 def is_kit():
     """The words of tests/tools.sh where the rt on the PATH is none of a Rattle kit."""
-    asked = subprocess.run(['sh', '-c', 'root=$1; . "$1/tests/tools.sh"; tools_rattle', 'lab', ROOT], capture_output=True, stdin=subprocess.DEVNULL)
+    words = ['sh', '-c', 'root=$1; . "$1/tests/tools.sh"; tools_rattle', 'lab', ROOT]
+    asked = subprocess.run(words, capture_output=True, stdin=subprocess.DEVNULL)
     if asked.returncode:
         raise Refused(asked.stdout.decode('utf-8', 'replace').strip())
 
@@ -138,7 +140,7 @@ class Run:
             self.progress.line(f"the report can't show that the sources are as committed: {self.sources['why_unknown']}")
         elif not self.sources['as_committed']:
             names = [change['file'] for change in self.sources['changed']]
-            self.progress.line(f"the sources are not as committed, and the report will say so: {', '.join(names[:5])}{' ..' if len(names) > 5 else ''}")
+            self.progress.line(f'the sources are not as committed, and the report will say so: {some(names)}')
         if not self.crate['as_published']:
             self.progress.line(f"the Rust crate is not as published, and the report will say so: {', '.join(self.crate['departs'])}")
 
@@ -177,8 +179,10 @@ class Run:
     def logged(self, name, words):
         """What a command prints goes to a log in the folder. How far it is, or why it stops, it says on standard error."""
         with open(self.left(name + '.log'), 'wb') as file:
-            if self.begun(words, file).wait():
-                self.progress.line(f'FAILED: the last line of {name}.log is: {(evidence.text(self.folder, name + ".log") or "nothing").rstrip().splitlines()[-1]}')
+            failed = self.begun(words, file).wait()
+        if failed:
+            lines = (evidence.text(self.folder, name + '.log') or '').rstrip().splitlines() or ['nothing']
+            self.progress.line(f'FAILED: the last line of {name}.log is: {lines[-1]}')
 
     def facts(self):
         """What the report says beside what the folder holds."""

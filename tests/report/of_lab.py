@@ -10,6 +10,7 @@ import report
 import verdict
 from held import ROOT, check, equal, git, read, write
 from madeup import COMMON
+from of_pages import named
 from small import wait_for
 
 BAD = ('cut.pcap', 'none.pcap', 'text', 'ten.pcap', 'foreign', 'not-there')
@@ -20,8 +21,9 @@ def given(lab):
     folder, frames = f'{lab.marks}/given', read(f'{ROOT}/tests/captures/frames.hex')
     with open(f'{ROOT}/tests/captures/ax25-le-us.pcap', 'rb') as file:
         pcap = file.read()
-    contents = {'cut.pcap': pcap[:-3], 'none.pcap': pcap[:24], 'ten.pcap': pcap[:10], 'text': 'Dear laboratory,\n', 'foreign': b'\x1F\x8B\x08 gzip',
-                **{name: frames for name in ('good.hex', '-dash.hex', 'a | b.hex', b'odd\xFF.hex')}}
+    contents = {name: frames for name in ('good.hex', '-dash.hex', 'a | b.hex', b'odd\xFF.hex')}
+    contents.update({'cut.pcap': pcap[:-3], 'none.pcap': pcap[:24], 'ten.pcap': pcap[:10]})
+    contents.update({'text': 'Dear laboratory,\n', 'foreign': b'\x1F\x8B\x08 gzip'})
     for name, content in contents.items():
         write(os.path.join(os.fsencode(folder), os.fsencode(name)), content)
     return folder
@@ -30,7 +32,8 @@ def given(lab):
 def checks(lab):
     """--check: what can be read and what can't, and names."""
     folder, began = given(lab), time.monotonic()
-    status, said = lab.run('--check', f'{folder}/good.hex', os.fsencode(folder) + b'/odd\xFF.hex', f'{folder}/a | b.hex', '--', f'{folder}/-dash.hex')
+    odd = os.fsencode(folder) + b'/odd\xFF.hex'
+    status, said = lab.run('--check', f'{folder}/good.hex', odd, f'{folder}/a | b.hex', '--', f'{folder}/-dash.hex')
     names = ('good.hex', 'odd\\xFF.hex', 'a | b.hex', '-dash.hex')
     check('--check reads good files of any name', status == 0 and all(f'{name}: hex lines' in said for name in names), said)
     status, said = lab.run('--check', f'{folder}/good.hex', *(f'{folder}/{name}' for name in BAD))
@@ -62,12 +65,14 @@ def whole_runs(lab):
     status, _ = lab.run(f'{lab.marks}/given/good.hex', os.fsencode(lab.marks) + b'/given/odd\xFF.hex')
     equal('a second run of the day gets a folder of its own', (status, lab.folders()), (0, [first, first + '-2']))
     check('and keeps a list that is short', os.path.getsize(f'{lab.tree}/{first}-2/frames.txt') > 1000)
-    equal('and names that are no UTF-8 are told', [os.path.basename(capture['file']) for capture in lab.report()['captures']], ['good.hex', 'odd\\xFF.hex'])
+    names = [os.path.basename(capture['file']) for capture in lab.report()['captures']]
+    equal('and names that are no UTF-8 are told', names, ['good.hex', 'odd\\xFF.hex'])
 
     status, said = lab.run(standin='early')
     made = lab.report()
     taken = [made['compared'], made['captures_compared'], made['ratios'], made['differences']['test']['file'], *made['delivered'].values()]
-    check('where the test ends early, no comparison, archive or difference of the run before reaches the report', status == 1 and not any(taken), taken)
+    check('where the test ends early, no comparison, archive or difference of the run before reaches the report',
+          status == 1 and not any(taken), taken)
     check('a failure is shown at once', "lab: FAILED: the kit's logic is another\n" in said, said)
     lab.forget()
 
@@ -89,11 +94,12 @@ def whole_run(lab):
     dated = len(folders) == 1 and re.fullmatch(r'lab-\d{4}-\d\d-\d\d', folders[0])
     check('a run leaves a folder with the date, and everything holds', status == 0 and dated and verdict.HOLDS in said, f'{status} {said}')
     page = read(f'{ROOT}/docs/REPORT.md').split('## What else')[1].split('## report.json')[0]
-    owed = {name for line in page.split('\n') if line.startswith('| `') for name in re.findall('`([^`]+)`', line.split(' | ')[0])} | set(report.FILES)
-    equal('it holds what docs/REPORT.md says, but for a list that is long', sorted(set(os.listdir(f'{lab.tree}/{folders[0]}')) ^ owed), ['frames.txt'])
+    left = set(os.listdir(f'{lab.tree}/{folders[0]}'))
+    equal('it holds what docs/REPORT.md says, but for a list that is long', sorted(left ^ named(page) ^ set(report.FILES)), ['frames.txt'])
     check('how long it takes and where the log grows is said first',
           re.search(r'1 of 4: .* it took \d+ min \d+ s on \d+ cores .*lab-unfinished/test\.log', said), said)
-    for words in ('crates proved: 0 of 2', 'wrong versions refused: 0 of 1', 'running: the programs and the documents', './test: 9 passed, 0 failed'):
+    for words in ('crates proved: 0 of 2', 'wrong versions refused: 0 of 1', 'running: the programs and the documents',
+                  './test: 9 passed, 0 failed'):
         check(f'it says how far it is: {words}', f': {words}\n' in said, said)
     made = lab.report()
     equal('the report has the samples', (made['samples'], len(made['captures'])), (True, 11))
@@ -112,7 +118,8 @@ def interruptions(lab):
         said = process.communicate(timeout=60)[0].decode()
         told = process.returncode == 128 + number and said.count('interrupted') == 1
         check(f'{number.name}: it says so, and keeps nothing', told and not lab.folders(), f'{process.returncode} {said} {lab.folders()}')
-        check(f'{number.name}: nothing goes on, and the test has tidied up', not lab.alive() and not os.path.exists(f'{lab.marks}/scratch'), lab.alive())
+        tidy = not os.path.exists(f'{lab.marks}/scratch')
+        check(f'{number.name}: nothing goes on, and the test has tidied up', not lab.alive() and tidy, lab.alive())
         lab.forget()
 
     busy = 'another ./lab runs in this tree'

@@ -72,7 +72,8 @@ def agree(work):
     marked = markdown_cells(markdown)
     for what, text in (('the odd name', f'/tmp/{ODD}'), ('the digest of the sources', 'cd' * 32), ('the digest of a capture', 'ab' * 32),
                        ('a reason', made['verdict']['parts'][1]['reason'])):
-        check(f'{what} stands in both pages as it is', text in page.texts and text in marked, [cell for cell in page.texts + marked if cell[:8] == text[:8]])
+        near = [cell for cell in page.texts + marked if cell[:8] == text[:8]]
+        check(f'{what} stands in both pages as it is', text in page.texts and text in marked, near)
     bars = {line.count('|') for line in markdown.split('\n') if line.startswith('| ') and '/tmp/a' in line}
     equal('the row of the odd name has as many cells as its head', bars, {9})
     says(made, page, markdown)
@@ -81,7 +82,7 @@ def agree(work):
 
 def alone(text, page):
     check('report.html is well-formed', not page.wrong and page.tags[0] == 'html', page.wrong)
-    tags = set(page.tags) - {'html', 'head', 'meta', 'title', 'style', 'body', 'section', 'table', 'thead', 'tbody', 'tr', 'ul', 'code', 'wbr', *page.TEXTS}
+    tags = set(page.tags) - {'html', 'head', 'meta', 'body', 'section', 'table', 'thead', 'tbody', 'tr', 'ul', 'code', 'wbr', *page.TEXTS}
     attributes = page.attributes - {'lang', 'charset', 'class', 'scope'}
     outside = re.findall(r'https?:|@import|url\(', text)
     check('and has no outside part and no script', not tags and not attributes and not outside, f'{tags} {attributes} {outside}')
@@ -98,16 +99,19 @@ def says(made, page, markdown):
           and all(sentence in page.texts and f'- {sentence}\n' in every for sentence in made['not_shown']))
     files = [f'{n} {ODD}: changed' for n in range(9)]
     check('every file that is not as committed', all(file in page.texts and f'- {file}\n' in every for file in files))
-    words = ('  input: 8e82|`<&', '    owed: 3', '29 more are not shown here: all of them stand in differences-test.txt, in this folder, but for 5, '
-             'which are only counted there.')
-    check('a difference stands there with its octets, and where the others are', all(word in text for text in ('\n'.join(page.texts), every) for word in words))
+    words = ('  input: 8e82|`<&', '    owed: 3', '29 more are not shown here: all of them stand in differences-test.txt, in this folder, '
+             'but for 5, which are only counted there.')
+    check('a difference stands there with its octets, and where the others are',
+          all(word in text for text in ('\n'.join(page.texts), every) for word in words))
     heads = re.findall(r'^## (.*)$', markdown, re.M)
     appendices = [head for head in heads if head.startswith('Appendix ')]
     check('long tables come last, as appendices', heads[-len(appendices):] == appendices and len(appendices) == 5, heads)
-    for words in ('9 decodes, 8 writes and 7 relays compared, 6 of the relays passed on.', '5 KISS packets were read: 3 accepted, 2 refused by 54.',
+    for words in ('9 decodes, 8 writes and 7 relays compared, 6 of the relays passed on.',
+                  '5 KISS packets were read: 3 accepted, 2 refused by 54.',
                   '1 KISS streams of 2 octets were read in pieces: 3 packets given out, 4 dropped.',
                   'Room lent to writers: exactly full 2 times, shorter 1 times.', '| octets: every string of 0 to 2 | 65793 | 0 |',
-                  '| UI | decode | 9.0 |', '| ax25_decode | 88 |', '| two | 4 | 2 |', 'valgrind: it is not on this host', 'by programs alone: read, write', 'one | doubt'):
+                  '| UI | decode | 9.0 |', '| ax25_decode | 88 |', '| two | 4 | 2 |', 'valgrind: it is not on this host',
+                  'by programs alone: read, write', 'one | doubt'):
         check(f'the report says: {words}', words in every)
 
 
@@ -152,12 +156,12 @@ def documented(work):
     results = Results(work)
     results.run['sources'] = {**SOURCES, 'changed': [{'file': 'x', 'how': 'missing'}]}
     results.run['rust_crate'] = {**CRATE, 'departs': ['x']}
-    results.log = results.log.replace('rt: two proved', 'rt: three proved').replace('one/wrong', 'one/other').replace('ok: the', 'FAILED: x\nok: the')
+    results.log = results.log.replace('rt: two proved', 'rt: three proved').replace('one/wrong', 'one/other') + 'FAILED: x\n0 passed, 1 failed\n'
     equal('docs/REPORT.md has the fields of report.json', sorted(named(first) ^ set(fields(results.made()))), [])
     equal('and those of the comparison', sorted(named(second) ^ (set(COMPARED) | set(ON_CAPTURES))), [])
     equal('and the schema', re.findall(r'`schema` is (\d+)\.', page), [str(evidence.SCHEMA)])
-    rows = [(int(row[0]), row[1]) for row in table_rows(page, r'\d') if len(row) == 3]
-    equal('and each exit status with its words', rows, sorted(((status, words) for words, status in verdict.STATUS.items()), key=lambda row: row[0]))
+    rows = {row[1]: int(row[0]) for row in table_rows(page, r'\d') if len(row) == 3}
+    equal('and each exit status with its words', rows, verdict.STATUS)
 
 
 # What the report says of the stored captures, which the comparison itself compares
@@ -190,8 +194,9 @@ def real(work):
     page, _ = of_captures(work, [f'{work}/without.hex'])
     check('of frames without leading nulls, and of a null alone, it says that none had any', ' None of 2 frames had leading nulls. ' in page)
     page, _ = of_captures(work, [f'{samples}/frames.hex'], lambda part: part.update(mismatches=1))
-    check('and where something differs it claims nothing of them', f' {nulls} of {count} frames had leading nulls: what the decoder and the entry for '
-          'old captures make of them was compared, and something above differs. ' in page)
+    words = (f' {nulls} of {count} frames had leading nulls: what the decoder and the entry for old captures make of them was compared, and '
+             'something above differs. ')
+    check('and where something differs it claims nothing of them', words in page)
 
 
 def of_a_log(work, log, count, nulls):
@@ -200,11 +205,14 @@ def of_a_log(work, log, count, nulls):
     met = 'the same but for excepted bits: 1, another length with the same frame and info: 5'
     for what, words in (
         ('counts the KISS packets by number', f' {count + 21} KISS packets were read: {count} accepted, 10 refused by 54, 11 refused by 56.'),
-        ('says how frames stand to one another', f' Beside what it is re-encoded as each accepted frame is: {again}. 7 frames have the frame and info '
-         'of an earlier one, which for 1 of them is no more canonical than they are; beside the canonical one of the two the other is: ' + met + '.'),
-        ('says how many had leading nulls', f' {nulls} of {count} frames had leading nulls: the decoder refuses them by 10, and the entry for old captures '
-         'answers as the Rust does, but for the listed differences. '),
-        ('counts what it gives out as a stream', f' 1 KISS streams of {os.path.getsize(log)} octets were read in pieces: {count} packets given out, 21 dropped.'),
+        ('says how frames stand to one another',
+         f' Beside what it is re-encoded as each accepted frame is: {again}. 7 frames have the frame and info of an earlier one, which for 1 of '
+         f'them is no more canonical than they are; beside the canonical one of the two the other is: {met}.'),
+        ('says how many had leading nulls',
+         f' {nulls} of {count} frames had leading nulls: the decoder refuses them by 10, and the entry for old captures answers as the Rust '
+         'does, but for the listed differences. '),
+        ('counts what it gives out as a stream',
+         f' 1 KISS streams of {os.path.getsize(log)} octets were read in pieces: {count} packets given out, 21 dropped.'),
     ):
         check(f'of frames.kiss the report {what}', words in page, re.findall(r'^\d+ decodes .*$', page, re.M))
     part = made['verdict']['parts'][2]

@@ -8,7 +8,8 @@ from held import ROOT, check, equal, git, read, write
 from small import small_tree
 
 # What the commands and README's examples make.
-MADE = ('example.c', 'example', 'capture', 'frame', 'dist/dumper', 'target/x', 'tools/bin/x', 'lab-2026-01-01/report.md', 'laboratory/__pycache__/x.pyc')
+MADE = ('example.c', 'example', 'capture', 'frame', 'captures/own.pcap', 'dist/dumper', 'target/x', 'tools/bin/x', 'lab-2026-01-01/report.md',
+        'laboratory/__pycache__/x.pyc')
 
 
 def state(tree):
@@ -28,7 +29,8 @@ def digests(work):
     git(tree, 'add', '-A')
     git(tree, 'commit', '-q', '-m', 'odd')
     clean = state(tree)
-    check('a clean tree is as committed', clean['as_committed'] is True and clean['commit'] == git(tree, 'rev-parse', 'HEAD').decode().strip(), clean)
+    commit = git(tree, 'rev-parse', 'HEAD').decode().strip()
+    check('a clean tree is as committed', clean['as_committed'] is True and clean['commit'] == commit, clean)
     listed = sources.sources(tree)[0]
     checked = subprocess.run(['sha256sum', '--quiet', '--strict', '-c'], input=listed, cwd=tree, capture_output=True)
     check('sha256sum -c finds the listed sources', checked.returncode == 0 and b'odd ' in listed, checked.stderr)
@@ -87,7 +89,8 @@ def departures(tree, clean):
     departs('a missing file', 'kit-notes.txt', 'missing', lambda: os.remove(notes))
     departs('a file that is tracked and in no commit', 'more.txt', 'added', make(b'more.txt'), lambda: git(tree, 'add', 'more.txt'))
     departs('a name of README\'s examples elsewhere', 'crates/one/frame', 'untracked', make(b'crates/one/frame'))
-    equal('and has the same digest', departs('an untracked file', 'crates/one/src/x\\xFF|.rt', 'untracked', make(b'crates/one/src/x\xFF|.rt')), clean['sha256'])
+    digest = departs('an untracked file', 'crates/one/src/x\\xFF|.rt', 'untracked', make(b'crates/one/src/x\xFF|.rt'))
+    equal('and has the same digest', digest, clean['sha256'])
     write(f'{tree}/.git/info/exclude', '*.rt\n')
     departs('an untracked file that the user ignores', 'crates/one/src/y.rt', 'untracked', make(b'crates/one/src/y.rt'))
 

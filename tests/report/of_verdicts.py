@@ -48,11 +48,14 @@ def verdicts(work):
     fails('rt ci that failed', 'proofs', 'did not come to their end', log('ok: rt ci', 'FAILED: rt ci (exit status 1)'))
     fails('a verdict of an earlier run', 'proofs', 'earlier run',
           log('ok: no verdict rests on a check of an earlier run', 'FAILED: 2 verdicts rest on a check of an earlier run, or there is none'))
-    fails('a kit of another logic', 'proofs', "pins 'kit logic 01ab'", put('run', 'kit', {'version': 'kit logic 01ac', 'pinned': 'kit logic 01ab'}))
+    fails('a kit of another logic', 'proofs', "pins 'kit logic 01ab'",
+          put('run', 'kit', {'version': 'kit logic 01ac', 'pinned': 'kit logic 01ab'}))
     fails('no kit', 'proofs', 'not there', put('run', 'kit', {'version': None, 'pinned': 'kit logic 01ab'}))
-    fails('a failed check', 'tests', '1 check failed: the header lacks a call', log('9 passed, 0', 'FAILED: the header lacks a call\n9 passed, 1'))
+    fails('a failed check', 'tests', '1 check failed: the header lacks a call',
+          log('9 passed, 0', 'FAILED: the header lacks a call\n9 passed, 1'))
     fails('a test that was broken off', 'tests', 'did not come to its end', log('9 passed, 0 failed\n'))
-    fails('nothing delivered', 'rust tests', 'not the one in dist/', put('run', 'delivered', {'libax25frame.a': None, 'ax25.h': None, 'dumper': None}))
+    fails('nothing delivered', 'rust tests', 'not the one in dist/',
+          put('run', 'delivered', {'libax25frame.a': None, 'ax25.h': None, 'dumper': None}))
     fails('a difference', 'rust', 'does not list it: 1 time', put('compared', 'mismatches', 1))
     fails('a class that failed', 'rust', 'The comparison failed: octets: 3 inputs, 1 mismatches',
           log('ok: the comparison', 'FAILED: octets: 3 inputs, 1 mismatches\nFAILED: the comparison (exit status 1)'))
@@ -63,7 +66,8 @@ def verdicts(work):
     fails('another archive', 'rust', 'not the one in dist/', put('compared', 'archive', '00'))
     fails('a difference on captures', 'captures', 'does not list it: 2 times', put('captures', 'mismatches', 2))
     fails('a capture that could not be compared', 'captures', '1 capture could not be compared', put('captures', 'refused_captures', [{}]))
-    fails('a capture that changed meanwhile', 'captures', 'not what was looked over', lambda results: results.captures['captures'][0].update(sha256='00'))
+    fails('a capture that changed meanwhile', 'captures', 'not what was looked over',
+          lambda results: results.captures['captures'][0].update(sha256='00'))
     fails('a capture that was left out', 'captures', 'not what was looked over', put('captures', 'captures', []))
     fails('no capture', 'captures', 'no capture is told of', put('checked', 'captures', []), put('captures', 'captures', []))
     comes_to('a changed tree', verdict.CHANGED, 3, 'sources', 'crates/one/x.rt (changed)', changed)

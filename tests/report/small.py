@@ -10,7 +10,7 @@ import time
 from held import ENVIRONMENT, ROOT, git, read, write
 from madeup import BENCH, COMPARED, ON_CAPTURES
 
-COPIED = ('lab', 'laboratory', 'compare', 'tests/captures', 'docs/DIFFERENCES.md', 'docs/PERFORMANCE.md', 'docs/TRUST.md', '.gitignore', 'kit.txt')
+COPIED = ('lab', 'laboratory', 'compare', 'tests/captures', 'docs/DIFFERENCES.md', 'docs/PERFORMANCE.md', '.gitignore', 'kit.txt')
 
 # It does what STANDIN asks for, and leaves in MARKS that it ran and what it started.
 TEST = r'''#!/bin/sh
