@@ -174,11 +174,28 @@ def opened():
     check('the crates that unfold definitions of another are those of decision 29', [f'{a}: {b}' for a, b in sorted(found ^ listed)])
 
 
-def lists():
-    text = read('README.md').split('\n## ')[0]
-    shown = {name for row in rows(text) for name in re.findall(r'`(\w+)`', row[0])}
-    check("README's table has no crate that is not there", sorted(shown - set(crates())))
-    check('README names every crate', [name for name in crates() if f'`{name}`' not in text])
+def layers():
+    """README's section on the crates: each stands in the table of its kind, and in the drawing none stands below what it rests on."""
+    text = sections(read('README.md'))['The crates']
+    listed = crates()
+    product = {'loader', 'dumper'} | {name for top in ('loader', 'dumper') for name in listed[top] if name in listed}
+    tables = dict(zip(('product', 'statements', 'test support'), re.split(r'^\| (?:product|statements|test support) \|', text, flags=re.M)[1:]))
+    shown = {kind: {name for row in rows('| |\n' + table) for name in re.findall(r'`(\w+)`', row[0])} for kind, table in tables.items()}
+    every = [name for names in shown.values() for name in names]
+    check('README has every crate in one of three tables', sorted(set(every) ^ set(listed)) + sorted({name for name in every if every.count(name) > 1}))
+    check('its product is what the archive and the dumper are made of', sorted(shown['product'] ^ product))
+    drawing = re.search(r'^```text\n(.*?)^```$', text, re.M | re.S)[1].split('\n')
+    drawn = [(word, line) for line, words in enumerate(drawing) for word in re.findall(r'\w+', words) if word in listed]
+    names = [name for name, _ in drawn]
+    check('its drawing has each crate of the product once', sorted(set(names) ^ product) + sorted({name for name in names if names.count(name) > 1}))
+    at = dict(drawn)
+    check(
+        'and none stands below what it rests on',
+        [f'{name}: {under}' for name, line in drawn for under in listed[name] if at.get(under, line) < line],
+    )
+
+
+def decisions():
     numbers = re.findall(r'^(\d+)\. \*?', read('docs/DECISIONS.md'), re.M)
     check('no decision has the number of another', sorted({n for n in numbers if numbers.count(n) > 1}))
 
@@ -192,7 +209,7 @@ def figures():
     check('docs/PERFORMANCE.md has the check times of these crates and their wrong versions', wrong)
 
 
-for part in (contracts, adversary, edits, statements, departures, opened, lists, figures):
+for part in (contracts, adversary, edits, statements, departures, opened, layers, decisions, figures):
     part()
 print(f'{passed} passed, {failed} failed')
 sys.exit(failed > 0)
