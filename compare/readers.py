@@ -27,6 +27,7 @@ PCAP = {b'\xA1\xB2\xC3\xD4': '>', b'\xA1\xB2\x3C\x4D': '>', b'\xD4\xC3\xB2\xA1':
 PCAPNG_ORDER = {b'\x1A\x2B\x3C\x4D': '>', b'\x4D\x3C\x2B\x1A': '<'}
 LINKS = {3: 'AX25', 202: 'AX25_KISS'}
 SAVE_AS_PCAP = 'save it as pcap (editcap -F pcap IN OUT)'
+COPY_ANEW = 'copy or capture it anew'
 LINE_BY_LINE = 'write the octets alone, a frame a line (od -An -v -tx1 -w4096 IN)'
 
 # The first octets of files that are no captures for this program, what they are, and what makes one of them.
@@ -51,8 +52,9 @@ FOREIGN = [(re.compile(first, re.DOTALL), kind, turn) for first, kind, turn in [
 
 # Text whose first line is no hex: what such a line looks like, what it is, and what to do.
 TEXTS = [(re.compile(line), kind, turn) for line, kind, turn in [
-    (r'\s*0{4,}[:\s]\s*[0-9A-Fa-f]{2,}\s', 'a dump with offsets', LINE_BY_LINE),
-    (r'.*?(0x|\\x)[0-9A-Fa-f]{2}', 'hex with a sign before each octet', 'write the digits alone, a frame a line'),
+    (r'\s*(0x)?0{4,}[:\s]\s*[0-9A-Fa-f]{2,}\s', 'a dump with offsets', LINE_BY_LINE),
+    (r'.*?(0x|\\x)[0-9A-Fa-f]{2}|\s*[0-9A-Fa-f]{2}\s*[:;,.-]\s*[0-9A-Fa-f]{2}\b', 'hex with signs before or between the octets',
+     'write the digits alone, a frame a line, with spaces or without'),
     (r'.*?[0-9A-Za-z]{1,6}(-\d+)?>[0-9A-Za-z]{1,6}(-\d+)?[,:]', "a monitor's text", 'the octets are not in it: record them in hex, as KISS or as pcap'),
     (r'', 'plain text', "a capture in text has each frame's octets in hex, a frame a line"),
 ]]
@@ -262,15 +264,15 @@ def pcap_comes_out(head, order, header):
 def pcap_header(head, form):
     """The order of its numbers and its link type."""
     if len(head) < 24:
-        raise Refused(f'{form}: the file ends inside its header: {24 - len(head)} of its 24 octets are missing')
+        raise Refused(f'{form}: the file ends inside its header: {24 - len(head)} of its 24 octets are missing: {COPY_ANEW}')
     order = PCAP[head[:4]]
     # The upper half may say that frames carry a check sequence, which is no part of a frame here.
     link, = struct.unpack_from(order + 'I', head, 20)
     more, link = link >> 16, link & 0xFFFF
     if link not in LINKS:
-        raise Refused(f'{form} of link type {link}: only ' + ' and '.join(f'{n} ({name})' for n, name in LINKS.items()) + ' are read')
+        raise Refused(f'{form} of link type {link}: only ' + ' and '.join(f'{n} ({name})' for n, name in LINKS.items()) + ' are read, which AX.25 interfaces have')
     if more:
-        raise Refused(f'{form} of link type {link}: its frames carry a check sequence (upper half {more:04X})')
+        raise Refused(f'{form} of link type {link}: its frames carry a check sequence (upper half {more:04X}): save them without it')
     if not pcap_comes_out(head, order, 16) and pcap_comes_out(head, order, 20):
         raise Refused(f"Nokia's pcap, whose packet headers have four octets more, is not read: {SAVE_AS_PCAP}")
     return order, link
@@ -283,8 +285,8 @@ def pcap(stream, form='pcap'):
 
 def cut_pcap(form, what, octets, owed, packet, at):
     """What is said of a file that ends inside `what`, of a packet that begins at `at`."""
-    whole = f'; the {packet - 1} packets before it are whole: head -c {at} IN >OUT' if packet > 1 and form == 'pcap' else ''
-    return Refused(f'{form}: the file ends inside {what}: {owed - len(octets)} of its {owed} octets are missing{whole}')
+    whole = f', or take what is whole, up to packet {packet - 1} (head -c {at} IN >OUT)' if packet > 1 and form == 'pcap' else ''
+    return Refused(f'{form}: the file ends inside {what}: {owed - len(octets)} of its {owed} octets are missing: {COPY_ANEW}{whole}')
 
 
 def pcap_packets(stream, form, order, link):
@@ -326,13 +328,14 @@ def pcapng_blocks(stream):
         if head[:4] == PCAPNG:
             order = PCAPNG_ORDER.get(head[8:12], order)
         if len(head) < 12:
-            raise Refused(f'pcapng: the file ends inside the header of block {block}')
+            raise Refused(f'pcapng: the file ends inside the header of block {block}: {COPY_ANEW}')
         length, = struct.unpack_from(order + 'I', head, 4)
         if length < 12 or length % 4 or length > BLOCK_LIMIT:
             raise Refused(f'pcapng: block {block} says that it has {length} octets: the file is damaged')
         rest = stream.read(length - 12)
         if len(rest) < length - 12:
-            raise Refused(f'pcapng: the file ends inside block {block}: {length - 12 - len(rest)} of its {length} octets are missing')
+            missing = length - 12 - len(rest)
+            raise Refused(f'pcapng: the file ends inside block {block}: {missing} of its {length} octets are missing: {COPY_ANEW}')
         yield head
         yield rest
 
