@@ -46,13 +46,15 @@ def run(main, name=''):
     try:
         status = main()
         sys.stdout.flush()
-    except BrokenPipeError:
-        # What is left to be written is thrown away, so that Python does not complain of it at the end.
-        os.dup2(os.open(os.devnull, os.O_WRONLY), sys.stdout.fileno())
-        status = 128 + signal.SIGPIPE
-    except (Stop, OSError) as why:
+    except Stop as why:
         complain(f'{name}{why}')
         status = 2
+    except OSError as why:
+        # What is left to be written is thrown away, so that Python does not complain of it at the end.
+        os.dup2(os.open(os.devnull, os.O_WRONLY), sys.stdout.fileno())
+        status = 128 + signal.SIGPIPE if isinstance(why, BrokenPipeError) else 2
+        if status == 2:
+            complain(f"{name}it can't go on: {why}")
     sys.exit(status)
 
 

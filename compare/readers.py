@@ -55,12 +55,12 @@ TEXTS = [(re.compile(line), kind, turn) for line, kind, turn in [
     (r'\s*(0x)?0{4,}[:\s]\s*[0-9A-Fa-f]{2,}\s', 'a dump with offsets', LINE_BY_LINE),
     (r'.*?(0x|\\x)[0-9A-Fa-f]{2}|\s*[0-9A-Fa-f]{2}\s*[:;,.-]\s*[0-9A-Fa-f]{2}\b', 'hex with signs before or between the octets',
      'write the digits alone, a frame a line, with spaces or without'),
-    (r'.*?[0-9A-Za-z]{1,6}(-\d+)?>[0-9A-Za-z]{1,6}(-\d+)?[,:]', "a monitor's text", 'the octets are not in it: record them in hex, as KISS or as pcap'),
+    (r'.*?[0-9A-Za-z]{1,6}(-\d+)?>[0-9A-Za-z]{1,6}(-\d+)?[,:]', "a monitor's text",
+     'the octets are not in it: record them in hex, as KISS or as pcap'),
     (r'', 'plain text', "a capture in text has each frame's octets in hex, a frame a line"),
 ]]
 
-CONTROL = re.compile('[\0-\x08\x0B\x0C\x0E-\x1F\x7F-\x9F]')
-# The same, and octets that are no UTF-8, which are read as surrogates.
+# Control characters, and octets that are no UTF-8, which are read as surrogates.
 NO_TEXT = re.compile('[\0-\x08\x0B\x0C\x0E-\x1F\x7F-\x9F\uD800-\uDFFF]')
 # What stands before the first DB that is no escape.
 WELL_ESCAPED = re.compile(rb'(?:[^\xDB]+|\xDB[\xDC\xDD])*')
@@ -187,11 +187,8 @@ def escaped(octets):
 
 def is_text(head):
     """Whether the octets are UTF-8 without control characters. Addresses are shifted, so a frame hardly ever is."""
-    try:
-        text = codecs.getincrementaldecoder('utf-8-sig')().decode(head, final=len(head) < HEAD)
-    except UnicodeDecodeError:
-        return False
-    return not CONTROL.search(text)
+    text = codecs.getincrementaldecoder('utf-8-sig')('surrogateescape').decode(head, final=len(head) < HEAD)
+    return not NO_TEXT.search(text)
 
 
 def has_offset(words):
@@ -270,7 +267,8 @@ def pcap_header(head, form):
     link, = struct.unpack_from(order + 'I', head, 20)
     more, link = link >> 16, link & 0xFFFF
     if link not in LINKS:
-        raise Refused(f'{form} of link type {link}: only ' + ' and '.join(f'{n} ({name})' for n, name in LINKS.items()) + ' are read, which AX.25 interfaces have')
+        read = ' and '.join(f'{number} ({name})' for number, name in LINKS.items())
+        raise Refused(f'{form} of link type {link}: only {read} are read, which AX.25 interfaces have')
     if more:
         raise Refused(f'{form} of link type {link}: its frames carry a check sequence (upper half {more:04X}): save them without it')
     if not pcap_comes_out(head, order, 16) and pcap_comes_out(head, order, 20):
@@ -420,7 +418,8 @@ def by_octets(stream):
     if kind:
         raise Refused(f'{kind} is not read: {next(turn for first, _, turn in FOREIGN if first.match(head))}')
     if KISS_PACKET.search(head):
-        raise Unclear(f'a KISS log that starts inside a packet: cut what stands before its first C0 (tail -c +{head.index(FEND) + 1} IN >OUT)')
+        cut = f'tail -c +{head.index(FEND) + 1} IN >OUT'
+        raise Unclear(f'a KISS log that starts inside a packet: cut what stands before its first C0 ({cut})')
     return None
 
 
@@ -450,7 +449,7 @@ class Capture:
     def __init__(self, file, name, raw=False, lone=False):
         self.digested = Digested(file)
         self.stream = io.BufferedReader(self.digested, HEAD)
-        self.named_raw = name.lower().endswith(RAW_NAMES)
+        self.raw, self.named_raw = raw, name.lower().endswith(RAW_NAMES)
         head = head_of(self.stream)
         if not head:
             raise Refused('the file is empty')
@@ -465,7 +464,11 @@ class Capture:
         self.form, self.held = told or ('raw frame', raw_frame(self.stream))
 
     def with_hint(self, why):
-        hint = '; if it is one raw frame: --raw FILE' if self.named_raw or isinstance(why, Unclear) else ''
+        hint = ''
+        if self.raw:
+            hint = f'; its octets say {self.looks_like}, so leave --raw out' if self.looks_like else ''
+        elif self.named_raw or isinstance(why, Unclear):
+            hint = '; if it is one raw frame: --raw FILE'
         return Refused(f'{why}{hint}')
 
     def __iter__(self):
@@ -485,7 +488,8 @@ PIPE = 'this is a pipe, which can be read only once: save what comes out of it (
 
 
 def copied(pipe):
-    """What can be read only once, up to its end, as a file without a name. `pipe` has no buffer, so that one Ctrl-D at a terminal is enough."""
+    """What can be read only once, up to its end, as a file without a name. `pipe` has no buffer, so that one Ctrl-D at a terminal is
+    enough."""
     file = tempfile.TemporaryFile()
     shutil.copyfileobj(pipe, file)
     file.seek(0)
