@@ -195,7 +195,7 @@ def has_offset(words):
     """Whether a line is the first of a dump. Its offset, 0, would be taken for nulls, and the line for a frame behind them, which is what a
     stuck line driver leaves: the report counts those."""
     lengths = {len(word) for word in words[1:]}
-    return bool(words) and re.fullmatch('0{4,}', words[0]) and lengths in ({2}, {3}, {4}, {6}, {8}) and len(words[0]) not in lengths
+    return bool(words) and re.fullmatch('0{4,16}', words[0]) and lengths in ({2}, {3}, {4}, {6}, {8}) and len(words[0]) not in lengths
 
 
 def hex_line(line):
