@@ -193,9 +193,12 @@ def is_text(head):
 
 def has_offset(words):
     """Whether a line is the first of a dump. Its offset, 0, would be taken for nulls, and the line for a frame behind them, which is what a
-    stuck line driver leaves: the report counts those."""
+    stuck line driver leaves: the report counts those. od, if it is not told otherwise, writes all in octal."""
+    if not words or not re.fullmatch('0{4,16}', words[0]):
+        return False
     lengths = {len(word) for word in words[1:]}
-    return bool(words) and re.fullmatch('0{4,16}', words[0]) and lengths in ({2}, {3}, {4}, {6}, {8}) and len(words[0]) not in lengths
+    in_hex, in_octal = ({2}, {4}, {8}), ({3}, {6})
+    return lengths in in_hex and len(words[0]) not in lengths or lengths in in_octal and len(words[0]) == 7
 
 
 def hex_line(line):
