@@ -1,5 +1,6 @@
 """What the documents say of the sources, held to the sources: every public function has a contract and a row, every row its wrong
-versions, every statement its file, every departure its definition. Prints one line a check; the last is 'N passed, M failed'."""
+versions, every statement its file, every departure its definition, every rule that is cited its row. Prints one line a check; the last
+is 'N passed, M failed'."""
 import glob
 import os
 import re
@@ -31,11 +32,22 @@ def sections(text):
     return dict(zip(parts[1::2], parts[2::2]))
 
 
+def tables(text):
+    """Its tables, each a list of rows and a row a list of cells: the heading first, and no ruler."""
+    for lines in re.findall(r'(?:^\|.*\n?)+', text, re.M):
+        cells = [[cell.strip() for cell in line.strip('|').split(' | ')] for line in lines.rstrip('\n').split('\n')]
+        yield [row for row in cells if not row[0].startswith('---')]
+
+
 def rows(text):
-    """The rows of its tables, each a list of cells, without headings and rulers."""
-    lines = [line for line in text.split('\n') if line.startswith('|')]
-    cells = [[cell.strip() for cell in line.strip('|').split(' | ')] for line in lines]
-    return [row for i, row in enumerate(cells) if not row[0].startswith('---') and not (i + 1 < len(cells) and cells[i + 1][0].startswith('---'))]
+    """The rows of its tables, without headings."""
+    return [row for table in tables(text) for row in table[1:]]
+
+
+def defines(path, name):
+    """Whether a file defines this name, as a function, a statement, a record or a part of one."""
+    head = rf'^\s*(?:pub |abbrev |unfoldable )*(?:(?:record|data) {re.escape(name)}(?![\w-])|{re.escape(name)}\s*:)'
+    return os.path.exists(path) and re.search(head, read(path), re.M)
 
 
 def crates():
@@ -135,7 +147,7 @@ def statements():
             names = re.findall(r'`([\w-]+)`', row[1]) if 'same file' in row[2] or files else []
             for name in names:
                 many += 1
-                if not any(os.path.exists(f) and re.search(rf'^\s*(?:pub |abbrev |unfoldable )*{re.escape(name)}\b', read(f), re.M) for f in last):
+                if not any(defines(path, name) for path in last):
                     wrong.append(f'{name} in {", ".join(last)}')
     check(f'the {many} statements that docs/GUARANTEES.md names stand where it says', wrong if many else ['none is named'])
 
@@ -174,11 +186,28 @@ def opened():
     check('the crates that unfold definitions of another are those of decision 29', [f'{a}: {b}' for a, b in sorted(found ^ listed)])
 
 
-def lists():
-    text = read('README.md').split('\n## ')[0]
-    shown = {name for row in rows(text) for name in re.findall(r'`(\w+)`', row[0])}
-    check("README's table has no crate that is not there", sorted(shown - set(crates())))
-    check('README names every crate', [name for name in crates() if f'`{name}`' not in text])
+def layers():
+    """README's section on the crates: each stands in the table of its kind, and in the drawing none stands below what it rests on."""
+    text = sections(read('README.md'))['The crates']
+    listed = crates()
+    product = {'loader', 'dumper'} | {name for top in ('loader', 'dumper') for name in listed[top] if name in listed}
+    kinds = {table[0][0]: table[1:] for table in tables(text) if table[0][0] in ('product', 'statements', 'test support')}
+    shown = {kind: {name for row in table for name in re.findall(r'`(\w+)`', row[0])} for kind, table in kinds.items()}
+    every = [name for names in shown.values() for name in names]
+    check('README has every crate in one of three tables', sorted(set(every) ^ set(listed)) + sorted({name for name in every if every.count(name) > 1}))
+    check('its product is what the archive and the dumper are made of', sorted(shown['product'] ^ product))
+    drawing = re.search(r'^```text\n(.*?)^```$', text, re.M | re.S)[1].split('\n')
+    drawn = [(word, line) for line, words in enumerate(drawing) for word in re.findall(r'\w+', words) if word in listed]
+    names = [name for name, _ in drawn]
+    check('its drawing has each crate of the product once', sorted(set(names) ^ product) + sorted({name for name in names if names.count(name) > 1}))
+    at = dict(drawn)
+    check(
+        'and none stands below what it rests on',
+        [f'{name}: {under}' for name, line in drawn for under in listed[name] if at.get(under, line) < line],
+    )
+
+
+def decisions():
     numbers = re.findall(r'^(\d+)\. \*?', read('docs/DECISIONS.md'), re.M)
     check('no decision has the number of another', sorted({n for n in numbers if numbers.count(n) > 1}))
 
@@ -192,7 +221,131 @@ def figures():
     check('docs/PERFORMANCE.md has the check times of these crates and their wrong versions', wrong)
 
 
-for part in (contracts, adversary, edits, statements, departures, opened, lists, figures):
+RULES = read('docs/RULES.md')
+# how a rule, a demand, an example and a request are cited, singly or in a list, and what the first cell of its row starts with
+CITED = ((r'(?:[Rr]ules?|Reading) ', '', 'rule '), (r'[Dd]emands? ', '', 'demand '), ('P', 'P', 'P'), ('M-', 'M-', 'M-'))
+CITING = ('*.md', 'docs/**/*', 'include/*', 'crates/*/*/**/*', 'compare/*', 'compare/src/*', 'tests/**/*')
+
+
+def citing():
+    """Every file that may cite a rule, but for the page that has them."""
+    for path in sorted(path for pattern in CITING for path in glob.glob(pattern, recursive=True)):
+        if path.endswith(('.md', '.h', '.antt', '.rt', '.rs', '.py', '.c')) and path != 'docs/RULES.md':
+            yield path, read(path)
+
+
+def cited_rows(text):
+    """The rules, demands, examples and requests that a text cites, as their rows are called. Lists and ranges are taken apart."""
+    for word, again, label in CITED:
+        for found in re.findall(rf'\b{word}(\d+(?:(?:, | and | to ){again}\d+)*)', text):
+            for first, last in re.findall(rf'(\d+)(?: to {again}(\d+))?', found):
+                yield from (f'{label}{n}' for n in range(int(first), int(last or first) + 1))
+
+
+def cited_sections(text):
+    """The sections of document 01 that a text cites."""
+    for found in re.findall(r'[Dd]ocument 01(?:, |\'s section ")([A-Z][A-Za-z ]*)', text):
+        yield from (name.strip() for name in re.split(r' and (?=[A-Z])', found))
+
+
+def all_cited(what):
+    """What is cited anywhere, each with a file that does."""
+    return {name: path for path, text in citing() for name in what(text)}
+
+
+def rules_named():
+    """What docs/RULES.md names of the sources is there, and no file of definitions is left out."""
+    named = []
+    for crate, file, names in re.findall(r'\b(\w+)/(\w+): ((?:`[\w-]+`(?:, )?)+)', RULES):
+        named += [(crate, file, name) for name in re.findall(r'[\w-]+', names)]
+    wrong = [f'{crate}/{file}: {name}' for crate, file, name in named if not defines(f'crates/{crate}/specs/{file}.antt', name)]
+    check(f'the {len(named)} definitions that docs/RULES.md names stand where it says', wrong if named else ['none is named'])
+    owing = [row for table in tables(RULES) for row in table[1:] if table[0][-1] == 'definition']
+    bare = [row[0] for row in owing if not re.search(r'\b\w+/\w+: `', row[-1])]
+    check(f'each of its {len(owing)} rows of rules names a definition', bare if owing else ['there is no row'])
+    paths = [path.split('/') for path in glob.glob('crates/*/specs/*.antt')]
+    files = {f'{path[1]}/{path[3][: -len(".antt")]}' for path in paths if path[3] != 'Lib.antt'}
+    shown = {f'{crate}/{file}' for crate, file, _ in named}
+    bare = {file for row in rows(sections(RULES)['Files of specs/ that state no rule']) for file in row[0].split(', ')}
+    check(f'each of the {len(files)} files of specs/ is named there, or listed as one without a rule', sorted(files - shown - bare))
+    check('and none that is listed so is named, or is not there', sorted(bare & shown) + sorted(bare - files))
+
+
+def rules_cited():
+    """Whatever is cited of the customer's papers is found on docs/RULES.md, and so is every number that the header has."""
+    labels = {row[0] for row in rows(RULES)}
+    cited = all_cited(cited_rows)
+    check(
+        f'each of the {len(cited)} rules, demands, examples and requests that are cited has a row there',
+        [f'{label} ({cited[label]})' for label in sorted(set(cited) - labels)] if cited else ['none is cited'],
+    )
+    cited = all_cited(cited_sections)
+    lost = [name for name in sorted(cited) if not any(heading.startswith(name) for heading in sections(RULES))]
+    check(
+        f'each of the {len(cited)} sections of document 01 that are cited has a section there',
+        [f'{name} ({cited[name]})' for name in lost] if cited else ['none is cited'],
+    )
+    numbers = re.findall(r'^ +AX25_\w+ = (\d+)', read('include/ax25.h'), re.M)
+    lost = [number for number in numbers if number not in labels]
+    check(f"each of the header's {len(numbers)} numbers has a row there", lost if numbers else ['there is none'])
+
+
+def octet_values():
+    """The octets that docs/RULES.md has of kinds and of PIDs are those of the definitions."""
+    control, pid = read('crates/content/specs/Control.antt'), read('crates/protocol/specs/Pid.antt')
+    shown = {table[0][0]: table[1:] for table in tables(sections(RULES)['Reading'])}
+    kinds = {'i': '00', **dict(re.findall(r'^(\w+) = 0x(\w\w)$', control, re.M))}
+    said = {row[0].lower(): row[2] for row in shown['kind']}
+    wrong = [f'{kind}: {said.get(kind)}, not {kinds.get(kind)}' for kind in sorted(said | kinds) if said.get(kind) != kinds.get(kind)]
+    for kind, bits, octet, *_ in shown['kind']:
+        if bits.strip('`') not in control or int(re.sub('[rsP]', '0', bits).strip('`').replace(' ', ''), 2) != int(octet, 16):
+            wrong.append(f'{kind}: {bits}')
+    check(f"the {len(said)} kinds there have the definitions' bits and octets", wrong)
+    named = {name.lower(): octet for name, octet in re.findall(r'^octetOf (\w+) = 0x(\w\w)$', pid, re.M)}
+    said = {re.sub(r'\W', '', name).lower(): octet for row in shown['octet'] for octet, name in (row[:2], row[2:4])}
+    wrong = [f'{name}: {said.get(name)}, not {named.get(name)}' for name in sorted(said | named) if said.get(name) != named.get(name)]
+    check(f"and the {len(said)} PIDs there the definitions' octets", wrong)
+
+
+def listed(kind, octets):
+    """What the list of `replay` has behind this input, word by word."""
+    found = re.search(rf'^{kind} {octets or "-"} (.*)$', read('crates/replay/stdout'), re.M)
+    return found[1].split(' ') if found else []
+
+
+def example_frames(table, field):
+    """What is wrong with the examples of frames; `field` is what [A] stands for."""
+    for name, octets, number, details, canonical, again, _ in table:
+        octets, respelled = (''.join(re.findall(r'\b[\dA-F]{2}\b', cell.replace('[A]', field))) for cell in (octets, again))
+        told = dict(re.findall(r'(\w+) (\d+)', details))
+        line = listed('D', octets)
+        # number, start, end and length; info's place and the record; then number, canonical, number, length, octets and three more
+        said = [number, *(told.get(key, '0') for key in ('start', 'end', 'length')), str(int(canonical == 'yes')), str(len(respelled) // 2)]
+        if line[:4] + line[8:9] + line[10:11] != said or not line[11].startswith(respelled):
+            yield f'{name}: {" ".join(line)}'
+
+
+def example_texts(table):
+    """What is wrong with the examples of text."""
+    for text, number, address in table:
+        line = listed('T', text.strip('`').encode().hex().upper())
+        callsign, _, ssid = address.partition(', ')
+        flat = f'{callsign:6}'.encode().hex().upper() + f'{int(ssid):02X}' if address else '.'
+        if line[:1] != [number] or not line[1].startswith(flat):
+            yield f'{text}: {" ".join(line)}'
+
+
+def examples():
+    """The examples on docs/RULES.md are those of the list of `replay`, which the Rust and the proved code both give."""
+    section = sections(RULES)['Examples']
+    field = re.search(r'\[A\] is its address field, `([\dA-F ]+)`', section)[1]
+    frames, texts = (table[1:] for table in tables(section))
+    check(f'the {len(frames)} examples of frames there are answered so', example_frames(frames, field) if frames else ['there is none'])
+    check(f'and so are its {len(texts)} examples of text', example_texts(texts) if texts else ['there is none'])
+
+
+PARTS = (contracts, adversary, edits, statements, departures, opened, layers, decisions, figures, rules_named, rules_cited, octet_values, examples)
+for part in PARTS:
     part()
 print(f'{passed} passed, {failed} failed')
 sys.exit(failed > 0)

@@ -1,4 +1,4 @@
--- The group of an address: seven octets of AX.25's address field. Six hold a character each in bits 1 to 7; the seventh holds the
+-- The group of an address (rule 3): seven octets of AX.25's address field. Six hold a character each in bits 1 to 7; the seventh holds the
 -- SSID in bits 1 to 4, the reserved bits 5 and 6, the mark (C or H) in bit 7. Bit 0 of each is the extension bit.
 use Prim.Native.Nat.{ℕ, _+_, _*_, _/_, _%_}
 use mathlib.Core.Bool.{Bool, cond}

@@ -1,4 +1,4 @@
--- Document 01's examples P1 to P13, each with its whole result; that of P6 is document 02's (M-108).
+-- Document 01's examples P1 to P13, each with its whole result; those of P6 and P13 are document 02's (M-108, M-105).
 use Prim.Native.Nat.{ℕ}
 use mathlib.Core.Bool.{Bool, true, false}
 use mathlib.Core.List.{List, [], _∷_, _++_}

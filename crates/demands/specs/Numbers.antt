@@ -1,5 +1,5 @@
--- Demand 1: document 01's table of numbers, a row a line, each condition in the table's words, in the order that it gives; 10 is document
--- 02's (M-108).
+-- Demand 1: document 01's table of numbers, a row a line, each condition in the table's words, in the order that it gives; 10 and 25 are
+-- document 02's (M-108, M-105), and so is that 22 looks at reserved bits (M-106).
 use Prim.Native.Nat.{ℕ, _+_}
 use mathlib.Core.Bool.{not}
 use mathlib.Core.List.{List, [], _∷_}

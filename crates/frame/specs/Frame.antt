@@ -1,4 +1,4 @@
--- The frame record: the default frame, and document 01's numbers of writing.
+-- The frame record: the default frame, and the numbers of writing, document 01's and document 02's 25 (M-105).
 use Prim.Native.Nat.{ℕ}
 use mathlib.Core.Bool.{false}
 use mathlib.Core.List.{List, [], _∷_}
@@ -12,7 +12,7 @@ use Rattle.frame.specs.declared.Ax25Frame.{Ax25Frame}
 use Rattle.frame.specs.declared.WriteAnswer.{WriteAnswer}
 use Rattle.frame.specs.declared.WriteAnswer.the-variants as write
 
--- an unused route place: NOCALL, SSID 0, unmarked
+-- an unused route place: NOCALL, SSID 0, reserved bits 3, unmarked
 unfoldable pub noEntry : RouteEntry
 noEntry = record { repeater = noCall; «has_repeated» = false }
 

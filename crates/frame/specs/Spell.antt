@@ -91,7 +91,7 @@ pub record Plain (f : Ax25Frame) (info : List ℕ) : Type 0 where
   pub bare : hasInfo (f .content) ≡ false → info ≡ []
   pub octets : Octets info
 
--- place i of a route of n repeaters, as reading leaves it: an unused place is NOCALL, SSID 0, unmarked
+-- place i of a route of n repeaters, as reading leaves it: an unused place is as in the default frame
 unfoldable pub placeInUse : List RouteEntry → ℕ → ℕ → RouteEntry
 placeInUse route n i = cond (ltb i n) (repeaterAt route i) noEntry
 

@@ -1,4 +1,4 @@
-// A frame: its record, and writing it. The crate `decode` reads it.
+// A frame: its record, and writing it. The crates `decode` and `reading` read it.
 use address::Address;
 use content::FrameContent;
 use content::UnnumberedInformation;
