@@ -41,9 +41,9 @@ import tempfile
 sys.dont_write_bytecode = True
 
 import dumper
-from command import Stop, arguments, run, shown, write
+from command import Stop, arguments, number, run, shown, write
 from readers import Capture, Refused, opened
-from survey import Survey, number
+from survey import Survey
 
 
 def name_of(path):
