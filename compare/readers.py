@@ -24,6 +24,7 @@ PORTS = 12  # KISS ports are 0 to 11
 PCAPNG = b'\x0A\x0D\x0D\x0A'
 # How a pcap file's numbers are to be read, by its magic number: of microseconds or nanoseconds.
 PCAP = {b'\xA1\xB2\xC3\xD4': '>', b'\xA1\xB2\x3C\x4D': '>', b'\xD4\xC3\xB2\xA1': '<', b'\x4D\x3C\xB2\xA1': '<'}
+PCAPNG_INTERFACE = 1  # the type of the block that says an interface's link type
 PCAPNG_ORDER = {b'\x1A\x2B\x3C\x4D': '>', b'\x4D\x3C\x2B\x1A': '<'}
 LINKS = {3: 'AX25', 202: 'AX25_KISS'}
 SAVE_AS_PCAP = 'save it as pcap (editcap -F pcap IN OUT)'
@@ -319,8 +320,8 @@ def pcap_packets(stream, form, order, link):
 
 def pcapng_blocks(stream):
     """The octets of a pcapng, block by block: each says its length at both ends. So a file that is cut is known by us, and editcap, which
-    complains at one and then ends as if nothing were wrong, is not asked."""
-    block, order = 0, '<'
+    complains at one and then ends as if nothing were wrong, is not asked; nor is it where interfaces differ, which a pcap can't hold."""
+    block, order, links = 0, '<', set()
     while True:
         head = stream.read(12)
         if not head:
@@ -337,6 +338,11 @@ def pcapng_blocks(stream):
         if len(rest) < length - 12:
             missing = length - 12 - len(rest)
             raise Refused(f'pcapng: the file ends inside block {block}: {missing} of its {length} octets are missing: {COPY_ANEW}')
+        if struct.unpack_from(order + 'I', head)[0] == PCAPNG_INTERFACE:
+            links.add(struct.unpack_from(order + 'H', head, 8)[0])
+        if len(links) > 1:
+            kinds = ' and '.join(map(str, sorted(links)))
+            raise Refused(f'pcapng of link types {kinds}: capture each interface into a file of its own')
         yield head
         yield rest
 
