@@ -41,9 +41,9 @@ import tempfile
 sys.dont_write_bytecode = True
 
 import dumper
-from command import Stop, arguments, run, shown, write
+from command import Stop, arguments, number, run, shown, write
 from readers import Capture, Refused, opened
-from survey import Survey, number
+from survey import Survey
 
 
 def name_of(path):
@@ -108,12 +108,11 @@ def compare(program, captures, options):
 
 
 def dumper_words(options):
-    """The words that run the dumper, none where there is none."""
+    """The words that run the dumper; none, and why, where there is none."""
     try:
-        return dumper.found(dict(options).get('--dumper', dumper.PROGRAM))
+        return dumper.found(dict(options).get('--dumper', dumper.PROGRAM)), None
     except dumper.NoDumper as why:
-        write(sys.stdout, f'{why}; so no frame is decoded')
-        return []
+        return [], why
 
 
 def print_survey(path, survey, words):
@@ -137,7 +136,7 @@ def record_of(path, survey, why):
 
 
 def check(captures, options):
-    words, records, earlier = dumper_words(options), [], {}
+    (words, no_dumper), records, earlier = dumper_words(options), [], {}
     for path, _, survey, why in survey_all(captures):
         if why is None:
             if survey.sha256 in earlier:
@@ -150,9 +149,12 @@ def check(captures, options):
         records.append(record_of(path, survey, why))
     if '--json' in dict(options):
         leave(dict(options)['--json'], {'captures': records})
+    if no_dumper and earlier:
+        write(sys.stdout, f'no frame is decoded: {no_dumper}')
     refused = sum('refused' in record for record in records)
     doubts = sum(len(record.get('doubts', [])) for record in records)
-    write(sys.stdout, f"{number(len(records), 'files')}: {len(records) - refused} can be read, {refused} refused, {number(doubts, 'doubts')}")
+    if len(records) > 1:
+        write(sys.stdout, f"{len(records):,} files: {len(records) - refused:,} can be read, {refused:,} refused, {number(doubts, 'doubts')}")
     return 2 if refused else 0
 
 

@@ -1,4 +1,4 @@
-"""What the commands on captures share: the words that they are given, the names that they print, and how they stop."""
+"""What the commands on captures share: the words that they are given, names and counts as they print them, and how they stop."""
 import os
 import signal
 import sys
@@ -20,6 +20,11 @@ def shown_character(character):
     if character.isprintable():
         return character
     return ''.join(f'\\x{octet:02X}' for octet in character.encode('utf-8', 'surrogateescape'))
+
+
+def number(count, what):
+    """A count of things, whose name is given for many."""
+    return f'{count:,} {what}' if count != 1 else f'1 {what[:-1]}'
 
 
 def write(stream, text):
@@ -46,13 +51,15 @@ def run(main, name=''):
     try:
         status = main()
         sys.stdout.flush()
-    except BrokenPipeError:
-        # What is left to be written is thrown away, so that Python does not complain of it at the end.
-        os.dup2(os.open(os.devnull, os.O_WRONLY), sys.stdout.fileno())
-        status = 128 + signal.SIGPIPE
-    except (Stop, OSError) as why:
+    except Stop as why:
         complain(f'{name}{why}')
         status = 2
+    except OSError as why:
+        # What is left to be written is thrown away, so that Python does not complain of it at the end.
+        os.dup2(os.open(os.devnull, os.O_WRONLY), sys.stdout.fileno())
+        status = 128 + signal.SIGPIPE if isinstance(why, BrokenPipeError) else 2
+        if status == 2:
+            complain(f"{name}it can't go on: {why}")
     sys.exit(status)
 
 

@@ -5,6 +5,7 @@ import binascii
 import re
 
 import readers
+from command import number
 from readers import CHARACTER, FEND, RAW_LIMIT, Frame, Packet, PassedOver
 
 STREAM_LIMIT = 1024  # of the data of a packet that ax25_kiss_feed gives out
@@ -15,28 +16,26 @@ EVEN, ODD = (b'[' + b''.join(b'\\x%02X' % octet for octet in range(low, 256, 2))
 CLEAR = re.compile(rb'(?:' + CHARACTER + rb'{6}' + EVEN + rb'){1,9}' + CHARACTER + rb'{6}' + ODD + rb'.', re.DOTALL)
 END = re.compile(ODD)
 
-# What may be wrong with a frame or a KISS packet, and what to do.
+# What may be wrong with frames and packets, and what it comes from or what to do. By a number: why a KISS packet is passed over; by None:
+# why a packet of a pcap is.
 WORDS = {
-    'packet': 'frames that start with C0 and a KISS type octet, as whole KISS packets do: give the KISS log itself, or take these octets and '
-              'the last C0 off',
-    'type': 'frames with a KISS type octet left on before them: take it off (a pcap of such frames has link type 202)',
-    'nulls': 'frames behind leading nulls, which the decoder refuses by 10: the nulls of a stuck line driver, or, where it is one null, a '
-             'KISS type octet that was left on',
-    'flags': 'frames with flags (7E) left on: take them off, a frame is what stands between them',
-    'check': 'frames whose last two octets are the check sequence of the others: take them off, a frame here ends before them',
-    'long': f'frames of more than {RAW_LIMIT} octets, which the dumper answers by 50',
-    'address': 'frames without an address field that can be read (the decoder answers 1, 2, 3, 4 or 9)',
-    'framed': 'packets of link type 202 that start with C0, which it leaves out: take both C0 off and undo the escapes, or give a KISS log',
-    'stream': f'KISS packets of more than {STREAM_LIMIT} octets of data, which ax25_kiss_feed drops',
-}
-# Why packets are passed over, by their number.
-PASSED_OVER = {
-    None: 'packets that were not captured whole, as with a snap length (tcpdump -s 0 has none)',
-    52: 'KISS packets with a DB that is no escape',
-    53: 'KISS packets that no C0 ends, as where a log is cut',
-    54: 'KISS packets of another command than data',
-    55: 'KISS packets without a command octet',
-    56: f'KISS packets on ports over {readers.PORTS - 1}',
+    'packet': ('frames', 'with C0 and a KISS type octet in front',
+               'as whole KISS packets have: give the KISS log itself, or take these and the last C0 off'),
+    'type': ('frames', 'with a KISS type octet left on in front', 'take it off; a pcap of such frames has link type 202'),
+    'nulls': ('frames', 'behind leading nulls',
+              'the decoder refuses such by 10; nulls come from a stuck line driver, and a lone one may be a KISS type octet left on'),
+    'flags': ('frames', 'with flags (7E) left on', 'take them off, a frame is what stands between them'),
+    'check': ('frames', 'with the check sequence left on, as the last two octets', 'take it off, a frame here ends before it'),
+    'long': ('frames', f'of more than {RAW_LIMIT:,} octets', 'the dumper answers such by 50'),
+    'address': ('frames', 'without an address field that can be read', 'the decoder answers 1, 2, 3, 4 or 9; is this AX.25?'),
+    'framed': ('packets', 'of link type 202 with C0 in front', 'it leaves C0 out: take both C0 off and undo the escapes, or give a KISS log'),
+    'stream': ('KISS packets', f'of more than {STREAM_LIMIT:,} octets of data', 'ax25_kiss_feed drops such'),
+    None: ('packets', 'not captured whole', 'passed over; a snap length cuts them, and tcpdump -s 0 has none'),
+    52: ('KISS packets', 'with a DB that is no escape', 'passed over; octets were lost or changed on the line'),
+    53: ('KISS packets', 'that no C0 ends', 'passed over; the log is cut there'),
+    54: ('KISS packets', 'of another command than data', 'passed over; they are for the modem and carry no frame'),
+    55: ('KISS packets', 'without a command octet', 'passed over; there is nothing in them'),
+    56: ('KISS packets', f'on ports over {readers.PORTS - 1}', 'passed over; these ports are not read'),
 }
 # What a name says of a file.
 NAMES = {'.pcap': 'pcap', '.pcapng': 'pcapng', '.kiss': 'KISS log', '.hex': 'hex lines', **dict.fromkeys(readers.RAW_NAMES, 'raw frame')}
@@ -80,8 +79,9 @@ def of_frame(octets):
     return found + (['long'] if len(octets) > RAW_LIMIT else [])
 
 
-def counted(words, count, place):
-    return f'{words}: {count} (first: {place})' if count > 1 else f'{words}: 1 ({place})'
+def sentence(found, count, place):
+    noun, what, advice = WORDS[found]
+    return f"{number(count, noun)} {what} ({'first: ' if count > 1 else ''}{place}): {advice}"
 
 
 class Doubts:
@@ -95,9 +95,9 @@ class Doubts:
         self.lengths = set()  # of all frames but the last
         self.last = None
 
-    def meet(self, words, place):
-        count, first = self.met.get(words, (0, place))
-        self.met[words] = count + 1, first
+    def meet(self, found, place):
+        count, first = self.met.get(found, (0, place))
+        self.met[found] = count + 1, first
 
     def see(self, item):
         if isinstance(item, Frame):
@@ -140,7 +140,7 @@ class Doubts:
                 continue  # Two octets come out so by chance once in 65,536 frames.
             if found == 'address' and (self.is_dump() or 2 * count < self.frames):
                 continue  # Bad frames are what a capture is there to show; where most are bad, it may be no capture of AX.25.
-            yield counted(WORDS[found] if found in WORDS else f'passed over: {PASSED_OVER[found]}', count, place)
+            yield sentence(found, count, place)
 
 
 def of_name(name, capture, raw):

@@ -1,6 +1,7 @@
 """The dumper, dist/dumper, which prints one frame: how it is run here."""
 import os
 import platform
+import re
 import subprocess
 
 ROOT = os.path.dirname(os.path.dirname(os.path.realpath(__file__)))
@@ -10,6 +11,16 @@ ANSWER_TO_NOTHING = b'answer=1\n'
 
 class NoDumper(Exception):
     """Why there is none, in words."""
+
+
+def build_time():
+    """How long ./build takes, in README's words."""
+    try:
+        with open(os.path.join(ROOT, 'README.md'), encoding='utf-8') as page:
+            said = re.search(r'On a clean clone it takes ([^,.;]*)', page.read())
+    except OSError:
+        said = None
+    return f'that takes {said[1]}' if said else 'README says how long that takes'
 
 
 def prints(words, octets):
@@ -39,7 +50,7 @@ def by_the_kit(program):
 def found(program=PROGRAM):
     """The words that run it here."""
     if not os.path.exists(program):
-        raise NoDumper(f'{os.path.relpath(program, ROOT)} is not there: ./build makes it (README says how long that takes)')
+        raise NoDumper(f'{os.path.relpath(program, ROOT)} is not there: ./build makes it ({build_time()})')
     if platform.machine() == 'x86_64' and works([program]):
         return [program]
     words = by_the_kit(program)

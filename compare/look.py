@@ -7,9 +7,9 @@ import sys
 sys.dont_write_bytecode = True
 
 import dumper
-from command import Stop, arguments, complain, run, shown, write
+from command import Stop, arguments, complain, number, run, shown, write
 from readers import Capture, Frame, Refused, copied, opened
-from survey import Survey, number
+from survey import Survey
 
 INPUT, NAMELESS = '-', 'standard input'
 MANY = 1000

@@ -24,9 +24,11 @@ PORTS = 12  # KISS ports are 0 to 11
 PCAPNG = b'\x0A\x0D\x0D\x0A'
 # How a pcap file's numbers are to be read, by its magic number: of microseconds or nanoseconds.
 PCAP = {b'\xA1\xB2\xC3\xD4': '>', b'\xA1\xB2\x3C\x4D': '>', b'\xD4\xC3\xB2\xA1': '<', b'\x4D\x3C\xB2\xA1': '<'}
+PCAPNG_INTERFACE = 1  # the type of the block that says an interface's link type
 PCAPNG_ORDER = {b'\x1A\x2B\x3C\x4D': '>', b'\x4D\x3C\x2B\x1A': '<'}
 LINKS = {3: 'AX25', 202: 'AX25_KISS'}
 SAVE_AS_PCAP = 'save it as pcap (editcap -F pcap IN OUT)'
+COPY_ANEW = 'copy or capture it anew'
 LINE_BY_LINE = 'write the octets alone, a frame a line (od -An -v -tx1 -w4096 IN)'
 
 # The first octets of files that are no captures for this program, what they are, and what makes one of them.
@@ -51,14 +53,15 @@ FOREIGN = [(re.compile(first, re.DOTALL), kind, turn) for first, kind, turn in [
 
 # Text whose first line is no hex: what such a line looks like, what it is, and what to do.
 TEXTS = [(re.compile(line), kind, turn) for line, kind, turn in [
-    (r'\s*0{4,}[:\s]\s*[0-9A-Fa-f]{2,}\s', 'a dump with offsets', LINE_BY_LINE),
-    (r'.*?(0x|\\x)[0-9A-Fa-f]{2}', 'hex with a sign before each octet', 'write the digits alone, a frame a line'),
-    (r'.*?[0-9A-Za-z]{1,6}(-\d+)?>[0-9A-Za-z]{1,6}(-\d+)?[,:]', "a monitor's text", 'the octets are not in it: record them in hex, as KISS or as pcap'),
+    (r'\s*(0x)?0{4,}[:\s]\s*[0-9A-Fa-f]{2,}\s', 'a dump with offsets', LINE_BY_LINE),
+    (r'.*?(0x|\\x)[0-9A-Fa-f]{2}|\s*[0-9A-Fa-f]{2}\s*[:;,.-]\s*[0-9A-Fa-f]{2}\b', 'hex with signs before or between the octets',
+     'write the digits alone, a frame a line, with spaces or without'),
+    (r'.*?[0-9A-Za-z]{1,6}(-\d+)?>[0-9A-Za-z]{1,6}(-\d+)?[,:]', "a monitor's text",
+     'the octets are not in it: record them in hex, as KISS or as pcap'),
     (r'', 'plain text', "a capture in text has each frame's octets in hex, a frame a line"),
 ]]
 
-CONTROL = re.compile('[\0-\x08\x0B\x0C\x0E-\x1F\x7F-\x9F]')
-# The same, and octets that are no UTF-8, which are read as surrogates.
+# Control characters, and octets that are no UTF-8, which are read as surrogates.
 NO_TEXT = re.compile('[\0-\x08\x0B\x0C\x0E-\x1F\x7F-\x9F\uD800-\uDFFF]')
 # What stands before the first DB that is no escape.
 WELL_ESCAPED = re.compile(rb'(?:[^\xDB]+|\xDB[\xDC\xDD])*')
@@ -185,18 +188,18 @@ def escaped(octets):
 
 def is_text(head):
     """Whether the octets are UTF-8 without control characters. Addresses are shifted, so a frame hardly ever is."""
-    try:
-        text = codecs.getincrementaldecoder('utf-8-sig')().decode(head, final=len(head) < HEAD)
-    except UnicodeDecodeError:
-        return False
-    return not CONTROL.search(text)
+    text = codecs.getincrementaldecoder('utf-8-sig')('surrogateescape').decode(head, final=len(head) < HEAD)
+    return not NO_TEXT.search(text)
 
 
 def has_offset(words):
     """Whether a line is the first of a dump. Its offset, 0, would be taken for nulls, and the line for a frame behind them, which is what a
-    stuck line driver leaves: the report counts those."""
+    stuck line driver leaves: the report counts those. od, if it is not told otherwise, writes all in octal."""
+    if not words or not re.fullmatch('0{4,16}', words[0]):
+        return False
     lengths = {len(word) for word in words[1:]}
-    return bool(words) and re.fullmatch('0{4,}', words[0]) and lengths in ({2}, {3}, {4}, {6}, {8}) and len(words[0]) not in lengths
+    in_hex, in_octal = ({2}, {4}, {8}), ({3}, {6})
+    return lengths in in_hex and len(words[0]) not in lengths or lengths in in_octal and len(words[0]) == 7
 
 
 def hex_line(line):
@@ -262,15 +265,16 @@ def pcap_comes_out(head, order, header):
 def pcap_header(head, form):
     """The order of its numbers and its link type."""
     if len(head) < 24:
-        raise Refused(f'{form}: the file ends inside its header: {24 - len(head)} of its 24 octets are missing')
+        raise Refused(f'{form}: the file ends inside its header: {24 - len(head)} of its 24 octets are missing: {COPY_ANEW}')
     order = PCAP[head[:4]]
     # The upper half may say that frames carry a check sequence, which is no part of a frame here.
     link, = struct.unpack_from(order + 'I', head, 20)
     more, link = link >> 16, link & 0xFFFF
     if link not in LINKS:
-        raise Refused(f'{form} of link type {link}: only ' + ' and '.join(f'{n} ({name})' for n, name in LINKS.items()) + ' are read')
+        read = ' and '.join(f'{number} ({name})' for number, name in LINKS.items())
+        raise Refused(f'{form} of link type {link}: only {read} are read, which AX.25 interfaces have')
     if more:
-        raise Refused(f'{form} of link type {link}: its frames carry a check sequence (upper half {more:04X})')
+        raise Refused(f'{form} of link type {link}: its frames carry a check sequence (upper half {more:04X}): save them without it')
     if not pcap_comes_out(head, order, 16) and pcap_comes_out(head, order, 20):
         raise Refused(f"Nokia's pcap, whose packet headers have four octets more, is not read: {SAVE_AS_PCAP}")
     return order, link
@@ -283,8 +287,8 @@ def pcap(stream, form='pcap'):
 
 def cut_pcap(form, what, octets, owed, packet, at):
     """What is said of a file that ends inside `what`, of a packet that begins at `at`."""
-    whole = f'; the {packet - 1} packets before it are whole: head -c {at} IN >OUT' if packet > 1 and form == 'pcap' else ''
-    return Refused(f'{form}: the file ends inside {what}: {owed - len(octets)} of its {owed} octets are missing{whole}')
+    whole = f', or take what is whole, up to packet {packet - 1} (head -c {at} IN >OUT)' if packet > 1 and form == 'pcap' else ''
+    return Refused(f'{form}: the file ends inside {what}: {owed - len(octets)} of its {owed} octets are missing: {COPY_ANEW}{whole}')
 
 
 def pcap_packets(stream, form, order, link):
@@ -316,8 +320,8 @@ def pcap_packets(stream, form, order, link):
 
 def pcapng_blocks(stream):
     """The octets of a pcapng, block by block: each says its length at both ends. So a file that is cut is known by us, and editcap, which
-    complains at one and then ends as if nothing were wrong, is not asked."""
-    block, order = 0, '<'
+    complains at one and then ends as if nothing were wrong, is not asked; nor is it where interfaces differ, which a pcap can't hold."""
+    block, order, links = 0, '<', set()
     while True:
         head = stream.read(12)
         if not head:
@@ -326,13 +330,19 @@ def pcapng_blocks(stream):
         if head[:4] == PCAPNG:
             order = PCAPNG_ORDER.get(head[8:12], order)
         if len(head) < 12:
-            raise Refused(f'pcapng: the file ends inside the header of block {block}')
+            raise Refused(f'pcapng: the file ends inside the header of block {block}: {COPY_ANEW}')
         length, = struct.unpack_from(order + 'I', head, 4)
         if length < 12 or length % 4 or length > BLOCK_LIMIT:
             raise Refused(f'pcapng: block {block} says that it has {length} octets: the file is damaged')
         rest = stream.read(length - 12)
         if len(rest) < length - 12:
-            raise Refused(f'pcapng: the file ends inside block {block}: {length - 12 - len(rest)} of its {length} octets are missing')
+            missing = length - 12 - len(rest)
+            raise Refused(f'pcapng: the file ends inside block {block}: {missing} of its {length} octets are missing: {COPY_ANEW}')
+        if struct.unpack_from(order + 'I', head)[0] == PCAPNG_INTERFACE:
+            links.add(struct.unpack_from(order + 'H', head, 8)[0])
+        if len(links) > 1:
+            kinds = ' and '.join(map(str, sorted(links)))
+            raise Refused(f'pcapng of link types {kinds}: capture each interface into a file of its own')
         yield head
         yield rest
 
@@ -417,7 +427,8 @@ def by_octets(stream):
     if kind:
         raise Refused(f'{kind} is not read: {next(turn for first, _, turn in FOREIGN if first.match(head))}')
     if KISS_PACKET.search(head):
-        raise Unclear(f'a KISS log that starts inside a packet: cut what stands before its first C0 (tail -c +{head.index(FEND) + 1} IN >OUT)')
+        cut = f'tail -c +{head.index(FEND) + 1} IN >OUT'
+        raise Unclear(f'a KISS log that starts inside a packet: cut what stands before its first C0 ({cut})')
     return None
 
 
@@ -447,7 +458,7 @@ class Capture:
     def __init__(self, file, name, raw=False, lone=False):
         self.digested = Digested(file)
         self.stream = io.BufferedReader(self.digested, HEAD)
-        self.named_raw = name.lower().endswith(RAW_NAMES)
+        self.raw, self.named_raw = raw, name.lower().endswith(RAW_NAMES)
         head = head_of(self.stream)
         if not head:
             raise Refused('the file is empty')
@@ -462,7 +473,11 @@ class Capture:
         self.form, self.held = told or ('raw frame', raw_frame(self.stream))
 
     def with_hint(self, why):
-        hint = '; if it is one raw frame: --raw FILE' if self.named_raw or isinstance(why, Unclear) else ''
+        hint = ''
+        if self.raw:
+            hint = f'; its octets say {self.looks_like}, so leave --raw out' if self.looks_like else ''
+        elif self.named_raw or isinstance(why, Unclear):
+            hint = '; if it is one raw frame: --raw FILE'
         return Refused(f'{why}{hint}')
 
     def __iter__(self):
@@ -482,7 +497,8 @@ PIPE = 'this is a pipe, which can be read only once: save what comes out of it (
 
 
 def copied(pipe):
-    """What can be read only once, up to its end, as a file without a name. `pipe` has no buffer, so that one Ctrl-D at a terminal is enough."""
+    """What can be read only once, up to its end, as a file without a name. `pipe` has no buffer, so that one Ctrl-D at a terminal is
+    enough."""
     file = tempfile.TemporaryFile()
     shutil.copyfileobj(pipe, file)
     file.seek(0)

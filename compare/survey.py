@@ -1,11 +1,7 @@
 """A capture looked over to its end: what it holds, in short, its digest, and every doubt."""
+from command import number
 from doubts import Doubts, of_name
 from readers import Capture, Refused
-
-
-def number(count, what):
-    """A count of things, whose name is given for many."""
-    return f'{count:,} {what}' if count != 1 else f'1 {what[:-1]}'
 
 
 class Survey:
