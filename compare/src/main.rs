@@ -228,6 +228,7 @@ fn main() {
         ["bench"] => leave(&bench::run(), &options.json),
         ["replay-list"] => replay::list(5000),
         ["replay-list", lines] => replay::list(number(lines) as usize),
+        ["help"] | ["-h"] | ["--help"] => println!("{}", USAGE),
         _ => refuse(&format!("usage:\n{}", USAGE)),
     }
 }

@@ -7,7 +7,8 @@ use crate::oracle;
 use crate::port::{Fed, State};
 
 pub fn hex(octets: &[u8]) -> String {
-    octets.iter().map(|octet| format!("{:02X}", octet)).collect()
+    let digits = octets.iter().flat_map(|octet| [octet >> 4, octet & 0x0F]);
+    digits.map(|digit| char::from(b"0123456789ABCDEF"[usize::from(digit)])).collect()
 }
 
 /// Hex digits in pairs, spaces anywhere between them.
