@@ -17,7 +17,7 @@ from small import Lab
 
 def main():
     with tempfile.TemporaryDirectory() as work:
-        for part in (of_sources.published, of_verdicts.verdicts, of_pages.agree, of_pages.documented, of_pages.real):
+        for part in (of_sources.published, of_verdicts.verdicts, of_pages.agree, of_pages.documented, of_pages.real, of_lab.far):
             part(work)
         of_lab.in_place()
         if shutil.which('git') is None:

@@ -49,7 +49,7 @@ def checks(lab):
     for words in (['--josn', 'x'], ['--check', '--json', 'x'], ['-x']):
         status, said = lab.run(*words)
         check(f"{' '.join(words)} is refused", status == 2 and 'lab: no option -' in said and not lab.ran(), said)
-    check('all of this within seconds', time.monotonic() - began < 20, time.monotonic() - began)
+    check('all of this within seconds', time.monotonic() - began < 40, time.monotonic() - began)
 
 
 def other_rt(lab):
@@ -98,8 +98,7 @@ def whole_run(lab):
     equal('it holds what docs/REPORT.md says, but for a list that is long', sorted(left ^ named(page) ^ set(report.FILES)), ['frames.txt'])
     check('how long it takes and where the log grows is said first',
           re.search(r'1 of 4: .* it took \d+ min \d+ s on \d+ cores .*lab-unfinished/test\.log', said), said)
-    for words in ('crates proved: 0 of 2', 'wrong versions refused: 0 of 1', 'running: the programs and the documents',
-                  './test: 9 passed, 0 failed'):
+    for words in ('crates proved: 0 of 2', './test: 9 passed, 0 failed'):
         check(f'it says how far it is: {words}', f': {words}\n' in said, said)
     made = lab.report()
     equal('the report has the samples', (made['samples'], len(made['captures'])), (True, 11))
@@ -138,6 +137,30 @@ def interruptions(lab):
     check('and then a run takes its place', status == 0 and 'lab-unfinished/, of a run that did not come to its end, is removed' in said
           and 'lab-unfinished' not in lab.folders(), said)
     lab.forget()
+
+
+def far(work):
+    """How far a test is, from its log as it grows."""
+    write(f'{work}/far/crates.txt', 'one:\ntwo: one\n')
+    write(f'{work}/far/crates/one/must-fail/wrong.edit', '')
+    write(f'{work}/far/test', read(f'{ROOT}/test'))
+    write(f'{work}/far/log', '')
+    log = progress.TestLog(f'{work}/far', f'{work}/far/log')
+    for text, state, wrong in (
+        ('', 'crates proved: 0 of 2', []),
+        ('rt: one proved (1 s)\nrt: two pro', 'crates proved: 1 of 2', []),
+        ('ved (1 s)\n', 'wrong versions refused: 0 of 1', []),
+        ('rt: must-fail one/wrong: refused, as it must be (1 s)\n', 'running: the programs and the documents', []),
+        ('test: the proofs took 9 s\ntest: the wrong versions took 9 s\n', 'running: the programs and the documents', []),
+        ('test: the programs and the documents took 0 s\nFAILED: build\n', 'running: the build', ['FAILED: build']),
+    ):
+        with open(f'{work}/far/log', 'a', encoding='utf-8') as file:
+            file.write(text)
+        found = log.read_on()
+        equal(f'how far it is: {state}', (log.state()[1], found), (state, wrong))
+    write(f'{work}/far/log', 'rt: one NOT PROVED (exit 1, 2 s)\ntest: the proofs took 9 s\n')
+    log = progress.TestLog(f'{work}/far', f'{work}/far/log')
+    equal('and what is not proved is shown at once', log.read_on(), ['rt: one NOT PROVED (exit 1, 2 s)'])
 
 
 def in_place():

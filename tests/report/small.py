@@ -17,7 +17,6 @@ TEST = r'''#!/bin/sh
 cd "$(dirname "$0")" || exit 1
 echo "$$" >>"$MARKS/ran"
 took() { printf 'test: %s took 1 s\n' "$1"; }
-pause() { [ "${STANDIN-}" != slow ] || sleep 0.5; }
 case ${STANDIN-} in
 hang)
     trap 'rm -f "$MARKS/scratch"' EXIT
@@ -35,15 +34,13 @@ early)
     exit 1
     ;;
 edit) echo >>kit-notes.txt ;;
+slow) sleep 0.5 ;;
 esac
-pause
 printf 'logic=proved functions=3 sum=0\nrt: one proved (1 s)\nlogic=proved functions=4 sum=0\nrt: two proved (1 s)\n'
-pause
 echo 'rt: must-fail one/wrong: refused, as it must be (1 s)'
 printf 'ok: rt ci\nok: no verdict rests on a check of an earlier run\n'
 took "the proofs"
 took "the wrong versions"
-pause
 took "the programs and the documents"
 echo 'skipped: valgrind: it is not on this host'
 mkdir -p dist target/compare
