@@ -4,10 +4,13 @@ import platform
 import re
 import subprocess
 
-# What the tests take is found by tests/tools.sh, so it is asked there; each line is a name and the first line that the program says.
+# What the tests take is found by tests/tools.sh, so it is asked there, and nothing is fetched for this; each line is a name and the first
+# line that the program says.
 COMPILERS = r'''
 root=$PWD
 . tests/tools.sh
+tools_fetch() { return 1; }
+tools_fetch_rust() { return 1; }
 first() { printf '%s\t%s\n' "$1" "$("$2" --version 2>/dev/null | head -n 1)"; }
 need_rustc && first rustc "$RUSTC_X86"
 need_cc && first c "$CC_X86"

@@ -1,14 +1,16 @@
 """What the report comes to: three parts, each with its reason, and what has to hold beside them."""
 import re
 
-# The lines of the test that failed, by the part that they speak of. What is in neither list is one of the other tests.
-PROOFS = re.compile(r"rt ci\b|\d+ verdicts rest on|the kit's logic is|there is no 'rt'|this rt is no ")
-COMPARISON = re.compile(r'compare/build\b|the comparison\b|.*: \d+ inputs, \d+ mismatches$')
+# The lines of the test that failed, by the part that they speak of. What is of neither kind is one of the other tests, so that each line
+# keeps one part from holding.
+ENDED = r'( \(exit status \d+\)| ended without its count)?$'
+PROOFS = re.compile(rf"rt ci{ENDED}|\d+ verdicts rest on a check|the kit's logic is |there is no 'rt' on |this rt is no Rattle kit")
+COMPARISON = re.compile(rf'compare/build$|the comparison{ENDED}|.*: \d+ inputs, \d+ mismatches$')
 
 HOLDS = 'Everything holds.'
 FAILS = 'Something does not hold.'
 CHANGED = 'What was checked holds, but the sources are not as committed.'
-UNKNOWN = 'What was checked holds, but that the sources are as committed can\'t be shown.'
+UNKNOWN = "What was checked holds, but that the sources are as committed can't be shown."
 # The exit status of ./lab; 2 is for what is refused before anything is checked.
 STATUS = {HOLDS: 0, FAILS: 1, CHANGED: 3, UNKNOWN: 3}
 
@@ -39,10 +41,11 @@ def proofs(report):
         wrong.append(f'{proved} of {proved + len(unproved)} crates were proved; not proved: {some(unproved)}')
     if left:
         wrong.append(f'{versions} of {versions + len(left)} wrong versions were refused; not refused: {some(left)}')
-    if 'rt ci' not in report['passed']:
-        wrong.append('the proofs did not come to their end without a failure')
-    if 'no verdict rests on a check of an earlier run' not in report['passed']:
-        wrong.append('that no verdict rests on a check of an earlier run is not shown')
+    failed = [line for line in report['failed'] if PROOFS.match(line)]
+    if failed:
+        wrong.append(f'the test says: {some(failed, 3)}')
+    elif not {'rt ci', 'no verdict rests on a check of an earlier run'} <= set(report['passed']):
+        wrong.append('the proofs did not come to their end')
     good = (f"All {many(proved, 'crate')}, {many(report['functions'], 'function')}, were proved from nothing under the pinned logic, "
             f"and each of {many(versions, 'wrong version')} was refused")
     return wrong, good
@@ -95,6 +98,8 @@ def tests(report):
     wrong = []
     if failed:
         wrong.append(f"{many(len(failed), 'check')} failed: {some(failed, 3)}")
+    elif report['checks'] and report['checks']['failed'] and not report['failed']:
+        wrong.append(f"{many(report['checks']['failed'], 'check')} failed, and the log does not say which")
     if report['checks'] is None:
         return wrong + ['the test did not come to its end'], ''
     missing = [name for name, digest in report['delivered'].items() if digest is None]

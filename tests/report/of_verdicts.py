@@ -45,14 +45,19 @@ def verdicts(work):
     changed = source(as_committed=False, changed=[{'file': 'crates/one/x.rt', 'how': 'changed'}])
     fails('a crate that was not proved', 'proofs', '1 of 2 crates were proved; not proved: two', not_proved)
     fails('a wrong version that was not refused', 'proofs', 'not refused: one/wrong', log('refused, as it must be', 'NOT REFUSED'))
-    fails('rt ci that failed', 'proofs', 'did not come to their end', log('ok: rt ci', 'FAILED: rt ci (exit status 1)'))
-    fails('a verdict of an earlier run', 'proofs', 'earlier run',
+    fails('rt ci that failed', 'proofs', 'The test says: rt ci (exit status 1)', log('ok: rt ci', 'FAILED: rt ci (exit status 1)'))
+    fails('rt ci that was broken off', 'proofs', 'did not come to their end', log('ok: rt ci\n'))
+    fails('a verdict of an earlier run', 'proofs', '2 verdicts rest on a check of an earlier run',
           log('ok: no verdict rests on a check of an earlier run', 'FAILED: 2 verdicts rest on a check of an earlier run, or there is none'))
     fails('a kit of another logic', 'proofs', "pins 'kit logic 01ab'",
           put('run', 'kit', {'version': 'kit logic 01ac', 'pinned': 'kit logic 01ab'}))
     fails('no kit', 'proofs', 'not there', put('run', 'kit', {'version': None, 'pinned': 'kit logic 01ab'}))
     fails('a failed check', 'tests', '1 check failed: the header lacks a call',
           log('9 passed, 0', 'FAILED: the header lacks a call\n9 passed, 1'))
+    for name in ('rt ci is named', 'the comparison and more', 'compare/build is named'):
+        fails(f'a failed check with a name like that of a part, {name}', 'tests', f'1 check failed: {name}',
+              log('9 passed, 0', f'FAILED: {name}\n9 passed, 1'))
+    fails('a failed check that the log does not name', 'tests', '1 check failed, and the log does not say which', log('9 passed, 0', '9 passed, 1'))
     fails('a test that was broken off', 'tests', 'did not come to its end', log('9 passed, 0 failed\n'))
     fails('nothing delivered', 'rust tests', 'not the one in dist/',
           put('run', 'delivered', {'libax25frame.a': None, 'ax25.h': None, 'dumper': None}))
