@@ -223,8 +223,12 @@ def whole_run(words):
     given = bool(words)
     words = words or samples()
     with tempfile.NamedTemporaryFile(suffix='.json') as checked:
-        if read_captures('check', '--json', checked.name, *words):
+        status = read_captures('check', '--json', checked.name, *words)
+        if status == 2:
             raise Refused('nothing was run, because a file is refused: leave it out, or do what its line says')
+        if status:
+            # Who read the output went away.
+            return status
         # A file that nothing executes: one that is open to be written could not be.
         lock = processes.only_run(below('laboratory', 'run.py'))
         if lock is None:

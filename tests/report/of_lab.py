@@ -49,6 +49,7 @@ def checks(lab):
     for words in (['--josn', 'x'], ['--check', '--json', 'x'], ['-x']):
         status, said = lab.run(*words)
         check(f"{' '.join(words)} is refused", status == 2 and 'lab: no option -' in said and not lab.ran(), said)
+    equal('where nobody reads what it says, it ends without a word', (*lab.run_unread(), lab.ran(), lab.folders()), (141, '', False, []))
     check('all of this within seconds', time.monotonic() - began < 40, time.monotonic() - began)
 
 

@@ -119,6 +119,14 @@ class Lab:
         done = subprocess.run(**self.words(*words, **more), stdout=subprocess.PIPE, stderr=subprocess.STDOUT, timeout=120)
         return done.returncode, done.stdout.decode('utf-8', 'replace')
 
+    def run_unread(self):
+        """The exit status and what was printed on standard error of a run whose output nobody reads."""
+        near, far = os.pipe()
+        os.close(near)
+        done = subprocess.run(**self.words(), stdout=far, stderr=subprocess.PIPE, timeout=120)
+        os.close(far)
+        return done.returncode, done.stderr.decode('utf-8', 'replace')
+
     def begin(self, **more):
         """A run that hangs in the test."""
         process = subprocess.Popen(**self.words(standin='hang', **more), stdout=subprocess.PIPE, stderr=subprocess.STDOUT)
