@@ -117,9 +117,20 @@ tools_path() { # PROGRAM PACKAGES
 
 # The kit
 
+# Whether there is an `rt` on the PATH, and it is a Rattle kit's: other programs have that name too. Where not, prints why.
+tools_rattle() {
+    tools_install="install the Rattle kit ($(cat "$root/kit.txt")) and put its bin/ first on the PATH"
+    tools_has rt || { printf '%s\n' "there is no 'rt' on the PATH: $tools_install"; return 1; }
+    # Whatever it is, it may wait for an answer or for a server.
+    tools_said=$(timeout 30 rt version 2>&1 </dev/null) && case $tools_said in *' logic '[0-9a-f]*) return 0 ;; esac
+    tools_said=$(printf '%s' "$tools_said" | head -n 1 | LC_ALL=C tr -cd '[:print:]' | cut -c 1-100)
+    printf '%s\n' "this rt is no Rattle kit, or one that does not work here (it is $(command -v rt); it said: ${tools_said:-nothing}): $tools_install"
+    return 1
+}
+
 # KIT: the kit's folder. KIT_TOOLS: that of its compiler, its C library and, on aarch64, its emulator.
 need_kit() {
-    tools_has rt || { tools_say "there is no 'rt' on the PATH: install the Rattle kit that kit.txt names and put its bin/ on the PATH"; return 1; }
+    tools_words=$(tools_rattle) || { tools_say "$tools_words"; return 1; }
     KIT=$(rt doc) || return 1
     KIT=${KIT%/docs/*}
     KIT_TOOLS=$KIT/on/$tools_machine/toolchain

@@ -4,11 +4,11 @@
 use crate::domain::{self, Listed, RESERVED_BITS, RUST_LAYER_3};
 use crate::flat::{self, Flat, FlatAddress, ADDRESS, FLAT, KIND};
 use crate::inputs::{self, FIELD};
-use crate::kiss::{self, FEND, LONGEST};
+use crate::kiss::{self, LONGEST};
 use crate::lent::{rooms, Room, Tried, LONGER};
 use crate::oracle::{self, Decode, Refusal};
 use crate::pairs::{Outcome, Way};
-use crate::port::{Beside, Entry, Fed, Packet, Port, State, FRESH, HOPS, PLACES};
+use crate::port::{Beside, Entry, Fed, Packet, Port, State, HOPS, PLACES};
 use crate::records;
 use crate::relays::{self, Own};
 use crate::rng::Rng;
@@ -16,6 +16,7 @@ use crate::seen::{Seen, Writer};
 use crate::show;
 use crate::streams;
 use ax25::frame::Ax25Frame;
+use std::ops::Range;
 
 /// One thing that differs, with both answers in full.
 #[derive(Clone, Default)]
@@ -78,7 +79,25 @@ impl Both {
     }
 }
 
-/// The state is looked at after each piece of a stream of so many octets, and after the last piece of a longer one.
+/// A stretch of a KISS stream, and how many octets of the stream stand before it. The last of these, if there are any, is a C0.
+pub struct Stretch<'a> {
+    pub at: u64,
+    pub octets: &'a [u8],
+}
+
+impl Stretch<'_> {
+    /// What its first octets owe. Before it the port left this state, which was the one that is owed.
+    fn owed(&self, start: &State, count: usize) -> kiss::Stream {
+        let octets = &self.octets[..count];
+        if self.at == 0 { kiss::stream(octets) } else { kiss::stream_on(start.port, start.held(), octets) }
+    }
+
+    fn place(&self, piece: Range<usize>) -> String {
+        format!("octets {} to {} of a KISS stream", self.at + piece.start as u64, self.at + piece.end as u64)
+    }
+}
+
+/// The state is looked at after each piece of a stretch of so many octets, and after the last piece of a longer one.
 const LOOKED: usize = 4096;
 
 /// The octets of a flat record's content.
@@ -808,15 +827,24 @@ impl Checker {
         self.finish()
     }
 
-    /// A KISS log and what captures.py read of its packets: those that are closed are given out or dropped, and one that is not may be
-    /// dropped.
-    pub fn captured_stream(&mut self, log: &[u8], cuts: &[Vec<usize>], said: &[(String, Vec<u8>, kiss::Read)]) -> Vec<Difference> {
-        let owed = kiss::stream(log);
-        let closed = said.iter().filter(|(_, packet, _)| packet.len() > 1 && packet.ends_with(&[FEND]));
-        let closed: Vec<&kiss::Read> = closed.map(|(_, _, read)| read).collect();
+    /// The next stretch of a KISS log, from this state on, which it leaves as the one after the stretch, and what captures.py read of the
+    /// packets that are closed in it, or in and behind it where it is the last one: they are given out or dropped, and one that is not
+    /// closed may be dropped.
+    pub fn captured_stretch(
+        &mut self,
+        state: &mut State,
+        stretch: &Stretch,
+        is_last: bool,
+        cuts: &[Vec<usize>],
+        said: &mut dyn Iterator<Item = kiss::Read>,
+    ) -> Vec<Difference> {
+        let owed = stretch.owed(state, stretch.octets.len());
+        let shown = usize::from(owed.phase == 4);
+        let count = if is_last { usize::MAX } else { owed.packets.len() + owed.dropped.len() };
+        let closed: Vec<kiss::Read> = said.take(count).collect();
         let read: Vec<_> = closed.iter().filter_map(|read| read.as_ref().ok()).filter(|(_, data)| data.len() <= LONGEST).collect();
         let given: Vec<_> = owed.packets.iter().map(|(_, packet)| packet).collect();
-        let dropped = closed.len() - read.len() + usize::from(owed.phase == 4);
+        let dropped = closed.len() - read.len() + shown;
         if read != given || dropped != owed.dropped.len() {
             let other = read.iter().zip(&given).take_while(|(one, other)| one == other).count();
             let says = |packets: &[&(u8, Vec<u8>)], dropped: usize| {
@@ -824,19 +852,30 @@ impl Checker {
                 format!("{} packets given out, {} dropped; packet {}: {}", packets.len(), dropped, other + 1, packet)
             };
             let owes = || says(&given, owed.dropped.len());
-            self.differ("the packets of captures.py, in the port's place", owes, |_| says(&read, dropped));
+            let what = format!("the packets of captures.py, in the port's place, {}", stretch.place(0..stretch.octets.len()));
+            self.differ(&what, owes, |_| says(&read, dropped));
         }
-        self.stream(&FRESH, log, cuts)
+        if let Some(left) = self.stretch(state, stretch, cuts, &owed) {
+            *state = left;
+        }
+        self.finish()
     }
 
-    /// A stream, read from this state on in one piece, and in pieces of these lengths in turn: each call, the states between, and at the end
-    /// the same state, octet by octet.
+    /// A stream, read from this state on.
     pub fn stream(&mut self, start: &State, octets: &[u8], cuts: &[Vec<usize>]) -> Vec<Difference> {
-        let owed = kiss::stream(octets);
-        self.seen.stream(start, octets, &owed);
-        let whole = self.fed(start, octets, &[octets.len()], &owed);
+        let stretch = Stretch { at: 0, octets };
+        let owed = stretch.owed(start, octets.len());
+        self.stretch(start, &stretch, cuts, &owed);
+        self.finish()
+    }
+
+    /// A stretch, read in one piece, and in pieces of these lengths in turn: each call, the states between, and at the end the same state,
+    /// octet by octet, which is given.
+    fn stretch(&mut self, start: &State, stretch: &Stretch, cuts: &[Vec<usize>], owed: &kiss::Stream) -> Option<State> {
+        self.seen.stream(start, stretch, owed);
+        let whole = self.fed(start, stretch, &[stretch.octets.len()], owed);
         for cut in cuts {
-            let left = self.fed(start, octets, cut, &owed);
+            let left = self.fed(start, stretch, cut, owed);
             if let (Some(whole), Some(left)) = (&whole, &left) {
                 if whole != left {
                     let says = |state: &State| format!("{} and in all {}", show::state(state), show::hex(&state.data));
@@ -844,12 +883,12 @@ impl Checker {
                 }
             }
         }
-        self.finish()
+        whole
     }
 
     /// The state that is left; none where something differs, since nothing is owed from there on.
-    fn fed(&mut self, start: &State, octets: &[u8], cut: &[usize], owed: &kiss::Stream) -> Option<State> {
-        let (mut state, mut given) = (*start, owed.packets.iter().peekable());
+    fn fed(&mut self, start: &State, stretch: &Stretch, cut: &[usize], owed: &kiss::Stream) -> Option<State> {
+        let (mut state, mut given, octets) = (*start, owed.packets.iter().peekable(), stretch.octets);
         for piece in streams::pieces(octets.len(), cut) {
             let (before, mut calls, mut at) = (state, Vec::new(), piece.start);
             while let Some((end, (port, data))) = given.next_if(|(end, _)| *end <= piece.end) {
@@ -860,7 +899,7 @@ impl Checker {
                 calls.push(Fed { taken: piece.end - at, packet: Packet { ready: 0, port: 0, length: 0 }, data: Vec::new() });
             }
             let fed = self.port.kiss_feed(&mut state, &octets[piece.clone()]);
-            let place = || format!("octets {} to {} of a KISS stream in pieces of {:?}", piece.start, piece.end, cut);
+            let place = || format!("{} in pieces of {:?}", stretch.place(piece.clone()), cut);
             if fed != calls {
                 let other = fed.iter().zip(&calls).take_while(|(fed, call)| fed == call).count();
                 self.differ(&format!("call {} for {}", other + 1, place()), || show::call(calls.get(other)), |_| show::call(fed.get(other)));
@@ -872,16 +911,15 @@ impl Checker {
             }
             self.seen.piece(&state, piece.end < octets.len());
             let looked = octets.len() <= LOOKED || piece.end == octets.len();
-            if looked && !self.left_by(&octets[..piece.end], start, &state, place) {
+            if looked && !self.left_by(&stretch.owed(start, piece.end), start, &state, place) {
                 return None;
             }
         }
         Some(state)
     }
 
-    /// Whether this is the state that these octets leave. The octets behind the data are not said.
-    fn left_by(&mut self, octets: &[u8], start: &State, state: &State, place: impl Fn() -> String) -> bool {
-        let owed = kiss::stream(octets);
+    /// Whether this is the state that is owed. The octets behind the data are not said.
+    fn left_by(&mut self, owed: &kiss::Stream, start: &State, state: &State, place: impl Fn() -> String) -> bool {
         let count = owed.count(start.dropped);
         let same = (state.phase, state.port, state.dropped) == (owed.phase, owed.port, count)
             && usize::from(state.length) == owed.data.len()

@@ -1,9 +1,10 @@
 //! `compare test`: every class of inputs, each through its comparison.
 
-use crate::check::{self, padded, Both, Checker, Difference};
+use crate::check::{self, padded, Both, Checker, Difference, Stretch};
 use crate::flat::{self, FlatAddress, ONES};
 use crate::pairs::{self, Desk, Way};
 use crate::port::{Beside, State, FRESH};
+use crate::progress::Part;
 use crate::relays::{self, Own};
 use crate::report::{self, Line, Report};
 use crate::rng::Rng;
@@ -24,7 +25,7 @@ pub fn class(checker: &mut Checker, report: &mut Report, name: &str, body: impl 
         return;
     }
     checker.seen.class(name);
-    let line = Line { name: name.to_string(), inputs: 0, mismatches: 0 };
+    let line = Line { name: name.to_string(), inputs: 0, mismatches: 0, written: 0 };
     let mut class = Class { checker, report, line };
     body(&mut class);
     let line = class.line;
@@ -38,10 +39,15 @@ impl Class<'_> {
             self.line.mismatches += 1;
             if !self.report.full() {
                 let (input, again) = input();
-                self.report.mismatch(&self.line.name, input, again, found);
+                self.line.written += u64::from(self.report.mismatch(&self.line.name, input, again, found));
                 self.checker.quiet = self.report.full();
             }
         }
+    }
+
+    /// So much more of the captures is compared.
+    pub fn step(&mut self, part: Part, count: usize) {
+        self.report.progress.step(part, count);
     }
 
     pub fn octets(&mut self, input: &[u8]) {
@@ -217,10 +223,26 @@ impl Class<'_> {
         });
     }
 
-    /// A KISS log, which may be long, and how captures.py read its packets.
-    pub fn stream_of(&mut self, file: &str, log: &[u8], cuts: &[Vec<usize>], said: &[(String, Vec<u8>, kiss::Read)]) {
-        let found = self.checker.captured_stream(log, cuts, said);
-        self.done(found, || (format!("all its {} octets", log.len()), format!("compare captures '{}'", file)));
+    /// A KISS log of this length, which may be long, in pieces, and how captures.py read its packets. It is read up to the first
+    /// stretch in which something differs.
+    pub fn stream_of(&mut self, file: &str, length: u64, log: &mut dyn Iterator<Item = Vec<u8>>, said: &mut dyn Iterator<Item = kiss::Read>) {
+        let (mut draw, mut state, mut at, mut found, mut octets) = (Rng::new(length), FRESH, 0, Vec::new(), Vec::new());
+        for next in streams::stretches(log) {
+            octets = next;
+            let cuts = [vec![1], streams::cut_to(10, &mut draw), streams::cut_to(400, &mut draw)];
+            let end = at + octets.len() as u64;
+            found = self.checker.captured_stretch(&mut state, &Stretch { at, octets: &octets }, end == length, &cuts, said);
+            self.step(Part::Log, octets.len());
+            if !found.is_empty() {
+                break;
+            }
+            at = end;
+        }
+        self.done(found, || {
+            // Those of a longer one are in the file, and what differs says where.
+            let shown = if length <= report::SHORT as u64 { format!(": {}", show::hex(&octets)) } else { String::new() };
+            (format!("all its {} octets{}", length, shown), format!("compare captures '{}'", file))
+        });
     }
 
     fn stream_from(&mut self, start: &State, octets: &[u8], cut: Vec<usize>) {
@@ -249,10 +271,8 @@ impl Class<'_> {
 }
 
 /// Everything, the seeded classes `scale` times as large as by default.
-pub fn test(scale: usize, seed: u64, only: Option<String>) -> Report {
+pub fn test(scale: usize, seed: u64, mut report: Report) -> Report {
     let mut checker = Checker::new();
-    let mut report = Report::default();
-    report.only = only;
     let mut seeds = Rng::new(seed);
     octets(&mut checker, &mut report, scale, &mut seeds);
     frame_records(&mut checker, &mut report, scale, &mut seeds);
@@ -264,8 +284,12 @@ pub fn test(scale: usize, seed: u64, only: Option<String>) -> Report {
     kiss_packets(&mut checker, &mut report, scale, &mut seeds);
     kiss_streams(&mut checker, &mut report, scale, &mut seeds);
     unseen(&mut checker, &mut report, scale, &mut seeds);
-    let missing = checker.seen.missing();
-    class(&mut checker, &mut report, "met: every number, kind, mark, PID, layer 3 octet, reserved bits, route length, room, search, old capture, due place, KISS port, cut, changed bit, pair and listed difference", |c| c.missing(missing));
+    if report.only.is_none() {
+        let missing = checker.seen.missing();
+        class(&mut checker, &mut report, "met: every number, kind, mark, PID, layer 3 octet, reserved bits, route length, room, search, old capture, due place, KISS port, cut, changed bit, pair and listed difference", |c| c.missing(missing));
+    } else {
+        println!("left out: met, which is of all classes together");
+    }
     report::totals(&mut report, &checker.seen);
     report::pairs(&mut report, &checker.seen);
     report::told_apart(&mut report, &checker.seen);

@@ -74,15 +74,15 @@ pub struct Stream {
 /// it is not too long; nothing between two C0 is no packet, and every other one is dropped.
 pub fn stream(octets: &[u8]) -> Stream {
     let mut stream = Stream::default();
-    let delimiters: Vec<usize> = (0..octets.len()).filter(|&at| octets[at] == FEND).collect();
-    for pair in delimiters.windows(2) {
-        if stream.took(read_fitting(&octets[pair[0]..=pair[1]])) {
-            stream.packets.push((pair[1] + 1, (stream.port, stream.data.clone())));
-        }
-    }
-    if let Some(&last) = delimiters.last() {
-        stream.open(&octets[last..]);
-    }
+    stream.read(octets);
+    stream
+}
+
+/// Reads what comes after a C0 that left this port and this data: that C0 opens a packet. It is none of these octets, and is not counted.
+pub fn stream_on(port: u8, data: &[u8], octets: &[u8]) -> Stream {
+    let mut stream = Stream { port, data: data.to_vec(), ..Stream::default() };
+    stream.read(&[&[FEND], octets].concat());
+    stream.packets.iter_mut().for_each(|(end, _)| *end -= 1);
     stream
 }
 
@@ -92,6 +92,18 @@ fn read_fitting(packet: &[u8]) -> Read {
 }
 
 impl Stream {
+    fn read(&mut self, octets: &[u8]) {
+        let delimiters: Vec<usize> = (0..octets.len()).filter(|&at| octets[at] == FEND).collect();
+        for pair in delimiters.windows(2) {
+            if self.took(read_fitting(&octets[pair[0]..=pair[1]])) {
+                self.packets.push((pair[1] + 1, (self.port, self.data.clone())));
+            }
+        }
+        if let Some(&last) = delimiters.last() {
+            self.open(&octets[last..]);
+        }
+    }
+
     /// Whether a packet was read. One that is dropped leaves no port and no data; where there was none, those of the one before it stay.
     fn took(&mut self, read: Read) -> bool {
         match read {

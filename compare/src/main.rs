@@ -4,6 +4,7 @@ mod bench;
 mod capture;
 mod check;
 mod classes;
+mod differences;
 mod domain;
 #[cfg(feature = "faults")]
 mod faults;
@@ -12,10 +13,12 @@ mod inputs;
 mod kiss;
 mod lent;
 mod lines;
+mod list;
 mod oracle;
 mod packets;
 mod pairs;
 mod port;
+mod progress;
 mod records;
 mod relay_list;
 mod relays;
@@ -28,6 +31,9 @@ mod single;
 mod streams;
 mod texts;
 
+use differences::Differences;
+use list::List;
+use progress::Progress;
 use relays::Own;
 use report::Report;
 use std::io::Read;
@@ -40,13 +46,25 @@ extern "C" fn pthread_getattr_np(_thread: usize, _attributes: *mut u8) -> i32 {
     38
 }
 
+extern "C" {
+    fn signal(number: i32, handler: usize) -> usize;
+}
+
+/// Has a reader of the output who goes away end this program quietly, as he ends others: by the signal. Rust's standard library sets the
+/// signal aside before `main`, and `println!` then panics.
+fn end_with_the_reader() {
+    const SIGPIPE: i32 = 13;
+    const DEFAULT: usize = 0;
+    unsafe { signal(SIGPIPE, DEFAULT) };
+}
+
 const USAGE: &str = "\
 compare test [SCALE]               every class of inputs; the seeded ones SCALE times as large (1)
 compare captures [--raw FILE | FILE]..
                                    every frame and KISS packet of captures, every KISS log as a stream, frames beside one another:
                                    pcap and pcapng (link types 3 and 202), KISS logs, hex lines; --raw, or a file named
                                    .raw, .bin or .ax25: one raw frame
-compare frames                     what captures.py, which reads the captures, prints, on standard input
+compare frames [FILE]              what captures.py, which reads the captures, prints, in a file or on standard input
 compare one HEX                    one input: both answers in full, the port's as an old capture too ('-': hex on standard input)
 compare pair HEX HEX               a canonical input and another: where they differ, and whether that is seen
 compare text TEXT..                texts to addresses (text-hex HEX..: the text's octets)
@@ -65,15 +83,27 @@ compare kiss-stream LENGTHS HEX    a stream of KISS packets, cut by these length
 compare bench                      times of both, and their ratios
 compare replay-list [N]            about N (5000) lines of the Rust's answers, for the program replay
   --json FILE    leave counts, mismatches and ratios there (test, captures, frames, bench)
+  --differences FILE
+                 leave every mismatch there, up to 50 MB (test, frames)
   --seed N       another seed for test
   --only WORDS   only the classes of test with these words in their name
+  --of N         say on standard error how many of N frames are compared (frames)
 Exit status: 0 no difference but listed ones, 1 some other difference, 2 something could not be read.";
+
+/// The options of each mode that has some.
+const OPTIONS: [(&str, &[&str]); 3] = [
+    ("test", &["--json", "--differences", "--seed", "--only"]),
+    ("frames", &["--json", "--differences", "--of"]),
+    ("bench", &["--json"]),
+];
 
 struct Options {
     words: Vec<String>,
     json: Option<String>,
+    differences: Option<String>,
     seed: u64,
     only: Option<String>,
+    of: Option<u64>,
 }
 
 fn refuse(message: &str) -> ! {
@@ -82,15 +112,28 @@ fn refuse(message: &str) -> ! {
 }
 
 fn options() -> Options {
-    let mut options = Options { words: Vec::new(), json: None, seed: 25, only: None };
+    let mut options = Options { words: Vec::new(), json: None, differences: None, seed: 25, only: None, of: None };
+    let mut given = Vec::new();
     let mut args = std::env::args_os().skip(1).map(word);
     while let Some(arg) = args.next() {
         let mut value = || args.next().unwrap_or_else(|| refuse(&format!("{} wants a value", arg)));
         match arg.as_str() {
             "--json" => options.json = Some(value()),
+            "--differences" => options.differences = Some(value()),
             "--seed" => options.seed = number(&value()),
             "--only" => options.only = Some(value()),
-            _ => options.words.push(arg),
+            "--of" => options.of = Some(number(&value())),
+            _ => {
+                options.words.push(arg);
+                continue;
+            }
+        }
+        given.push(arg);
+    }
+    if let Some(mode) = options.words.first() {
+        let takes = |option: &str| OPTIONS.iter().any(|(name, options)| name == mode && options.contains(&option));
+        if let Some(other) = given.iter().find(|option| !takes(option)) {
+            refuse(&format!("{} takes no {}", mode, other));
         }
     }
     options
@@ -152,12 +195,14 @@ fn status(holds: bool) -> ! {
 }
 
 fn main() {
+    end_with_the_reader();
     let options = options();
     let words: Vec<&str> = options.words.iter().map(String::as_str).collect();
     match words[..] {
         ["test"] => test("1", &options),
         ["test", scale] => test(scale, &options),
-        ["frames"] => frames(&options),
+        ["frames"] | ["frames", "-"] => frames(None, &options),
+        ["frames", file] => frames(Some(file), &options),
         ["one", hex] => status(single::one(&hex_argument(hex))),
         ["pair", one, other] => status(single::pair(&octets(one), &octets(other))),
         ["text", ref texts @ ..] if !texts.is_empty() => status(single::each(texts, |t| single::text(t.as_bytes()))),
@@ -183,26 +228,36 @@ fn main() {
         ["bench"] => leave(&bench::run(), &options.json),
         ["replay-list"] => replay::list(5000),
         ["replay-list", lines] => replay::list(number(lines) as usize),
+        ["help"] | ["-h"] | ["--help"] => println!("{}", USAGE),
         _ => refuse(&format!("usage:\n{}", USAGE)),
     }
 }
 
-fn frames(options: &Options) -> ! {
-    let (report, unread) = capture::compare(&standard_input()).unwrap_or_else(|problem| refuse(&problem));
+fn frames(file: Option<&str>, options: &Options) -> ! {
+    let report = begun(options);
+    let list = List::open(file).unwrap_or_else(|problem| refuse(&problem));
+    let mut report = capture::compare(&list, report);
     leave(&report, &options.json);
     let holds = report.finish();
-    if unread > 0 {
-        refuse(&format!("{} captures could not be read", unread));
+    if !list.refused.is_empty() {
+        refuse(&format!("{} captures could not be read", list.refused.len()));
     }
     status(holds)
 }
 
+/// A report with nothing in it as yet. The file of differences is made anew first of all, so that one of an earlier run is not taken for
+/// that of this one.
+fn begun(options: &Options) -> Report {
+    Report::new(options.only.clone(), Differences::at(&options.differences), Progress::of(options.of))
+}
+
 fn test(scale: &str, options: &Options) -> ! {
+    let report = begun(options);
     let scale = number(scale) as usize;
     if !(1..=1000).contains(&scale) {
         refuse("SCALE is a number from 1 to 1000");
     }
-    let report = classes::test(scale, options.seed, options.only.clone());
+    let mut report = classes::test(scale, options.seed, report);
     if report.lines.is_empty() {
         refuse("no class has such a name");
     }

@@ -10,6 +10,7 @@ use crate::port::Port;
 use crate::records;
 use crate::rng::Rng;
 use std::collections::HashMap;
+use std::mem::size_of;
 
 /// How the other input was made.
 #[derive(Clone, Copy, PartialEq, Debug)]
@@ -83,22 +84,40 @@ pub type Each<'a> = &'a mut dyn FnMut(&[u8], &mut dyn Iterator<Item = (Way, Vec<
 #[derive(Default)]
 pub struct Desk {
     frames: HashMap<Shown, Vec<u8>>,
+    /// About how many octets of memory they take.
+    taken: usize,
     /// How many had the frame and info of an earlier one.
     pub again: u64,
     /// How many of these pairs had no canonical one.
     pub neither: u64,
+    /// How many had not, and came when there was no more room for them, so that no later one is put beside them.
+    pub not_remembered: u64,
 }
+
+/// How many octets of memory the desk takes for frames.
+const REMEMBERED: usize = 64_000_000;
 
 impl Desk {
     /// The earlier frame with this one's frame and info.
     pub fn earlier(&mut self, frame: &Both) -> Option<Vec<u8>> {
         let shown = frame.port.as_ref().ok()?;
-        let earlier = self.frames.get(shown).cloned();
-        self.again += u64::from(earlier.is_some());
-        if earlier.is_none() || frame.canonical {
+        if let Some(earlier) = self.frames.get_mut(shown) {
+            self.again += 1;
+            let octets = earlier.clone();
+            if frame.canonical {
+                *earlier = frame.octets.clone();
+            }
+            return Some(octets);
+        }
+        // The table may be half empty.
+        let takes = 2 * size_of::<(Shown, Vec<u8>)>() + shown.info.len() + frame.octets.len();
+        if self.taken + takes > REMEMBERED {
+            self.not_remembered += 1;
+        } else {
+            self.taken += takes;
             self.frames.insert(shown.clone(), frame.octets.clone());
         }
-        earlier
+        None
     }
 }
 

@@ -1,17 +1,24 @@
 //! What is printed while a run goes on, and the counts that are left for other programs.
 
 use crate::check::Difference;
+use crate::differences::Differences;
+use crate::progress::Progress;
 use crate::seen::Seen;
 use crate::show;
 use std::io::Write;
 
-/// How many mismatches are printed in full. The others are counted.
+/// How many mismatches are printed in full. The others are counted, and stand in the file of differences, if there is one.
 const SHOWN: usize = 20;
+
+/// The SHA-256 of the archive that this program was linked with, which compare/build gives.
+const ARCHIVE: &str = env!("COMPARE_ARCHIVE");
 
 pub struct Line {
     pub name: String,
     pub inputs: u64,
     pub mismatches: u64,
+    /// How many of these stand in the file of differences.
+    pub written: u64,
 }
 
 struct Mismatch {
@@ -21,39 +28,55 @@ struct Mismatch {
     differences: Vec<Difference>,
 }
 
+impl Mismatch {
+    fn text(&self) -> String {
+        let difference = |d: &Difference| format!("  {}\n    owed: {}\n    port: {}\n", d.what, d.owed, d.port);
+        let differences: String = self.differences.iter().map(difference).collect();
+        format!("MISMATCH: {}\n  input: {}\n{}  again: {}\n", self.class, self.input, differences, self.reproduce)
+    }
+}
+
 #[derive(Default)]
 pub struct Report {
     pub lines: Vec<Line>,
     /// Only the classes whose name has this in it are run.
     pub only: Option<String>,
-    mismatches: Vec<Mismatch>,
+    pub progress: Progress,
+    /// Where every mismatch is written to.
+    differences: Differences,
+    /// Those that were printed.
+    shown: Vec<Mismatch>,
     extra: Vec<(String, String)>,
 }
 
 impl Report {
-    /// Whether mismatches are only counted from now on.
-    pub fn full(&self) -> bool {
-        self.mismatches.len() >= SHOWN
+    pub fn new(only: Option<String>, differences: Differences, progress: Progress) -> Report {
+        Report { only, differences, progress, ..Report::default() }
     }
 
-    /// Prints a mismatch and keeps it.
-    pub fn mismatch(&mut self, class: &str, input: String, reproduce: String, differences: Vec<Difference>) {
-        println!("MISMATCH: {}", class);
-        println!("  input: {}", input);
-        for difference in &differences {
-            println!("  {}", difference.what);
-            println!("    owed: {}", difference.owed);
-            println!("    port: {}", difference.port);
+    /// Whether mismatches are only counted from now on.
+    pub fn full(&self) -> bool {
+        self.shown.len() >= SHOWN && !self.differences.has_room()
+    }
+
+    /// Prints a mismatch and keeps it, if not enough were, and writes it to the file; whether the file has it.
+    pub fn mismatch(&mut self, class: &str, input: String, reproduce: String, differences: Vec<Difference>) -> bool {
+        let mismatch = Mismatch { class: class.to_string(), input, reproduce, differences };
+        let text = mismatch.text();
+        if self.shown.len() < SHOWN {
+            self.progress.clear();
+            print!("{}", text);
+            self.shown.push(mismatch);
+            if self.shown.len() == SHOWN {
+                println!("  (from here on mismatches are only {})", self.differences.name().map_or("counted".to_string(), |name| format!("written to {}", name)));
+            }
         }
-        println!("  again: {}", reproduce);
-        self.mismatches.push(Mismatch { class: class.to_string(), input, reproduce, differences });
-        if self.full() {
-            println!("  (from here on mismatches are only counted)");
-        }
+        self.differences.write(&text)
     }
 
     /// One class is done.
     pub fn class(&mut self, line: Line) {
+        self.progress.clear();
         if line.mismatches == 0 {
             println!("ok: {}: {} inputs", line.name, line.inputs);
         } else {
@@ -64,11 +87,24 @@ impl Report {
         self.lines.push(line);
     }
 
-    /// The last line; whether nothing failed.
-    pub fn finish(&self) -> bool {
+    /// The last lines, also of the file of differences; whether nothing failed.
+    pub fn finish(&mut self) -> bool {
+        for line in self.lines.iter().filter(|line| line.mismatches > line.written) {
+            self.differences.line(&format!("NOT WRITTEN HERE: {}: {} more mismatches\n", line.name, line.mismatches - line.written));
+        }
+        let (mismatches, written) = self.mismatches();
+        if let Some(name) = self.differences.name().filter(|_| mismatches > 0) {
+            println!("mismatches written to {}: {} of {}", name, written, mismatches);
+        }
         let failed = self.lines.iter().filter(|line| line.mismatches > 0).count();
         println!("{} passed, {} failed", self.lines.len() - failed, failed);
         failed == 0 && !self.lines.is_empty()
+    }
+
+    /// How many there were, and how many of them are in the file of differences.
+    fn mismatches(&self) -> (u64, u64) {
+        let sum = |count: fn(&Line) -> u64| self.lines.iter().map(count).sum();
+        (sum(|line| line.mismatches), sum(|line| line.written))
     }
 
     /// A part of the JSON besides the classes, already in JSON.
@@ -84,11 +120,13 @@ impl Report {
                 ("mismatches", line.mismatches.to_string()),
             ])
         };
-        let mismatches: u64 = self.lines.iter().map(|line| line.mismatches).sum();
+        let (mismatches, written) = self.mismatches();
         let mut fields = vec![
+            ("archive", string(ARCHIVE)),
             ("classes", list(self.lines.iter().map(line))),
             ("mismatches", mismatches.to_string()),
-            ("mismatches_shown", list(self.mismatches.iter().map(mismatch_json))),
+            ("mismatches_shown", list(self.shown.iter().map(mismatch_json))),
+            ("mismatches_written", written.to_string()),
         ];
         fields.extend(self.extra.iter().map(|(name, json)| (name.as_str(), json.clone())));
         object(&fields) + "\n"
@@ -198,9 +236,12 @@ pub fn string(text: &str) -> String {
     json
 }
 
+/// An input of so many octets fits a command.
+pub const SHORT: usize = 4096;
+
 /// How to look at one input again, by this command.
 pub fn again(command: &str, input: &[u8]) -> String {
-    if input.len() <= 4096 {
+    if input.len() <= SHORT {
         format!("{} '{}'", command, show::hex(input))
     } else {
         format!("{} -    (and the input's hex digits on standard input)", command)

@@ -1,5 +1,6 @@
 //! What a run has met, so that a run that never met a case says so.
 
+use crate::check::Stretch;
 use crate::domain::{self, Listed, LISTED, RESERVED_BITS, RUST_LAYER_3};
 use crate::flat::*;
 use crate::kiss::{self, FEND, FESC, LONGEST, PORTS, TFEND, TFESC};
@@ -202,8 +203,9 @@ pub struct Streams {
 }
 
 impl Streams {
-    fn stream(&mut self, start: &State, octets: &[u8], owed: &kiss::Stream) {
-        self.streams += 1;
+    fn stream(&mut self, start: &State, stretch: &Stretch, owed: &kiss::Stream) {
+        let octets = stretch.octets;
+        self.streams += u64::from(stretch.at == 0);
         self.octets += octets.len() as u64;
         self.given += owed.packets.len() as u64;
         self.dropped += owed.dropped.len() as u64;
@@ -883,8 +885,8 @@ impl Seen {
     }
 
     /// A KISS stream, from this state on, and what is to come of it.
-    pub fn stream(&mut self, start: &State, octets: &[u8], owed: &kiss::Stream) {
-        self.streams.stream(start, octets, owed);
+    pub fn stream(&mut self, start: &State, stretch: &Stretch, owed: &kiss::Stream) {
+        self.streams.stream(start, stretch, owed);
     }
 
     /// A piece of a stream is used up, and there is more or not.

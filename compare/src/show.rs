@@ -7,20 +7,24 @@ use crate::oracle;
 use crate::port::{Fed, State};
 
 pub fn hex(octets: &[u8]) -> String {
-    octets.iter().map(|octet| format!("{:02X}", octet)).collect()
+    let digits = octets.iter().flat_map(|octet| [octet >> 4, octet & 0x0F]);
+    digits.map(|digit| char::from(b"0123456789ABCDEF"[usize::from(digit)])).collect()
 }
 
 /// Hex digits in pairs, spaces anywhere between them.
 pub fn unhex(text: &str) -> Result<Vec<u8>, String> {
-    let digits: Vec<char> = text.chars().filter(|c| !c.is_ascii_whitespace()).collect();
-    if let Some(strange) = digits.iter().find(|c| !c.is_ascii_hexdigit()) {
-        return Err(format!("'{}' is no hex digit", strange.escape_default()));
+    let (mut octets, mut first) = (Vec::with_capacity(text.len() / 2), None);
+    for c in text.chars().filter(|c| !c.is_ascii_whitespace()) {
+        let digit = c.to_digit(16).ok_or_else(|| format!("'{}' is no hex digit", c.escape_default()))? as u8;
+        match first.take() {
+            None => first = Some(digit),
+            Some(first) => octets.push(first << 4 | digit),
+        }
     }
-    if digits.len() % 2 == 1 {
-        return Err(format!("{} hex digits: the last octet has only one", digits.len()));
+    match first {
+        None => Ok(octets),
+        Some(_) => Err(format!("{} hex digits: the last octet has only one", 2 * octets.len() + 1)),
     }
-    let value = |c: char| c.to_digit(16).expect("a hex digit") as u8;
-    Ok(digits.chunks(2).map(|pair| value(pair[0]) << 4 | value(pair[1])).collect())
 }
 
 /// Characters as they are, those that don't print as \x and two hex digits.

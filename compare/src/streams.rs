@@ -18,6 +18,31 @@ pub fn pieces(length: usize, cut: &[usize]) -> impl Iterator<Item = Range<usize>
     })
 }
 
+/// A long stream is read in stretches of at least so many octets, each from the state on that the one before it left.
+const STRETCH: usize = 1 << 20;
+
+/// The stretches of a stream that comes in pieces: each ends behind a C0, but for the last, which ends where the stream does.
+pub fn stretches<'a>(mut pieces: impl Iterator<Item = Vec<u8>> + 'a) -> impl Iterator<Item = Vec<u8>> + 'a {
+    // What is held, and how many octets of it a C0 ends.
+    let (mut held, mut closed, mut ended) = (Vec::new(), 0, false);
+    std::iter::from_fn(move || {
+        while !ended {
+            let Some(piece) = pieces.next() else {
+                ended = true;
+                return Some(std::mem::take(&mut held));
+            };
+            closed = piece.iter().rposition(|&octet| octet == FEND).map_or(closed, |at| held.len() + at + 1);
+            held.extend(piece);
+            if held.len() > STRETCH && closed > 0 {
+                let rest = held.split_off(closed);
+                closed = 0;
+                return Some(std::mem::replace(&mut held, rest));
+            }
+        }
+        None
+    })
+}
+
 /// Seeded lengths, some of them 0.
 pub fn cut(draw: &mut Rng) -> Vec<usize> {
     let longest = *draw.pick(&[1, 3, 10, 60, 400]);
