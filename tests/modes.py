@@ -294,7 +294,7 @@ def remembered():
     for words, owed in [((), (2, 0)), (('--remember', 2), (1, 2)), (('--remember', 0), (0, 5))]:
         ran, left = answered(path, *words)
         counts = left['frames_again'], left['not_remembered']
-        check(f'five frames {shortened(words)}: {owed[0]} come again, {owed[1]} are not remembered', '' if counts == owed else counts)
+        check(f'{shortened(["frames", *words])} of five: {owed[0]} come again, {owed[1]} are not remembered', '' if counts == owed else counts)
         check('which is said where it is so', '' if (said in lines(ran.stdout)) == (owed[1] == 2) else lines(ran.stdout)[-5:])
 
 
