@@ -344,7 +344,24 @@ def examples():
     check(f'and so are its {len(texts)} examples of text', example_texts(texts) if texts else ['there is none'])
 
 
-PARTS = (contracts, adversary, edits, statements, departures, opened, layers, decisions, figures, rules_named, rules_cited, octet_values, examples)
+def numbers():
+    """docs/NUMBERS.md has each number of the header, and ./look prints what it says of them: so that is plain text."""
+    enum = [(number, name) for name, number in re.findall(r'^ +(AX25_\w+) = (\d+)', read('include/ax25.h'), re.M)]
+    table = rows(sections(read('docs/NUMBERS.md'))['The numbers'])
+    shown = [tuple(row[:2]) for row in table]
+    what = f"docs/NUMBERS.md has the {len(enum)} numbers of the header's enum, each once and by its name"
+    check(what, [' '.join(pair) for pair in sorted(set(enum) ^ set(shown))] or [' '.join(pair) for pair in shown if shown.count(pair) > 1])
+    sentence = re.compile(r'[A-Z][^`*_<>\[\]|]*\.')
+    check(
+        'and says of each in plain sentences what it means and what to do',
+        [row[0] for row in table if len(row) != 4 or not all(sentence.fullmatch(re.sub(r'\bax25_\w+', '', cell)) for cell in row[2:])],
+    )
+
+
+PARTS = (
+    contracts, adversary, edits, statements, departures, opened, layers, decisions, figures, rules_named,
+    rules_cited, octet_values, examples, numbers,
+)
 for part in PARTS:
     part()
 print(f'{passed} passed, {failed} failed')
