@@ -7,9 +7,10 @@
    What a frame is here: the octets between the flags, from the destination's first to the last of the info, as they are before bits are
    stuffed. It has no flags (7E), no check sequence (FCS) and nothing of KISS. Whoever takes octets off a line removes these first: no
    call can tell what was left on, and most of it is accepted.
-   - A flag before the frame is read as the destination's first character, and every address as beginning one octet early. A KISS packet's
-     C0 and type octet shift them by two. Either is accepted as a frame with wrong addresses, which is not canonical, and ax25_relay
-     looks for our own station in the wrong octets. The type octet alone shifts by one; that of port 0 is AX25_LEADING_NULL_BYTES.
+   - A flag before the frame is read as the destination's first character, so that every address begins one octet early. A KISS packet's
+     C0 and type octet shift them by two. What can be read so is accepted, as a frame with wrong addresses; it is not canonical, since
+     an octet or two are left over, and ax25_relay looks for our own station in the wrong octets. The type octet alone shifts by one;
+     that of port 0 is AX25_LEADING_NULL_BYTES.
    - A check sequence, a flag or a C0 behind the frame is more info of an I or UI frame, which is as canonical as it was without.
      Of an FRMR it is AX25_WRONG_SIZE_FRMR_INFO. Of any other kind it is a tail: ignored, dropped by re-encoding, and not canonical.
      ax25_relay leaves it where it is, so that a check sequence no longer fits what was marked.
