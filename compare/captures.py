@@ -50,14 +50,18 @@ def name_of(path):
     return shown(os.path.abspath(path))
 
 
+def survey_of(path, raw):
+    """The survey of a capture, or why it is refused."""
+    try:
+        with opened(path) as file:
+            return Survey(file, path, raw), None
+    except Refused as why:
+        return None, str(why)
+
+
 def survey_all(captures):
-    """Each capture with its survey, or with why it is refused."""
     for path, raw in captures:
-        try:
-            with opened(path) as file:
-                yield path, raw, Survey(file, path, raw), None
-        except Refused as why:
-            yield path, raw, None, str(why)
+        yield (path, raw, *survey_of(path, raw))
 
 
 def print_capture(out, path, raw, survey):
@@ -101,7 +105,8 @@ def compare(program, captures, options):
                 listed.write(f'refused\t{name_of(path)}\t{why}\n'.encode())
         listed.flush()
         words = [program, 'frames', f'/dev/fd/{listed.fileno()}', '--of', str(frames)]
-        return subprocess.run([*words, *(word for option in options for word in option)], pass_fds=[listed.fileno()]).returncode
+        words += [word for option in options.items() for word in option]
+        return subprocess.run(words, pass_fds=[listed.fileno()], check=False).returncode
 
 
 # check
@@ -110,7 +115,7 @@ def compare(program, captures, options):
 def dumper_words(options):
     """The words that run the dumper; none, and why, where there is none."""
     try:
-        return dumper.found(dict(options).get('--dumper', dumper.PROGRAM)), None
+        return dumper.found(options.get('--dumper', dumper.PROGRAM)), None
     except dumper.NoDumper as why:
         return [], why
 
@@ -147,8 +152,8 @@ def check(captures, options):
             write(sys.stdout, f'{shown(path)}: refused: {why}')
         sys.stdout.flush()
         records.append(record_of(path, survey, why))
-    if '--json' in dict(options):
-        leave(dict(options)['--json'], {'captures': records})
+    if '--json' in options:
+        leave(options['--json'], {'captures': records})
     if no_dumper and earlier:
         write(sys.stdout, f'no frame is decoded: {no_dumper}')
     refused = sum('refused' in record for record in records)

@@ -66,7 +66,7 @@ def run(main, name=''):
 def arguments(words, known=(), alone=None):
     """The captures that the words name, each with whether it is asked for as a raw frame; and the values of other options. After -- every
     word is a file. Where --raw is the last word, `alone` is what is read so, if it is given."""
-    captures, values = [], []
+    captures, values = [], {}
     words = iter(words)
     for word in words:
         if word == '--':
@@ -78,7 +78,7 @@ def arguments(words, known=(), alone=None):
             if word == '--raw':
                 captures.append((value, True))
             else:
-                values.append((word, value))
+                values[word] = value
         elif word.startswith('-') and word != alone:
             others = ' '.join(['--raw', *known])
             raise Stop(f'no option {shown(word)}; there are: {others} (a file of such a name: ./{shown(word)}, or behind --)')

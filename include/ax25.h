@@ -4,6 +4,17 @@
    one on a serial line, which gives such packets in pieces. Each is proved to give exactly the answer that its contract states,
    for every input, to read and write nothing but what is lent to it, and to return.
 
+   What a frame is here: the octets between the flags, from the destination's first to the last of the info, as they are before bits are
+   stuffed. It has no flags (7E), no check sequence (FCS) and nothing of KISS. Whoever takes octets off a line removes these first: no
+   call can tell what was left on, and most of it is accepted.
+   - A flag before the frame is read as the destination's first character, so that every address begins one octet early. A KISS packet's
+     C0 and type octet shift them by two. What can be read so is accepted, as a frame with wrong addresses; it is not canonical, since
+     an octet or two are left over, and ax25_relay looks for our own station in the wrong octets. The type octet alone shifts by one;
+     that of port 0 is AX25_LEADING_NULL_BYTES.
+   - A check sequence, a flag or a C0 behind the frame is more info of an I or UI frame, which is as canonical as it was without.
+     Of an FRMR it is AX25_WRONG_SIZE_FRMR_INFO. Of any other kind it is a tail: ignored, dropped by re-encoding, and not canonical.
+     ax25_relay leaves it where it is, so that a check sequence no longer fits what was marked.
+
    What every call asks of its caller:
    - `in`, `callsign` and `piece` point to `in_len`, `callsign_len` and `piece_len` octets that may be read, `out` to `out_len`
      octets that may be written, `frame` to `frame_len` octets that may be read and written. `port`, where it is a pointer, points to
@@ -19,7 +30,27 @@
 
    What every call leaves alone: there is no heap, no state but what is lent, no input or output and no lock. So any call may run at
    the same time as any other, in another thread or in an interrupt, as long as nobody writes what is lent meanwhile, or reads
-   what that call may write. The archive asks whoever links it for memcpy and memset, and for nothing else. */
+   what that call may write. The archive asks whoever links it for memcpy and memset, and for nothing else.
+
+   What an interrupt handler has to know. No call uses x87, MMX or AVX registers; which use SSE registers (xmm), which keep something in
+   the red zone, the 128 octets below the stack pointer, and which call memcpy or memset:
+
+       call                      SSE   red zone   memcpy, memset
+       ax25_decode               yes   no         no
+       ax25_decode_old_capture   yes   no         no
+       ax25_canonical            yes   no         no
+       ax25_relay                yes   no         no
+       ax25_reencoded_length     yes   no         no
+       ax25_reencode             yes   no         yes
+       ax25_kiss_read            yes   no         no
+       ax25_kiss_write           yes   no         no
+       ax25_kiss_feed            no    yes        no
+
+   - A handler that calls one with SSE first saves the xmm registers of what it interrupted. memcpy and memset are those of whoever
+     links the archive, and may use them too.
+   - Where interrupts are served on the stack of what they interrupt, as on a machine without an operating system, they overwrite the
+     red zone: keep them out during a call that uses it, or give each a stack of its own (IST). An operating system's signal handlers
+     keep clear of it. */
 #ifndef AX25_H
 #define AX25_H
 
@@ -29,6 +60,13 @@
 #ifdef __cplusplus
 extern "C" {
 #endif
+
+/* The version of the component: header and archive belong together. A step of the first number changes an answer of a call, one of
+   the second adds something, one of the third does neither. */
+#define AX25_VERSION "1.0.0"
+#define AX25_VERSION_MAJOR 1
+#define AX25_VERSION_MINOR 0
+#define AX25_VERSION_PATCH 0
 
 /* No call uses more stack than this, in octets, its return address included. What memcpy and memset use comes on top. */
 #define AX25_STACK 1024

@@ -16,6 +16,22 @@ fail() {
 
 skip() { printf 'skipped: %s\n' "$1"; }
 
+# Says whether a command went well, with what it said where it did not.
+try() { # WHAT COMMAND..
+    what=$1
+    shift
+    count_log=$(mktemp) || exit 1
+    if "$@" >"$count_log" 2>&1; then
+        pass "$what"
+        rm -f "$count_log"
+    else
+        fail "$what"
+        sed 's/^/  /' "$count_log"
+        rm -f "$count_log"
+        return 1
+    fi
+}
+
 # Runs a command that ends with such a count of its own, shows what it prints, and adds the count.
 counted() { # NAME COMMAND..
     name=$1

@@ -344,7 +344,38 @@ def examples():
     check(f'and so are its {len(texts)} examples of text', example_texts(texts) if texts else ['there is none'])
 
 
-PARTS = (contracts, adversary, edits, statements, departures, opened, layers, decisions, figures, rules_named, rules_cited, octet_values, examples)
+def check_sequence(octets):
+    """AX.25's FCS of a frame (CRC-16/X-25), as it follows the frame."""
+    rest = 0xFFFF
+    for octet in octets:
+        rest ^= octet
+        for _ in range(8):
+            rest = rest >> 1 ^ (0x8408 if rest & 1 else 0)
+    return (rest ^ 0xFFFF).to_bytes(2, 'little')
+
+
+def numbers():
+    """docs/NUMBERS.md has each number of the header, and ./look prints what it says of them: so that is plain text."""
+    enum = [(number, name) for name, number in re.findall(r'^ +(AX25_\w+) = (\d+)', read('include/ax25.h'), re.M)]
+    page = sections(read('docs/NUMBERS.md'))
+    table = rows(page['The numbers'])
+    shown = [tuple(row[:2]) for row in table]
+    what = f"docs/NUMBERS.md has the {len(enum)} numbers of the header's enum, each once and by its name"
+    check(what, [' '.join(pair) for pair in sorted(set(enum) ^ set(shown))] or [' '.join(pair) for pair in shown if shown.count(pair) > 1])
+    sentence = re.compile(r'[A-Z][^`*_<>\[\]|]*\.')
+    check(
+        'and says of each in plain sentences what it means and what to do',
+        [row[0] for row in table if len(row) != 4 or not all(sentence.fullmatch(re.sub(r'\bax25_\w+', '', cell)) for cell in row[2:])],
+    )
+    octets = {row[0]: row[1].removeprefix('F ') for row in rows(page['What looks like a broken frame and is none'])}
+    frame, left_on = (bytes.fromhex(octets[name]) for name in ('F, a frame as it should be', 'a frame with its check sequence'))
+    check('its example has the right check sequence', [] if left_on == check_sequence(frame) else [check_sequence(frame).hex(' ')])
+
+
+PARTS = (
+    contracts, adversary, edits, statements, departures, opened, layers, decisions, figures, rules_named,
+    rules_cited, octet_values, examples, numbers,
+)
 for part in PARTS:
     part()
 print(f'{passed} passed, {failed} failed')

@@ -269,22 +269,42 @@ def differences():
 
 # Memory and progress
 
-def remembered():
-    """More frames than the desk remembers. The first one comes again, and so does the last. The memory that a program took is known of all
-    that ran so far together, so this is to be the first that takes much."""
-    numbers = [*range(600), 0, 599]
-    path = listed((f'frame\tline {at}\t{FRAME[:-4]}{n:08x}' + '41' * 64_000 for at, n in enumerate(numbers, 1)), 'hex lines')
+def of_numbers(numbers, more=''):
+    """Frames that differ by a number."""
+    return listed((f'frame\tline {at}\t{FRAME[:-4]}{n:08x}{more}' for at, n in enumerate(numbers, 1)), 'hex lines')
+
+
+def memory():
+    """What a program took is known of all that ran so far together, so this is to be the first that takes much."""
+    path = of_numbers(range(600), '41' * 64_000)
     ran, left = answered(path)
+    check('600 long frames are compared', '' if ran.returncode == 0 and left['captures'][0]['frames'] == 600 else ran.returncode)
     most = resource.getrusage(resource.RUSAGE_CHILDREN).ru_maxrss >> 10
-    counts = left['frames_again'], left['not_remembered']
-    check('of many long frames some are not remembered, and one that is comes again', '' if ran.returncode == 0 and counts[0] == 1 and 50 < counts[1] < 500 else counts)
-    said = f'frames beside which no later one was put, because too many others were remembered by then: {counts[1]}'
-    check('which is said', '' if said in lines(ran.stdout) else lines(ran.stdout)[-5:])
-    what = f'a list of {path.stat().st_size >> 20} MB takes at most 150 MB of memory'
+    what = f'a list of {path.stat().st_size >> 20} MB takes at most 60 MB of memory'
     if platform.machine() == 'x86_64':
-        check(what, '' if most < 150 else f'{most} MB')
+        check(what, '' if most <= 60 else f'{most} MB')
     else:
         print(f'skipped: {what}: the emulator takes some of its own')
+
+
+def remembered():
+    """Of three different frames the first and the last come again."""
+    path = of_numbers([1, 2, 3, 1, 3])
+    said = 'frames beside which no later one was put, because enough others were remembered by then: 2'
+    for words, owed in [((), (2, 0)), (('--remember', 2), (1, 2)), (('--remember', 0), (0, 5))]:
+        ran, left = answered(path, *words)
+        counts = left['frames_again'], left['not_remembered']
+        check(f'{shortened(["frames", *words])} of five: {owed[0]} come again, {owed[1]} are not remembered', '' if counts == owed else counts)
+        check('which is said where it is so', '' if (said in lines(ran.stdout)) == (owed[1] == 2) else lines(ran.stdout)[-5:])
+
+
+def canonical_ones():
+    """Of frames with the same frame and info a canonical one is remembered, wherever it stands: RR, which ignores what follows it."""
+    plain, one, other = (FRAME[:28] + '01' + tail for tail in ('', 'AA', 'BB'))
+    for frames, owed in [((one, other), (1, 1)), ((one, plain, other), (2, 0)), ((plain, one, other), (2, 0))]:
+        _, left = answered(listed([f'frame\tline 1\t{frame}' for frame in frames], 'hex lines'))
+        counts = left['frames_again'], left['neither_canonical']
+        check(f"{' '.join(frame[28:] for frame in frames)}: {owed[0]} come again, {owed[1]} with no canonical one", '' if counts == owed else counts)
 
 
 def progress():
@@ -304,13 +324,22 @@ def progress():
     check('and what is printed is the same', '' if ran.stdout == quiet.stdout else lines(ran.stdout)[:3])
 
 
+def figures():
+    """How many frames are remembered stands in the source, in the usage and in compare/README.md."""
+    most = re.search(r'const MOST: usize = ([\d_]+);', pathlib.Path('compare/src/pairs.rs').read_text())
+    most = int(most[1].replace('_', '')) if most else 0
+    for where, said, owed in [('the usage', run('--help').stdout.decode(), f'--remember N .*\\({most};'),
+                              ('compare/README.md', pathlib.Path('compare/README.md').read_text(encoding='utf-8'), f' {most:,} different frames are remembered')]:
+        check(f'{where} says how many frames are remembered', '' if re.search(owed, said) else f'it is {most}')
+
+
 def modes():
     """`bench` takes long, and `captures` is another program's: ./lab and tests/captures/run have them."""
     there = set(re.findall(r'^compare ([a-z-]+)', run('--help').stdout.decode(), re.M)) | {'text-hex'}
     check('every mode was run', ', '.join(sorted(there - run_here - {'bench', 'captures'})))
 
 
-for part in (remembered, single_modes, refusals, only, closed_pipes, wrong_lists, many_notes, by_every_way, stretches, differences, progress, modes):
+for part in (memory, remembered, canonical_ones, single_modes, refusals, only, closed_pipes, wrong_lists, many_notes, by_every_way, stretches, differences, progress, figures, modes):
     try:
         part()
     except Exception as why:

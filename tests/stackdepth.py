@@ -1,13 +1,19 @@
 #!/usr/bin/env python3
-"""The most stack that the functions of an x86-64 archive can use, read off its disassembly.
+"""What the functions of an x86-64 archive use of the stack and of the registers, read off its disassembly.
 
 usage: stackdepth.py OBJDUMP ARCHIVE [NAME..]
 
-Prints a line for each global function, or for those that are named: its name, its bound in octets (return address included) and the
-functions outside the archive that it calls, whose own stack is not counted. A function's bound is 8 for its return address, all that
-its code pushes and subtracts from the stack pointer, and the deeper of its red zone and its deepest callee. What is popped is never
-taken off, so the bound is one from above. Code that can't be bounded this way (recursion, indirect calls, another change of the stack
-pointer, growth inside a loop) ends the program with a message and status 1 where one of these functions reaches it."""
+Prints a line for each global function, or for those that are named, with what it and its callees in the archive use:
+- its name;
+- the most stack, in octets, return address included;
+- the red zone, in octets: how far below the stack pointer it keeps something without moving it; 0 where nothing is kept there;
+- the registers beside the general ones, by kind (xmm of SSE), and instructions that change such without naming them; - where there is none;
+- the functions outside the archive that it calls, whose own stack and registers are not counted.
+
+A function's bound is 8 for its return address, all that its code pushes and subtracts from the stack pointer, and the deeper of its red
+zone and its deepest callee. What is popped is never taken off, so the bound is one from above. Code that can't be told this way
+(recursion, indirect calls, another change of the stack pointer, growth inside a loop, a copy of the stack pointer, as a frame pointer is,
+from which the code goes down) ends the program with a message and status 1 where one of these functions reaches it."""
 import re
 import subprocess
 import sys
@@ -15,6 +21,8 @@ import sys
 HEAD = re.compile(r'^[0-9a-f]+ <(.+)>:$')
 CODE = re.compile(r'^\s*([0-9a-f]+):\s+(\S+)\s*(.*?)\s*(?:#.*)?$')
 RELOCATION = re.compile(r'^\s*([0-9a-f]+):\s+R_X86_64_(\w+)\s+(.+?)(?:[-+]0x[0-9a-f]+)?$')
+GENERAL = re.compile(r'[re]?[a-d]x|[a-d][hl]|[re]?[sd]i|[sd]il|[re]?[sb]p|[sb]pl|r(?:8|9|1[0-5])[dwb]?|[re]ip|[c-gs]s')
+MORE = re.compile(r'f\w+|wait|emms|v\w+|\w*mxcsr|xsave\w*|xrstor\w*')  # of x87, MMX, SSE or AVX, and change more than they name
 GLOBAL = re.compile(r'^[0-9a-f]+ g\s+F \S+\s+[0-9a-f]+ (?:\.hidden )?(.+)$')
 
 
@@ -28,6 +36,9 @@ class Function:
         self.grows = []       # (place, octets)
         self.back = []        # (from, to) of jumps backward
         self.red_zone = 0
+        self.copies = set()   # registers that are given an address of the stack
+        self.below = {}       # where the code goes down from what a register points to
+        self.registers = set()
         self.callees = set()
         self.open = None      # a call or jump whose target is the next relocation
         self.fault = None     # why it can't be bounded
@@ -40,8 +51,7 @@ class Function:
             if self.open.startswith('call'):
                 self.refuse(f'a call at {place:x} whose target is not known')
             self.open = None
-        for low in re.findall(r'-(0x[0-9a-f]+)\(%rsp', args):
-            self.red_zone = max(self.red_zone, int(low, 16))
+        self.take_operands(place, op, args)
         if op.startswith('push'):
             self.grows.append((place, 8))
         elif op.startswith('call'):
@@ -57,6 +67,19 @@ class Function:
             self.take_change(place, op, args)
         elif op.startswith(('enter', 'leave')):
             self.refuse(f'{op} at {place:x}')
+
+    def take_operands(self, place, op, args):
+        """Which registers it names, and whether it reaches below the stack pointer."""
+        names = set(re.findall(r'%([a-z]+\d*[a-z]*)', args))
+        kinds = {name.rstrip('0123456789') for name in names if not GENERAL.fullmatch(name)}
+        self.registers |= kinds | ({op} if MORE.fullmatch(op) else set())
+        for low, base in re.findall(r'-(0x[0-9a-f]+)\(%(\w+)', args):
+            if base == 'rsp':
+                self.red_zone = max(self.red_zone, int(low, 16))
+            else:
+                self.below[base] = place
+        if copy := re.fullmatch(r'(?!cmp|test)\w+ %rsp, %(\w+)|lea\w* [^(]*\(%rsp[^)]*\), %(\w+)', f'{op} {args}'):
+            self.copies.add(copy[1] or copy[2])
 
     def take_change(self, place, op, args):
         """An instruction that ends in the stack pointer: only sums with a constant are known."""
@@ -74,6 +97,8 @@ class Function:
     def end(self):
         if self.open and self.open.startswith('call'):
             self.refuse('a last call whose target is not known')
+        for base in sorted(self.copies & self.below.keys()):
+            self.refuse(f'%{base} may point below the stack pointer at {self.below[base]:x}')
         for start, target in self.back:
             for place, _ in self.grows:
                 if target <= place <= start:
@@ -103,20 +128,23 @@ def read(objdump, archive):
     return functions, names
 
 
-def bound(functions, name, above=()):
-    """The octets, and the names of outside functions."""
+def uses(functions, name, above=()):
+    """What a call of it uses: octets of stack, octets of red zone, other registers than the general ones, and functions outside."""
     if name in above:
         die(f'recursion through {name}')
     if name not in functions:
-        return 8, {name}
-    function, below, outside = functions[name], functions[name].red_zone, set()
+        return 8, 0, set(), {name}
+    function = functions[name]
     if function.fault:
         die(function.fault)
+    below = red_zone = function.red_zone
+    registers, outside = set(function.registers), set()
     for callee in function.callees:
-        octets, more = bound(functions, callee, above + (name,))
-        below = max(below, octets)
-        outside |= more
-    return 8 + sum(octets for _, octets in function.grows) + below, outside
+        octets, its_red_zone, its_registers, its_outside = uses(functions, callee, above + (name,))
+        below, red_zone = max(below, octets), max(red_zone, its_red_zone)
+        registers |= its_registers
+        outside |= its_outside
+    return 8 + sum(octets for _, octets in function.grows) + below, red_zone, registers, outside
 
 
 def main():
@@ -126,8 +154,8 @@ def main():
     for name in sorted(names if len(sys.argv) == 3 else sys.argv[3:]):
         if name not in names:
             die(f'{sys.argv[2]} has no global function {name}')
-        octets, outside = bound(functions, name)
-        print(name, octets, *sorted(outside))
+        octets, red_zone, registers, outside = uses(functions, name)
+        print(name, octets, red_zone, ','.join(sorted(registers)) or '-', *sorted(outside))
 
 
 main()

@@ -299,3 +299,6 @@ need_direwolf() { tools_need_programs direwolf DECODE_APRS=decode_aprs GEN_PACKE
 
 # TSHARK, TEXT2PCAP, EDITCAP: Wireshark's programs for the terminal.
 need_tshark() { tools_need_programs tshark TSHARK=tshark TEXT2PCAP=text2pcap EDITCAP=editcap; }
+
+# PKG_CONFIG: Debian's pkg-config.
+need_pkg_config() { tools_need_programs pkgconf PKG_CONFIG=pkgconf; }

@@ -8,11 +8,11 @@ use crate::port::Port;
 use crate::progress::Part;
 use crate::report::{self, Report};
 
-/// Compares every frame and every KISS packet of every capture, every KISS log as a stream, and frames with one another. Why a capture
-/// could not be read is printed.
-pub fn compare(list: &List, mut report: Report) -> Report {
+/// Compares every frame and every KISS packet of every capture, every KISS log as a stream, and frames with so many different ones before
+/// them. Why a capture could not be read is printed.
+pub fn compare(list: &List, remembered: usize, mut report: Report) -> Report {
     let mut checker = Checker::new();
-    let mut desk = Desk::default();
+    let mut desk = Desk::new(remembered);
     for capture in &list.captures {
         compare_one(&mut checker, &mut report, &mut desk, list, capture);
     }
@@ -24,7 +24,7 @@ pub fn compare(list: &List, mut report: Report) -> Report {
     report::pairs(&mut report, &checker.seen);
     println!("frames with the frame and info of an earlier one: {}, neither of the two canonical: {}", desk.again, desk.neither);
     if desk.not_remembered > 0 {
-        println!("frames beside which no later one was put, because too many others were remembered by then: {}", desk.not_remembered);
+        println!("frames beside which no later one was put, because enough others were remembered by then: {}", desk.not_remembered);
     }
     report.extra("frames_again", desk.again.to_string());
     report.extra("neither_canonical", desk.neither.to_string());
@@ -60,16 +60,16 @@ fn compare_one(checker: &mut Checker, report: &mut Report, desk: &mut Desk, list
         list.passed_over(capture).for_each(|note| println!("passed over: {}: {}", capture.file, note));
     }
     class(checker, report, &format!("{} ({})", capture.file, capture.format), |class| {
-        for (place, octets) in list.frames(capture) {
+        for (_, place, octets) in list.frames(capture) {
             class.octets_at(&place, &octets);
             class.step(Part::Frames, 1);
         }
     });
     class(checker, report, &format!("unseen: frames of {} ({}) beside one another", capture.file, capture.format), |class| {
         let mut port = Port::new();
-        for (_, octets) in list.frames(capture) {
+        for (at, _, octets) in list.frames(capture) {
             pairs::beside_again(&mut port, &octets, &mut |one, others| class.pairs(one, others));
-            class.at_desk(desk, &octets);
+            class.at_desk(desk, &octets, at, list);
             class.step(Part::Beside, 1);
         }
     });

@@ -839,12 +839,11 @@ impl Checker {
         said: &mut dyn Iterator<Item = kiss::Read>,
     ) -> Vec<Difference> {
         let owed = stretch.owed(state, stretch.octets.len());
-        let shown = usize::from(owed.phase == 4);
         let count = if is_last { usize::MAX } else { owed.packets.len() + owed.dropped.len() };
         let closed: Vec<kiss::Read> = said.take(count).collect();
         let read: Vec<_> = closed.iter().filter_map(|read| read.as_ref().ok()).filter(|(_, data)| data.len() <= LONGEST).collect();
         let given: Vec<_> = owed.packets.iter().map(|(_, packet)| packet).collect();
-        let dropped = closed.len() - read.len() + shown;
+        let dropped = closed.len() - read.len() + usize::from(owed.phase == 4);
         if read != given || dropped != owed.dropped.len() {
             let other = read.iter().zip(&given).take_while(|(one, other)| one == other).count();
             let says = |packets: &[&(u8, Vec<u8>)], dropped: usize| {

@@ -2,6 +2,7 @@
 
 use crate::check::{self, padded, Both, Checker, Difference, Stretch};
 use crate::flat::{self, FlatAddress, ONES};
+use crate::list::List;
 use crate::pairs::{self, Desk, Way};
 use crate::port::{Beside, State, FRESH};
 use crate::progress::Part;
@@ -87,13 +88,16 @@ impl Class<'_> {
         }
     }
 
-    /// A frame as the radio desk meets it: beside an earlier one with the same frame and info, of which either may be canonical.
-    pub fn at_desk(&mut self, desk: &mut Desk, frame: &[u8]) {
+    /// A frame, which stands here in the list, as the radio desk meets it: beside an earlier one with the same frame and info, of which either may be canonical.
+    pub fn at_desk(&mut self, desk: &mut Desk, frame: &[u8], at: u64, list: &List) {
         let frame = self.checker.both(frame);
-        let Some(earlier) = desk.earlier(&frame) else {
+        let Some(earlier) = desk.earlier(&frame, at) else {
             return;
         };
-        let earlier = self.checker.both(&earlier);
+        let earlier = self.checker.both(&list.frame_at(earlier));
+        if !desk.is_again(&earlier, &frame, at) {
+            return;
+        }
         match (earlier.canonical, frame.canonical) {
             (true, _) => self.pair(Way::Met, &earlier, &frame),
             (false, true) => self.pair(Way::Met, &frame, &earlier),

@@ -49,8 +49,9 @@ enum Line<'a> {
 }
 
 impl Line<'_> {
+    /// Of the first line of a text.
     fn of(text: &str) -> Result<Line<'_>, String> {
-        let fields: Vec<&str> = text.split('\t').collect();
+        let fields: Vec<&str> = text.lines().next().unwrap_or("").split('\t').collect();
         Ok(match fields[..] {
             ["capture", file, format] => Line::Capture(file, format),
             ["refused", file, problem] => Line::Refused(file, problem),
@@ -144,7 +145,7 @@ impl List {
             if length == 0 {
                 break;
             }
-            let line = Line::of(text.lines().next().unwrap_or("")).map_err(of_line)?;
+            let line = Line::of(&text).map_err(of_line)?;
             open = self.take(line, at..at + length, open).map_err(of_line)?;
             at += length;
         }
@@ -171,23 +172,37 @@ impl List {
         }
     }
 
-    /// The lines of a capture with this first word.
-    fn lines<'a>(&'a self, capture: &Capture, word: &'a str) -> impl Iterator<Item = String> + 'a {
-        let lines = reader(&self.file, capture.lines.clone()).lines().map(|line| line.unwrap_or_else(|problem| crate::refuse(&problem.to_string())));
-        lines.filter(move |line| line.strip_prefix(word).map_or(false, |rest| rest.starts_with('\t')))
+    /// The lines of a capture with this first word, each with where it stands in the list.
+    fn lines<'a>(&'a self, capture: &Capture, word: &'a str) -> impl Iterator<Item = (u64, String)> + 'a {
+        let (mut reader, mut at) = (reader(&self.file, capture.lines.clone()), capture.lines.start);
+        let all = std::iter::from_fn(move || {
+            let (start, line) = (at, next_line(&mut reader));
+            at += line.len() as u64;
+            Some((start, line)).filter(|(_, line)| !line.is_empty())
+        });
+        all.filter(move |(_, line)| line.strip_prefix(word).map_or(false, |rest| rest.starts_with('\t')))
     }
 
-    /// The frames of a capture, each with where it stands.
-    pub fn frames<'a>(&'a self, capture: &Capture) -> impl Iterator<Item = (String, Vec<u8>)> + 'a {
-        self.lines(capture, "frame").map(|line| match Line::of(&line) {
-            Ok(Line::Frame(place, octets)) => (place.to_string(), octets),
+    /// The frames of a capture, each with where it stands in the list and in the capture.
+    pub fn frames<'a>(&'a self, capture: &Capture) -> impl Iterator<Item = (u64, String, Vec<u8>)> + 'a {
+        self.lines(capture, "frame").map(|(at, line)| match Line::of(&line) {
+            Ok(Line::Frame(place, octets)) => (at, place.to_string(), octets),
             _ => changed(),
         })
     }
 
+    /// The frame that stands here in the list.
+    pub fn frame_at(&self, at: u64) -> Vec<u8> {
+        let mut reader = BufReader::with_capacity(1 << 10, Section { file: &self.file, left: at..u64::MAX });
+        match Line::of(&next_line(&mut reader)) {
+            Ok(Line::Frame(_, octets)) => octets,
+            _ => changed(),
+        }
+    }
+
     /// The KISS packets of a capture, each with where it stands, its octets, and how captures.py read it.
     pub fn packets<'a>(&'a self, capture: &Capture) -> impl Iterator<Item = (String, Vec<u8>, kiss::Read)> + 'a {
-        self.lines(capture, "packet").map(|line| match Line::of(&line) {
+        self.lines(capture, "packet").map(|(_, line)| match Line::of(&line) {
             Ok(Line::Packet(place, octets, read)) => (place.to_string(), octets, read),
             _ => changed(),
         })
@@ -200,7 +215,7 @@ impl List {
 
     /// The octets of a KISS log, in pieces.
     pub fn log<'a>(&'a self, capture: &Capture) -> impl Iterator<Item = Vec<u8>> + 'a {
-        self.lines(capture, "log").map(|line| match Line::of(&line) {
+        self.lines(capture, "log").map(|(_, line)| match Line::of(&line) {
             Ok(Line::Log(octets)) => octets,
             _ => changed(),
         })
@@ -208,16 +223,25 @@ impl List {
 
     /// What was passed over, and why.
     pub fn passed_over<'a>(&'a self, capture: &Capture) -> impl Iterator<Item = String> + 'a {
-        self.lines(capture, "passed over").map(|line| match Line::of(&line) {
+        self.lines(capture, "passed over").map(|(_, line)| match Line::of(&line) {
             Ok(Line::PassedOver(what)) => what.to_string(),
             _ => changed(),
         })
     }
 }
 
+/// The next line with its end, or nothing.
+fn next_line(reader: &mut impl BufRead) -> String {
+    let mut line = String::new();
+    if reader.read_line(&mut line).is_err() {
+        changed();
+    }
+    line
+}
+
 /// Every line was looked at before.
 fn changed() -> ! {
-    crate::refuse("the list of captures was changed while it was read")
+    crate::refuse("the list of captures was changed while it was read, or can't be read any more")
 }
 
 impl Capture {

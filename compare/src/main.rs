@@ -33,6 +33,7 @@ mod texts;
 
 use differences::Differences;
 use list::List;
+use pairs::Desk;
 use progress::Progress;
 use relays::Own;
 use report::Report;
@@ -88,12 +89,13 @@ compare replay-list [N]            about N (5000) lines of the Rust's answers, f
   --seed N       another seed for test
   --only WORDS   only the classes of test with these words in their name
   --of N         say on standard error how many of N frames are compared (frames)
+  --remember N   put frames beside N different ones before them at most (1800000; frames)
 Exit status: 0 no difference but listed ones, 1 some other difference, 2 something could not be read.";
 
 /// The options of each mode that has some.
 const OPTIONS: [(&str, &[&str]); 3] = [
     ("test", &["--json", "--differences", "--seed", "--only"]),
-    ("frames", &["--json", "--differences", "--of"]),
+    ("frames", &["--json", "--differences", "--of", "--remember"]),
     ("bench", &["--json"]),
 ];
 
@@ -104,6 +106,7 @@ struct Options {
     seed: u64,
     only: Option<String>,
     of: Option<u64>,
+    remember: usize,
 }
 
 fn refuse(message: &str) -> ! {
@@ -112,7 +115,7 @@ fn refuse(message: &str) -> ! {
 }
 
 fn options() -> Options {
-    let mut options = Options { words: Vec::new(), json: None, differences: None, seed: 25, only: None, of: None };
+    let mut options = Options { words: Vec::new(), json: None, differences: None, seed: 25, only: None, of: None, remember: Desk::MOST };
     let mut given = Vec::new();
     let mut args = std::env::args_os().skip(1).map(word);
     while let Some(arg) = args.next() {
@@ -123,6 +126,7 @@ fn options() -> Options {
             "--seed" => options.seed = number(&value()),
             "--only" => options.only = Some(value()),
             "--of" => options.of = Some(number(&value())),
+            "--remember" => options.remember = number(&value()) as usize,
             _ => {
                 options.words.push(arg);
                 continue;
@@ -236,7 +240,7 @@ fn main() {
 fn frames(file: Option<&str>, options: &Options) -> ! {
     let report = begun(options);
     let list = List::open(file).unwrap_or_else(|problem| refuse(&problem));
-    let mut report = capture::compare(&list, report);
+    let mut report = capture::compare(&list, options.remember, report);
     leave(&report, &options.json);
     let holds = report.finish();
     if !list.refused.is_empty() {

@@ -9,8 +9,8 @@ use crate::oracle;
 use crate::port::Port;
 use crate::records;
 use crate::rng::Rng;
-use std::collections::HashMap;
-use std::mem::size_of;
+use std::collections::hash_map::{DefaultHasher, HashMap};
+use std::hash::{Hash, Hasher};
 
 /// How the other input was made.
 #[derive(Clone, Copy, PartialEq, Debug)]
@@ -80,44 +80,55 @@ pub const WAYS: [(Way, &str, &[Outcome]); 9] = [
 pub type Each<'a> = &'a mut dyn FnMut(&[u8], &mut dyn Iterator<Item = (Way, Vec<u8>)>);
 
 /// The accepted frames of captures by what the port shows of them, as the radio desk compares them: of those with one frame and info the
-/// first, or a canonical one.
-#[derive(Default)]
+/// first, or a canonical one. There may be millions, so what is remembered is where a frame stands, by a hash of what is shown of it.
 pub struct Desk {
-    frames: HashMap<Shown, Vec<u8>>,
-    /// About how many octets of memory they take.
-    taken: usize,
+    places: HashMap<u64, u64>,
+    /// How many are remembered at most.
+    most: usize,
     /// How many had the frame and info of an earlier one.
     pub again: u64,
     /// How many of these pairs had no canonical one.
     pub neither: u64,
-    /// How many had not, and came when there was no more room for them, so that no later one is put beside them.
+    /// How many had not, and came when no more were remembered, so that no later one is put beside them.
     pub not_remembered: u64,
 }
 
-/// How many octets of memory the desk takes for frames.
-const REMEMBERED: usize = 64_000_000;
+fn hash(shown: &Shown) -> u64 {
+    let mut hasher = DefaultHasher::new();
+    shown.hash(&mut hasher);
+    hasher.finish()
+}
 
 impl Desk {
-    /// The earlier frame with this one's frame and info.
-    pub fn earlier(&mut self, frame: &Both) -> Option<Vec<u8>> {
-        let shown = frame.port.as_ref().ok()?;
-        if let Some(earlier) = self.frames.get_mut(shown) {
-            self.again += 1;
-            let octets = earlier.clone();
-            if frame.canonical {
-                *earlier = frame.octets.clone();
-            }
-            return Some(octets);
-        }
-        // The table may be half empty.
-        let takes = 2 * size_of::<(Shown, Vec<u8>)>() + shown.info.len() + frame.octets.len();
-        if self.taken + takes > REMEMBERED {
+    /// So many the table holds before it would take over 60 MB.
+    pub const MOST: usize = 1_800_000;
+
+    pub fn new(most: usize) -> Desk {
+        Desk { places: HashMap::new(), most, again: 0, neither: 0, not_remembered: 0 }
+    }
+
+    /// Where an earlier frame stands that seems to have the frame and info of this one, which stands here; if there is none, this one is
+    /// remembered.
+    pub fn earlier(&mut self, frame: &Both, at: u64) -> Option<u64> {
+        let number = hash(frame.port.as_ref().ok()?);
+        let earlier = self.places.get(&number).copied();
+        if earlier.is_none() && self.places.len() < self.most {
+            self.places.insert(number, at);
+        } else if earlier.is_none() {
             self.not_remembered += 1;
-        } else {
-            self.taken += takes;
-            self.frames.insert(shown.clone(), frame.octets.clone());
         }
-        None
+        earlier
+    }
+
+    /// Whether the two do have the same frame and info. Two others may have one hash; the later one is then not remembered.
+    pub fn is_again(&mut self, earlier: &Both, frame: &Both, at: u64) -> bool {
+        let again = earlier.agrees(frame);
+        self.again += u64::from(again);
+        self.not_remembered += u64::from(!again);
+        if let (true, true, Ok(shown)) = (again, frame.canonical, &frame.port) {
+            self.places.insert(hash(shown), at);
+        }
+        again
     }
 }
 

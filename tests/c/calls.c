@@ -18,6 +18,10 @@
 /* Document 01's example frame, and its 14 address octets. */
 #define ADDRESS GAUGE "E0 " BOX12 "67 "
 #define FRAME ADDRESS "03 F0 4F 4B"
+/* What such a frame is written anew as, where an octet stands before it: each address begins one octet early, and the last is left over.
+   Neither of the two marks is set then, so it becomes a Command. */
+#define SHIFTED_BY_ONE(octet, content) octet "8E 82 AA 8E 8A C0 E0 84 9E B0 62 64 41 " content
+#define UI "03 F0 4F 4B "
 /* 13 octets of them, which is one too few. */
 #define SHORT GAUGE "E0 84 9E B0 62 64 41 "
 /* The address octets with the repeater HILL1-2, and three of it. */
@@ -32,7 +36,7 @@
 #define BEHIND_NULLS(name, octets, old) {name, octets, 10, old, 0, ""}
 
 /* P1 to P13: what document 01 says of each, and document 02 of P13 (M-105) and of P6 (M-108); then reserved bits, bit 6 first, as
-   document 02 has them (M-106), and nulls (M-108). Worked out by hand. */
+   document 02 has them (M-106), nulls (M-108), and what is left on before and behind a frame, as the header has it. Worked out by hand. */
 static const struct {
     const char *name, *input;
     unsigned number, old, canonical;
@@ -86,6 +90,17 @@ static const struct {
     BEHIND_NULLS("seven nulls before P5, as many as an address has octets", "00 00 00 00 00 00 00 " FRAME, 0),
     BEHIND_NULLS("a null in the place of the first character", "00 82 AA 8E 8A 40 E0 " BOX12 "67 01", 3),
     CANONICAL_FRAME("nulls that are not the first octet", "8E 00 00 00 00 00 E0 00 00 00 00 00 00 61 00 00 00"),
+    CANONICAL_FRAME("left on UI: the check sequence", FRAME " 90 05"),
+    CANONICAL_FRAME("left on UI: the check sequence and the closing flag", FRAME " 90 05 7E"),
+    CANONICAL_FRAME("left on I: the check sequence", ADDRESS "00 F0 4F 4B 5D 20"),
+    OTHER_FRAME("left on RR: the check sequence", ADDRESS "01 F3 AF", ADDRESS "01"),
+    OTHER_FRAME("left on SABM: the check sequence", ADDRESS "3F 0E 77", ADDRESS "3F"),
+    REFUSED_INPUT("left on FRMR: the check sequence", ADDRESS "87 01 02 44 13 82", 8),
+    OTHER_FRAME("left on UI: both flags", "7E " FRAME " 7E", SHIFTED_BY_ONE("7E ", UI "7E")),
+    OTHER_FRAME("left on UI: both flags and the check sequence", "7E " FRAME " 90 05 7E", SHIFTED_BY_ONE("7E ", UI "90 05 7E")),
+    OTHER_FRAME("left on RR: both flags and the check sequence", "7E " ADDRESS "01 F3 AF 7E", SHIFTED_BY_ONE("7E ", "01")),
+    OTHER_FRAME("left on UI: KISS", "C0 00 " FRAME " C0", "C0 00 8E 82 AA 8E 8A 40 E0 84 9E B0 62 65 03 F0 4F 4B C0"),
+    OTHER_FRAME("left on UI: KISS's type octet of port 1", "10 " FRAME, SHIFTED_BY_ONE("10 ", UI)),
 };
 
 static int same_answer(const struct answer *a, const struct answer *b) {
