@@ -66,7 +66,9 @@ def samples():
 
 
 def read_captures(mode, *words, **more):
-    return subprocess.run([sys.executable, '-B', below('compare', 'captures.py'), mode, *words], **more).returncode
+    """The exit status of the reader of captures, by a signal as a shell has it."""
+    status = subprocess.run([sys.executable, '-B', below('compare', 'captures.py'), mode, *words], **more).returncode
+    return status if status >= 0 else 128 - status
 
 
 
