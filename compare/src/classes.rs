@@ -91,10 +91,10 @@ impl Class<'_> {
     /// A frame, which stands here in the list, as the radio desk meets it: beside an earlier one with the same frame and info, of which either may be canonical.
     pub fn at_desk(&mut self, desk: &mut Desk, frame: &[u8], at: u64, list: &List) {
         let frame = self.checker.both(frame);
-        let Some(earlier) = desk.earlier(&frame, at) else {
-            return;
+        let earlier = match desk.earlier(&frame, at) {
+            Some(place) => self.checker.both(&list.frame_at(place)),
+            None => return,
         };
-        let earlier = self.checker.both(&list.frame_at(earlier));
         if !desk.is_again(&earlier, &frame, at) {
             return;
         }

@@ -283,8 +283,9 @@ fn octet(record: &[u8], at: usize) -> u8 {
 /// The faults of writing a layer 3 frame, by their names: 10 for its PID, and a bit changed in the octet before its control, in its
 /// control and in its first info octet.
 fn misspell(frame: &mut [u8], [ten, before, control, info]: [&str; 4]) {
-    let Some(at) = domain::layer_3_at(frame) else {
-        return;
+    let at = match domain::layer_3_at(frame) {
+        Some(at) => at,
+        None => return,
     };
     if is(ten) {
         frame[at] = RUST_LAYER_3;
@@ -381,8 +382,9 @@ unsafe fn has_clear(input: &[u8]) -> bool {
 /// counted from the first nonzero octet.
 fn passed_over(input: &[u8], [first, end]: [&str; 2]) -> Vec<u8> {
     let mut passed = input.to_vec();
-    let Some((start, odd)) = domain::field(input) else {
-        return passed;
+    let (start, odd) = match domain::field(input) {
+        Some(field) => field,
+        None => return passed,
     };
     if is(first) && start % 8 == 7 && input[start] == 1 {
         passed[start] = 0;
@@ -843,8 +845,9 @@ unsafe extern "C" fn __wrap_probe_decode_old(input: *const u8, input_len: usize,
 
 /// The places in an old capture with so many nulls as a faulty entry might give them.
 fn misplace_behind(places: &mut [usize], number: u32, record: &[u8], nulls: usize) {
-    let [start, end, length, info, ..] = places else {
-        return;
+    let (start, end, length, info) = match places {
+        [start, end, length, info, ..] => (start, end, length, info),
+        _ => return,
     };
     match number {
         0 if flat::has_pid(&padded(record)) => *info -= if is("info's start in an old capture is counted from its frame") { nulls } else { 0 },
@@ -888,8 +891,9 @@ fn misread_record(record: &mut [u8], input: &[u8]) {
 
 /// Info's start and length, the last two places, as a faulty reader might give them.
 fn misplace_info(places: &mut [usize], input: &[u8]) {
-    let [.., start, length] = places else {
-        return;
+    let (start, length) = match places {
+        [.., start, length] => (start, length),
+        _ => return,
     };
     if is("decoding leaves out info's first octet") && *length > 0 {
         *start += 1;

@@ -36,8 +36,9 @@ pub fn of_route(frame: &Ax25Frame) -> Vec<Own> {
 /// Each repeater, with some of the spaces that pad it; and what is almost the repeater that is due. An input that is refused as an old
 /// capture too is relayed by one station and one address that is none.
 pub fn around(read: &Result<Ax25Frame, u32>, draw: &mut Rng) -> Vec<Own> {
-    let Ok(frame) = read else {
-        return vec![Own::new(b"RELAY", 0), no_address(flat::station(b"RELAY0\0"), draw.below(3), draw)];
+    let frame = match read {
+        Ok(frame) => frame,
+        Err(_) => return vec![Own::new(b"RELAY", 0), no_address(flat::station(b"RELAY0\0"), draw.below(3), draw)],
     };
     let mut all = of_route(frame);
     for own in &mut all {

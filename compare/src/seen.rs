@@ -661,8 +661,9 @@ impl Seen {
                 cells[rest(nulls, input.len())][one.trailing_zeros() as usize] += 1;
             }
         }
-        let Some((start, end)) = domain::field(input) else {
-            return;
+        let (start, end) = match domain::field(input) {
+            Some(field) => field,
+            None => return,
         };
         if let Some(cell) = self.ends[usize::from(start > 0)].get_mut(end - start) {
             cell[rest(end - start, input.len() - start)] += 1;

@@ -27,9 +27,12 @@ pub fn stretches<'a>(mut pieces: impl Iterator<Item = Vec<u8>> + 'a) -> impl Ite
     let (mut held, mut closed, mut ended) = (Vec::new(), 0, false);
     std::iter::from_fn(move || {
         while !ended {
-            let Some(piece) = pieces.next() else {
-                ended = true;
-                return Some(std::mem::take(&mut held));
+            let piece = match pieces.next() {
+                Some(piece) => piece,
+                None => {
+                    ended = true;
+                    return Some(std::mem::take(&mut held));
+                }
             };
             closed = piece.iter().rposition(|&octet| octet == FEND).map_or(closed, |at| held.len() + at + 1);
             held.extend(piece);
