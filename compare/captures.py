@@ -106,7 +106,8 @@ def compare(program, captures, options):
         listed.flush()
         words = [program, 'frames', f'/dev/fd/{listed.fileno()}', '--of', str(frames)]
         words += [word for option in options.items() for word in option]
-        return subprocess.run(words, pass_fds=[listed.fileno()], check=False).returncode
+        status = subprocess.run(words, pass_fds=[listed.fileno()], check=False).returncode
+        return status if status >= 0 else 128 - status  # ended by a signal, as a shell says it
 
 
 # check
