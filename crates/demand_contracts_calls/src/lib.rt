@@ -6,7 +6,7 @@ ghost use Prim.Native.Nat.{_≤_, _<_};
 ghost use lib.ListN.{length};
 ghost use Rattle.decode.specs.Answer.{numberOf, isAccepted};
 ghost use Rattle.decode.specs.Read.{decode};
-ghost use Rattle.old.specs.Old.{former};
+ghost use Rattle.old_captures.specs.Old.{former};
 ghost use Rattle.spelling.specs.Canonical.{again};
 ghost use Rattle.octets.specs.Table.{FirstRow};
 ghost use Rattle.demands.specs.Numbers.{decodeTable};

@@ -50,7 +50,7 @@ pub fn decoded(bytes: &[u8]) -> Decoded
 pub fn old_capture(capture: &[u8]) -> Decoded
     ensures { λ r. ⌜ OldCapture (now (capture .entry)) r ⌝ }
 {
-    old::from_bytes(capture)
+    old_captures::from_bytes(capture)
 }
 
 // Demand 1: so for the number of writing, and a refusal has length 0 and leaves the buffer as it was. Demand 2: an accepted frame

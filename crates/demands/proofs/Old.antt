@@ -9,8 +9,8 @@ use Rattle.address.specs.Group.{addressOf, markOf}
 use Rattle.parse.specs.Content.{sOf, uiOf, uOf, contentOf}
 use Rattle.frame.specs.Frame.{noEntry, noRoute, simpleUi, defaultFrame}
 use Rattle.decode.specs.Read.{parsedAt, entryAt, placeAt, routeAt, frameAt, refusedWith, acceptedWith, withContent, decodeField, decode}
-use Rattle.old.specs.Old.{decodeOld}
-use Rattle.old.proofs.Laws.{as-before, as-decoded, without-ten}
+use Rattle.old_captures.specs.Old.{decodeOld}
+use Rattle.old_captures.proofs.Laws.{as-before, as-decoded, without-ten}
 use Rattle.demands.specs.Old.{OldCapture, captured, captures, asRead}
 
 pub old-capture : (s : List ℕ) → OldCapture s (decodeOld s)

@@ -11,7 +11,7 @@ use Rattle.decode.specs.Read.{decode}
 use Rattle.decode.specs.declared.Decoded.{Decoded}
 use Rattle.frame.specs.Frame.{defaultFrame}
 use Rattle.frame.specs.declared.Ax25Frame.{Ax25Frame}
-use Rattle.old.specs.Old.{decodeOld, former}
+use Rattle.old_captures.specs.Old.{decodeOld, former}
 use Rattle.demands.specs.Examples.{addresses, whole, with, ui}
 
 -- of a capture s and what was read of it

@@ -8,7 +8,7 @@ ghost use lib.ListN.{length as listLength};
 ghost use Rattle.octets.specs.Splice.{splice};
 ghost use Rattle.decode.specs.Answer.{reportOf};
 ghost use Rattle.decode.specs.Read.{decode};
-ghost use Rattle.old.specs.Old.{decodeOld};
+ghost use Rattle.old_captures.specs.Old.{decodeOld};
 ghost use Rattle.spelling.specs.Canonical.{canonical};
 ghost use Rattle.respelling.specs.Reencode.{due, reencode, reencoded, reportOf as reencodeReport};
 ghost use Rattle.relay.specs.Relay.{relayAnswerAs, relayedAs, reportOf as relayReport};
@@ -32,7 +32,7 @@ pub extern "C" fn ax25_decode(input: &[u8]) -> u32
 pub extern "C" fn ax25_decode_old_capture(input: &[u8]) -> u32
     ensures { λ r. ⌜ r ≡ reportOf (decodeOld (now (input .entry)) .answer) .number ⌝ }
 {
-    let answer = old::answer_of(input);
+    let answer = old_captures::answer_of(input);
     answer.number()
 }
 

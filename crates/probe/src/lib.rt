@@ -13,7 +13,7 @@ ghost use Rattle.printing.specs.Print.{printNumberOf, printed, printedInto};
 ghost use Rattle.decode.specs.Answer.{numberOf};
 ghost use Rattle.frame.specs.Frame.{writeNumber, simpleUi, defaultFrame};
 ghost use Rattle.decode.specs.Read.{decode};
-ghost use Rattle.old.specs.Old.{decodeOld};
+ghost use Rattle.old_captures.specs.Old.{decodeOld};
 ghost use Rattle.frame.specs.Write.{written, octetsWritten};
 ghost use Rattle.parse.specs.Content.{contentOf};
 ghost use Rattle.parse.specs.Content.{numberOf as contentNumber};
@@ -83,7 +83,7 @@ pub extern "C" fn probe_decode_old(input: &[u8], flat: &mut [u8], places: &mut [
     ensures { λ r. ⌜ now (flat .exit) ≡ leavesBy (lacks (now (flat .entry)) 102 || lacks (now (places .entry)) 5) (numberOf (decodeOld (now (input .entry)) .answer)) (now (flat .entry)) (flatOf (decodeOld (now (input .entry)) .frame)) ⌝ }
     ensures { λ r. ⌜ now (places .exit) ≡ leaves (lacks (now (flat .entry)) 102 || lacks (now (places .entry)) 5) (now (places .entry)) (placesOf (decodeOld (now (input .entry)))) ⌝ }
 {
-    put_decoded(old::from_bytes(input), flat, places)
+    put_decoded(old_captures::from_bytes(input), flat, places)
 }
 
 // Writes the frame of a flat record: the number, the octets, and their count.

@@ -3,10 +3,10 @@ use mathlib.Core.Path.{refl, ap}
 use native.Mathlib.Omega.{arith}
 use Rattle.decode.specs.Answer.{reportOf}
 use Rattle.decode.specs.declared.DecodeAnswer.{DecodeAnswer}
-use Rattle.old.proofs.Laws.{told-placeless}
+use Rattle.old_captures.proofs.Laws.{told-placeless}
 use borrow.Author.Needs.{needs}
-use Rattle.old.proofs.moved_answer.Statement.{statement}
-use Rattle.old.proofs.moved_answer.Tie as tie
+use Rattle.old_captures.proofs.moved_answer.Statement.{statement}
+use Rattle.old_captures.proofs.moved_answer.Tie as tie
 
 enum-known-answer : tie.Need-enum-known-answer
 enum-known-answer c = search needs

@@ -6,7 +6,7 @@ ghost use mathlib.Core.Path.{_≡_};
 ghost use Prim.Native.Nat.{_+_, _^_, _≤_, _<_};
 ghost use Rattle.decode.specs.Answer.{reportOf};
 ghost use Rattle.grammar.specs.Moved.{movedAnswer, movedInfo};
-ghost use Rattle.old.specs.Old.{decodeOld};
+ghost use Rattle.old_captures.specs.Old.{decodeOld};
 
 // An answer to what follows the first `nulls` of `len` octets, with its places in the whole.
 fn moved_answer(answer: DecodeAnswer, nulls: usize, len: usize) -> DecodeAnswer

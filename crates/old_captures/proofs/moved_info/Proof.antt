@@ -1,8 +1,8 @@
 -- By the one test.
 use borrow.Author.Tests.{eq-eqb, ne-eqb}
 use borrow.Author.Needs.{needs}
-use Rattle.old.proofs.moved_info.Statement.{statement}
-use Rattle.old.proofs.moved_info.Tie as tie
+use Rattle.old_captures.proofs.moved_info.Statement.{statement}
+use Rattle.old_captures.proofs.moved_info.Tie as tie
 
 returns : tie.Need-returns
 returns c = simp (eq-eqb _ _ (c .if1 .taken))

@@ -22,7 +22,7 @@ use Rattle.grammar.specs.Moved.{movedAnswer, movedInfo}
 use Rattle.grammar.proofs.Moved.{decode-at-start, ten-past, never-ten, moved-number, refused-drop, field-drop, report-inside}
 use Rattle.grammar.proofs.Plain.{inside}
 use Rattle.grammar.proofs.Refused.{refused-parts}
-use Rattle.old.specs.Old.{decodeOld, former}
+use Rattle.old_captures.specs.Old.{decodeOld, former}
 
 -- nothing of the remainder is null at its start
 starts : (s : List ℕ) → startOf (drop (startOf s) s) ≡ 0
