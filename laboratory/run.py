@@ -71,10 +71,8 @@ def read_captures(mode, *words, **more):
     return status if status >= 0 else 128 - status
 
 
-
-
 def is_kit():
-    """The words of tests/tools.sh where the rt on the PATH is none of a Rattle kit."""
+    """The words of tests/tools.sh where the rt on the PATH is none of a Rattle kit, or has another logic than the pinned one."""
     words = ['sh', '-c', 'root=$1; . "$1/tests/tools.sh"; tools_rattle', 'lab', ROOT]
     asked = subprocess.run(words, capture_output=True, stdin=subprocess.DEVNULL)
     if asked.returncode:

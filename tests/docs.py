@@ -166,6 +166,11 @@ def departures():
     named = set(re.findall(r'\b([ABC][1-9]\d?)\b(?=[^\n]*)', ' '.join(re.findall(r'DIFFERENCES\.md[^\n]*', specs))))
     every = set(re.findall(r'^\| ([ABC]\d+) \|', read('docs/DIFFERENCES.md'), re.M))
     check('and the definitions name no other', sorted(named - every))
+    # On a page octets stand between backquotes, but for C0 and its like: A and B are followed by no 0 there.
+    every |= set(re.findall(r'\b(A\d+)(?: was|,) that', read('docs/DIFFERENCES.md')))  # numbers that stay free
+    pages = [path for path in glob.glob('*.md') + glob.glob('docs/*.md') + ['compare/README.md'] if path != 'docs/DIFFERENCES.md']
+    signs = {(sign, path) for path in pages for sign in re.findall(r'\b[AB][1-9]\d?\b', re.sub('`.*?`', '', read(path)))}
+    check(f'each of the {len(signs)} places of pages that cite a departure cites one that is there', [f'{path}: {sign}' for sign, path in sorted(signs) if sign not in every])
 
 
 def opened():
@@ -290,6 +295,23 @@ def rules_cited():
     check(f"each of the header's {len(numbers)} numbers has a row there", lost if numbers else ['there is none'])
 
 
+# The tables of numbers on docs/RULES.md, in their order, and the definitions whose rows they say in words.
+ROWS = (('demands/Numbers', 'decodeTable'), ('demands/Numbers', 'writeTable'), ('demands/Numbers', 'textTable'), ('demands/Numbers', 'printTable'),
+        ('demands/Relay', 'relayRows', 'dueRows'), ('demands_kiss/Kiss', 'kissReadTable'))
+
+
+def rules_ordered():
+    """The numbers stand on docs/RULES.md in the order of the definitions' rows. 0 is no row, and '1 to 10' stands for a table of its own."""
+    shown = [[row[0] for row in table[1:] if row[0].isdigit() and row[0] != '0'] for table in tables(RULES) if table[0][1] == 'given where']
+    wrong = [] if len(shown) == len(ROWS) else [f'{len(shown)} tables, not {len(ROWS)}']
+    for numbers, (file, *names) in zip(shown, ROWS):
+        text = read('crates/{}/specs/{}.antt'.format(*file.split('/')))
+        owed = [number for name in names for number in re.findall(r'\((\d+), ', re.search(rf'^abbrev pub {name} :.*?(?=\n\n|\Z)', text, re.M | re.S)[0])]
+        if numbers != owed or not owed:
+            wrong.append(f"{names[-1]}: {' '.join(numbers)}, not {' '.join(owed)}")
+    check(f"the numbers of its {len(ROWS)} tables stand in the definitions' order", wrong)
+
+
 def octet_values():
     """The octets that docs/RULES.md has of kinds and of PIDs are those of the definitions."""
     control, pid = read('crates/content/specs/Control.antt'), read('crates/protocol/specs/Pid.antt')
@@ -377,7 +399,7 @@ def numbers():
 
 PARTS = (
     contracts, adversary, edits, statements, departures, opened, layers, decisions, figures, rules_named,
-    rules_cited, octet_values, examples, numbers,
+    rules_cited, rules_ordered, octet_values, examples, numbers,
 )
 for part in PARTS:
     part()

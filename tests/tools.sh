@@ -117,14 +117,23 @@ tools_path() { # PROGRAM PACKAGES
 
 # The kit
 
-# Whether there is an `rt` on the PATH, and it is a Rattle kit's: other programs have that name too. Where not, prints why.
+# Whether there is an `rt` on the PATH, it is a Rattle kit's, because other programs have that name too, and its logic is the pinned one,
+# because another logic proves other statements. Where not, prints why.
 tools_rattle() {
     tools_install="install the Rattle kit ($(cat "$root/kit.txt")) and put its bin/ first on the PATH"
     tools_has rt || { printf '%s\n' "there is no 'rt' on the PATH: $tools_install"; return 1; }
     # Whatever it is, it may wait for an answer or for a server.
-    tools_said=$(timeout 30 rt version 2>&1 </dev/null) && case $tools_said in *' logic '[0-9a-f]*) return 0 ;; esac
+    tools_said=$(timeout 30 rt version 2>&1 </dev/null) && case $tools_said in *' logic '[0-9a-f]*) tools_pinned; return ;; esac
     tools_said=$(printf '%s' "$tools_said" | head -n 1 | LC_ALL=C tr -cd '[:print:]' | cut -c 1-100)
     printf '%s\n' "this rt is no Rattle kit, or one that does not work here (it is $(command -v rt); it said: ${tools_said:-nothing}): $tools_install"
+    return 1
+}
+
+# Whether what rt said of itself has the logic that kit.txt pins. Where not, prints why.
+tools_pinned() {
+    tools_pin=$(cat "$root/kit.txt")
+    [ "${tools_said##* logic }" != "${tools_pin##* logic }" ] || return 0
+    printf '%s\n' "the kit's logic is '${tools_said##* logic }', and kit.txt pins '${tools_pin##* logic }': install the kit '${tools_pin%% *}', or prove everything anew under this one and change kit.txt"
     return 1
 }
 

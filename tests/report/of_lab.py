@@ -54,11 +54,20 @@ def checks(lab):
 
 
 def other_rt(lab):
-    other = f'{lab.marks}/bin/rt'
-    write(other, '#!/bin/sh\necho "rt: Unknown command: version"\nexit 1\n', 0o755)
-    status, said = lab.run(PATH=f"{lab.marks}/bin:{os.environ['PATH']}")
-    words = f'this rt is no Rattle kit, or one that does not work here (it is {other}; it said: rt: Unknown command: version)'
-    check('another program called rt is named', status == 2 and words in said and not lab.ran() and not lab.folders(), said)
+    """Refused at once, and what an earlier run left stays."""
+    other, kept = f'{lab.marks}/bin/rt', f'{lab.tree}/dist/kept'
+    write(kept, '')
+    for what, script, words in (
+        ('another program called rt is named', 'echo "rt: Unknown command: version"\nexit 1',
+         f'this rt is no Rattle kit, or one that does not work here (it is {other}; it said: rt: Unknown command: version)'),
+        ('a kit of another logic is named', 'echo "rattle-kit-9 logic 0123456789abcdef"',
+         f"the kit's logic is '0123456789abcdef', and kit.txt pins '{read(f'{ROOT}/kit.txt').split()[-1]}': install the kit "),
+    ):
+        write(other, f'#!/bin/sh\n{script}\n', 0o755)
+        status, said = lab.run(PATH=f"{lab.marks}/bin:{os.environ['PATH']}")
+        refused = status == 2 and f'lab: {words}' in said and not lab.ran() and not lab.folders()
+        check(what, refused and os.path.exists(kept), said)
+    os.remove(kept)
 
 
 def whole_runs(lab):

@@ -1,4 +1,5 @@
--- `from_byte` gives the identifier of the octet: the class first, a name by its octet, else `Unknown`.
+-- `from_byte` gives the identifier of the octet: the class first, a name by its octet, else `Unknown`. One more name is one more line with
+-- `keys`.
 use mathlib.Core.Path.{ap, sym, _∙_}
 use borrow.Author.Needs.{needs}
 use borrow.Author.Tests.{ne-eqb}
@@ -9,10 +10,6 @@ use Rattle.protocol.proofs.ProtocolIdentifier.from_byte.Tie as tie
 class : tie.Need-returns
 unfolding pidOf
 class c = simp (sym (c .before .is-layer3 .ensures), c .if1 .taken)
-
-unknown : tie.Need-returns-16
-unfolding pidOf among
-unknown c = search (ne-eqb, c .match .rest, sym (c .before .before .is-layer3 .ensures) ∙ c .before .if1 .left)
 
 pub from-byte-spec : {M : Type 1} → statement M
 unfolding pidOf among
@@ -35,4 +32,4 @@ from-byte-spec =
     (λ c. ap pidOf (sym (c .match .keys12)))
     (λ c. ap pidOf (sym (c .match .keys13)))
     (λ c. ap pidOf (sym (c .match .keys14)))
-    unknown)
+    (λ c. search (ne-eqb, c .match .rest, sym (c .before .before .is-layer3 .ensures) ∙ c .before .if1 .left)))
