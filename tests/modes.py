@@ -33,7 +33,7 @@ def check(what, problem):
 
 
 def run(*words, given=b'', **more):
-    run_here.add(words[0])
+    run_here.update(words[:1])
     return subprocess.run([compare, *map(str, words)], input=given, capture_output=True, **more)
 
 
@@ -88,8 +88,10 @@ def single_modes():
 
 def refusals():
     for line, *words in [
-        ('usage:', 'nothing-of-the-kind'),
-        ('usage:', 'one'),
+        ('usage:',),
+        ('no mode takes these words: nothing-of-the-kind', 'nothing-of-the-kind'),
+        ('no mode takes these words: one', 'one'),
+        ('there is no option --sed', 'test', '--sed', 3),
         ('3 hex digits: the last octet has only one', 'one', '8E8'),
         ("'X' is no hex digit", 'kiss', 'C0X0'),
         ('an SSID is an octet', 'parts-hex', '424F58', 256),
@@ -105,7 +107,7 @@ def refusals():
         (f'{room}: Is a directory', 'frames', room),
         (f'{room}/none/differences: No such file', 'test', '--differences', room / 'none' / 'differences'),
     ]:
-        ends(f'{shortened(words)} is refused', run(*words), 2, line)
+        ends(f"{shortened(words) or 'no word'} is refused", run(*words), 2, line)
     check('compare --help prints the modes', '' if b'compare one HEX' in run('--help').stdout else 'it does not')
 
 

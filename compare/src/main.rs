@@ -127,6 +127,10 @@ fn options() -> Options {
             "--only" => options.only = Some(value()),
             "--of" => options.of = Some(number(&value())),
             "--remember" => options.remember = number(&value()) as usize,
+            // A text may start with hyphens.
+            _ if arg.starts_with("--") && arg != "--help" && options.words.first().map_or(true, |mode| mode != "text") => {
+                refuse(&format!("there is no option {}: 'compare help' lists them", arg))
+            }
             _ => {
                 options.words.push(arg);
                 continue;
@@ -233,7 +237,8 @@ fn main() {
         ["replay-list"] => replay::list(5000),
         ["replay-list", lines] => replay::list(number(lines) as usize),
         ["help"] | ["-h"] | ["--help"] => println!("{}", USAGE),
-        _ => refuse(&format!("usage:\n{}", USAGE)),
+        [] => refuse(&format!("usage:\n{}", USAGE)),
+        _ => refuse(&format!("no mode takes these words: {}\nusage:\n{}", words.join(" "), USAGE)),
     }
 }
 

@@ -128,8 +128,10 @@ class Lab:
         return done.returncode, done.stderr.decode('utf-8', 'replace')
 
     def begin(self, **more):
-        """A run that hangs in the test."""
-        process = subprocess.Popen(**self.words(standin='hang', **more), stdout=subprocess.PIPE, stderr=subprocess.STDOUT)
+        """A run that hangs in the test. Whoever runs this may ignore signals (nohup, &), which the run is not to inherit here."""
+        words = self.words(standin='hang', **more)
+        words['args'] = ['env', '--default-signal=HUP,INT,TERM', *words['args']]
+        process = subprocess.Popen(**words, stdout=subprocess.PIPE, stderr=subprocess.STDOUT)
         wait_for(lambda: os.path.exists(f'{self.marks}/hangs') or process.poll() is not None)
         return process
 
