@@ -2,15 +2,18 @@
 
    Nine calls on octets that the caller lends: six on frames, two on the KISS packets that carry frames to a modem and back, and
    one on a serial line, which gives such packets in pieces. Each is proved to give exactly the answer that its contract states,
-   for every input, to read and write nothing but what is lent to it, and to return.
+   for every input, to read and write nothing but what is lent to it, and to return. It is a port of the Rust crate ax25 0.4.0, under
+   the licence Apache-2.0: NOTICE, which comes with it, has its text and whose work this is.
 
    What a frame is here: the octets between the flags, from the destination's first to the last of the info, as they are before bits are
    stuffed. It has no flags (7E), no check sequence (FCS) and nothing of KISS. Whoever takes octets off a line removes these first: no
    call can tell what was left on, and most of it is accepted.
    - A flag before the frame is read as the destination's first character, so that every address begins one octet early. A KISS packet's
-     C0 and type octet shift them by two. What can be read so is accepted, as a frame with wrong addresses; it is not canonical, since
-     an octet or two are left over, and ax25_relay looks for our own station in the wrong octets. The type octet alone shifts by one;
-     that of port 0 is AX25_LEADING_NULL_BYTES.
+     C0 and type octet shift them by two. What can be read so is accepted, as a frame with wrong addresses, in which ax25_relay looks
+     for our own station in the wrong octets. If the frame itself was canonical, what is given is not: an octet or two are left over in
+     its address field. The type octet alone shifts by one; that of port 0 is AX25_LEADING_NULL_BYTES.
+   - The escapes of a KISS packet, DB DC for C0 and DB DD for DB, are two octets each where they are left in. In info that is all; in
+     an address DB ends the address field, since its low bit is set.
    - A check sequence, a flag or a C0 behind the frame is more info of an I or UI frame, which is as canonical as it was without.
      Of an FRMR it is AX25_WRONG_SIZE_FRMR_INFO. Of any other kind it is a tail: ignored, dropped by re-encoding, and not canonical.
      ax25_relay leaves it where it is, so that a check sequence no longer fits what was marked.
@@ -22,15 +25,15 @@
      points to one struct that may be read and written. No octet is kept or looked at after the return, and `in`, `callsign` and
      `piece` are never written.
    - No pointer is null. Where a length is 0, any pointer that is not null will do.
-   - What is lent to one call does not overlap, not even in part: `in` and `out`, `callsign` and `frame`, with `in` and `out`
-     also `port` and `length`, and `stream`, `piece` and `packet`.
+   - No two of the things that are lent to one call overlap, not even in part.
    - `length`, `stream` and `packet` are aligned as C aligns a size_t and the structs. No other alignment is asked, and no length is
      too long or too short: whatever can't be read as a frame or as a packet gets a number, or is passed over.
    - The calling convention is that of System V for x86-64: a stack aligned to 16 octets, and SSE2 usable.
 
    What every call leaves alone: there is no heap, no state but what is lent, no input or output and no lock. So any call may run at
    the same time as any other, in another thread or in an interrupt, as long as nobody writes what is lent meanwhile, or reads
-   what that call may write. The archive asks whoever links it for memcpy and memset, and for nothing else.
+   what that call may write. Whoever links the archive gives it memcpy and memset.
+   It asks for nothing else, and this version for memcpy alone.
 
    What an interrupt handler has to know. No call uses x87, MMX or AVX registers; which use SSE registers (xmm), which keep something in
    the red zone, the 128 octets below the stack pointer, and which call memcpy or memset:
@@ -46,11 +49,13 @@
        ax25_kiss_write           yes   no         no
        ax25_kiss_feed            no    yes        no
 
-   - A handler that calls one with SSE first saves the xmm registers of what it interrupted. memcpy and memset are those of whoever
-     links the archive, and may use them too.
+   - A handler that calls one with SSE first saves the xmm registers of what it interrupted, and gives them back before it returns.
+     memcpy and memset are those of whoever links the archive, and may use them too.
    - Where interrupts are served on the stack of what they interrupt, as on a machine without an operating system, they overwrite the
      red zone: keep them out during a call that uses it, or give each a stack of its own (IST). An operating system's signal handlers
-     keep clear of it. */
+     keep clear of it.
+   - The table is of this version. It follows from the code that the compiler makes, so that any other version may have another table:
+     read it again with each. */
 #ifndef AX25_H
 #define AX25_H
 
@@ -167,7 +172,7 @@ size_t ax25_reencoded_length(const uint8_t *in, size_t in_len);
    - drops octets left over between the last whole address and the end of the address field,
    - writes an absent command/response mark (both bits equal) as Command,
    - drops the octets after the control octet of RR, RNR, REJ, SABM, DISC, DM and UA frames,
-   - clears FRMR's unnamed bits.
+   - clears FRMR's unnamed bits: the high four of its first info octet and the low one of its second.
    All else is kept, every PID and the two reserved bits of every address too. A canonical frame has none of these and re-encodes as
    itself. */
 uint32_t ax25_reencode(const uint8_t *in, size_t in_len, uint8_t *out, size_t out_len);
@@ -209,8 +214,8 @@ uint32_t ax25_kiss_read(const uint8_t *in, size_t in_len, uint8_t *out, size_t o
 uint32_t ax25_kiss_write(uint8_t port, const uint8_t *in, size_t in_len, uint8_t *out, size_t out_len, size_t *length);
 
 /* How far a serial line has been read. Its owner keeps one for each line, sets it to zeros before the first octet, and lends it to
-   each call; only calls change it. It may be copied and compared octet by octet: it has no padding and points nowhere, and it is a
-   function of the zeros and of the octets taken since, however they were cut. */
+   each call; only calls change it. It may be copied and compared octet by octet: it has no padding and points nowhere, and what it
+   holds depends on the octets that were taken since it was zeros, and not on how they were cut. */
 struct ax25_kiss_stream {
     uint8_t data[1024]; /* the packet's data, escapes removed: its first `length` octets; the others mean nothing */
     uint16_t length;    /* how many octets of data there are */

@@ -110,8 +110,10 @@ def not_shown(report):
 
 
 def to_sign(report):
-    what = f"{title(report)}, ended {report['ended']}; sources with SHA-256 "
-    signed = Paragraph([what, Code(report['sources']['sha256']), f": {report['verdict']['words']}"])
+    archive = report['delivered'].get('libax25frame.a')
+    built = ['; libax25frame.a with SHA-256 ', Code(archive)] if archive else ['; libax25frame.a was not built']
+    what = [f"{title(report)}, ended {report['ended']}; sources with SHA-256 ", Code(report['sources']['sha256']), *built]
+    signed = Paragraph([*what, f": {report['verdict']['words']}"])
     return [Together([Heading('To sign'), signed, Signatures()])]
 
 

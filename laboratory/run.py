@@ -24,7 +24,7 @@ from command import shown
 from progress import Progress, TestLog
 from verdict import many, some
 
-COMPONENT = 'ax25'
+COMPONENT = 'ax25frame'
 # rt ci removes target/, so the run works beside it. Only a whole report gets a folder with the day's date.
 UNFINISHED = 'lab-unfinished'
 DELIVERED = ('libax25frame.a', 'ax25.h', 'dumper')

@@ -61,7 +61,7 @@ def rust(report):
     if compared['mismatches']:
         wrong.append(UNLISTED + many(compared['mismatches'], 'time'))
     delivered = report['delivered'].get('libax25frame.a')
-    if compared.get('archive', delivered) != delivered:
+    if compared.get('archive') != delivered:
         wrong.append('the archive that was run beside the Rust is not the one in dist/')
     failed = [line for line in report['failed'] if COMPARISON.match(line)]
     if 'the comparison' not in report['passed'] or failed:

@@ -258,6 +258,13 @@ def all_cited(what):
     return {name: path for path, text in citing() for name in what(text)}
 
 
+def enum():
+    """The header's numbers, each with its name; an entry without a number of its own is one of no number."""
+    text = re.search(r'^enum ax25_number \{(.*?)^\};', read('include/ax25.h'), re.M | re.S)[1]
+    entries = [entry.split() for entry in re.sub(r'/\*.*?\*/', '', text, flags=re.S).split(',') if entry.strip()]
+    return [(words[2] if words[1:2] == ['='] and len(words) == 3 else 'no number', words[0]) for words in entries]
+
+
 def rules_named():
     """What docs/RULES.md names of the sources is there, and no file of definitions is left out."""
     named = []
@@ -290,9 +297,8 @@ def rules_cited():
         f'each of the {len(cited)} sections of document 01 that are cited has a section there',
         [f'{name} ({cited[name]})' for name in lost] if cited else ['none is cited'],
     )
-    numbers = re.findall(r'^ +AX25_\w+ = (\d+)', read('include/ax25.h'), re.M)
-    lost = [number for number in numbers if number not in labels]
-    check(f"each of the header's {len(numbers)} numbers has a row there", lost if numbers else ['there is none'])
+    lost = [' '.join(pair) for pair in enum() if pair[0] not in labels]
+    check(f"each of the header's {len(enum())} numbers has a row there", lost if enum() else ['there is none'])
 
 
 # The tables of numbers on docs/RULES.md, in their order, and the definitions whose rows they say in words.
@@ -378,12 +384,11 @@ def check_sequence(octets):
 
 def numbers():
     """docs/NUMBERS.md has each number of the header, and ./look prints what it says of them: so that is plain text."""
-    enum = [(number, name) for name, number in re.findall(r'^ +(AX25_\w+) = (\d+)', read('include/ax25.h'), re.M)]
     page = sections(read('docs/NUMBERS.md'))
     table = rows(page['The numbers'])
     shown = [tuple(row[:2]) for row in table]
-    what = f"docs/NUMBERS.md has the {len(enum)} numbers of the header's enum, each once and by its name"
-    check(what, [' '.join(pair) for pair in sorted(set(enum) ^ set(shown))] or [' '.join(pair) for pair in shown if shown.count(pair) > 1])
+    what = f"docs/NUMBERS.md has the {len(enum())} numbers of the header's enum, each once and by its name"
+    check(what, [' '.join(pair) for pair in sorted(set(enum()) ^ set(shown))] or [' '.join(pair) for pair in shown if shown.count(pair) > 1])
     sentence = re.compile(r'[A-Z][^`*_<>\[\]|]*\.')
     check(
         'and says of each in plain sentences what it means and what to do',

@@ -1,7 +1,7 @@
 #!/usr/bin/env python3
 """What the functions of an x86-64 archive use of the stack and of the registers, read off its disassembly.
 
-usage: stackdepth.py OBJDUMP ARCHIVE [NAME..]
+usage: stackdepth.py OBJDUMP ARCHIVE [NAME..]      OBJDUMP is LLVM's, as the kit has it
 
 Prints a line for each global function, or for those that are named, with what it and its callees in the archive use:
 - its name;

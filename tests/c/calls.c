@@ -101,6 +101,8 @@ static const struct {
     OTHER_FRAME("left on RR: both flags and the check sequence", "7E " ADDRESS "01 F3 AF 7E", SHIFTED_BY_ONE("7E ", "01")),
     OTHER_FRAME("left on UI: KISS", "C0 00 " FRAME " C0", "C0 00 8E 82 AA 8E 8A 40 E0 84 9E B0 62 65 03 F0 4F 4B C0"),
     OTHER_FRAME("left on UI: KISS's type octet of port 1", "10 " FRAME, SHIFTED_BY_ONE("10 ", UI)),
+    CANONICAL_FRAME("left in UI: KISS's escapes of C0 and DB in the info", ADDRESS "03 F0 DB DC DB DD"),
+    REFUSED_INPUT("left in UI: KISS's escape of C0, which is the destination's last octet", "8E 82 AA 8E 8A 40 DB DC 84 9E B0 62 64 40 67 03 F0 4F 4B", 3),
 };
 
 static int same_answer(const struct answer *a, const struct answer *b) {

@@ -42,7 +42,7 @@ SOURCES = {'sha256': 'cd' * 32, 'files': 2, 'commit': 'ef' * 20, 'as_committed':
            'changed_while_running': False}
 CRATE = {'name': 'ax25 0.4.0', 'files': {'src/lib.rs': '12' * 32}, 'as_published': True, 'departs': []}
 RUN = {
-    'component': 'ax25', 'version': '1.0.0', 'began': '2026-01-02 03:04:05+01:00', 'ended': '2026-01-02 03:24:05+01:00',
+    'component': 'ax25frame', 'version': '1.0.0', 'began': '2026-01-02 03:04:05+01:00', 'ended': '2026-01-02 03:24:05+01:00',
     'host': {'name': 'desk', 'machine': 'x86_64', 'processor': 'P', 'processors': 2, 'memory_mb': 4096, 'kernel': 'Linux 6', 'system': 'Debian'},
     'kit': {'version': 'kit logic 01ab', 'pinned': 'kit logic 01ab'},
     'compilers': {'rustc': 'rustc 1', 'c': 'cc 12', 'clang': 'clang 22', 'python': '3.11'},
