@@ -32,6 +32,13 @@ def write(stream, text):
     stream.buffer.write(f'{text}\n'.encode())
 
 
+def open_streams():
+    """A stream that whoever started the program closed leads nowhere, and is no reason to stop."""
+    for name in ('stdout', 'stderr'):
+        if getattr(sys, name) is None:
+            setattr(sys, name, open(os.devnull, 'w', encoding='utf-8'))
+
+
 class Stop(Exception):
     """Why a program ends with status 2, in words."""
 
@@ -45,6 +52,7 @@ def complain(message):
 def run(main, name=''):
     """Runs a program, which puts its name before what it complains of. A signal ends it by an exception, so that what it started ends too; a
     reader that goes away ends it without a word, as it ends other programs."""
+    open_streams()
     for number, status in SIGNALS.items():
         if signal.getsignal(number) != signal.SIG_IGN:
             signal.signal(number, lambda *_, status=status: sys.exit(status))

@@ -8,9 +8,10 @@ import readers
 from command import number
 from readers import CHARACTER, FEND, RAW_LIMIT, Frame, Packet, PassedOver
 
+DUMPED = (8, 16, 20, 24, 30, 32)  # how many octets programs that dump write in a line
 STREAM_LIMIT = 1024  # of the data of a packet that ax25_kiss_feed gives out
 FLAG = b'\x7E'
-ESCAPED_FEND = b'\xDB\xDC'
+ESCAPED_FEND, ESCAPED_FESC = b'\xDB\xDC', b'\xDB\xDD'
 EVEN, ODD = (b'[' + b''.join(b'\\x%02X' % octet for octet in range(low, 256, 2)) + b']' for low in (0, 1))
 # Two to ten addresses of letters, digits and spaces, the last with the bit that ends the field, and an octet behind them.
 CLEAR = re.compile(rb'(?:' + CHARACTER + rb'{6}' + EVEN + rb'){1,9}' + CHARACTER + rb'{6}' + ODD + rb'.', re.DOTALL)
@@ -20,16 +21,18 @@ END = re.compile(ODD)
 # why a packet of a pcap is.
 WORDS = {
     'packet': ('frames', 'with C0 and a KISS type octet in front',
-               'as whole KISS packets have: give the KISS log itself, or take these and the last C0 off'),
+               'as whole KISS packets have: give the KISS log itself, or take these and the last C0 off and undo the escapes'),
+    'bare': ('KISS packets', 'with a frame and no type octet before it', 'put 00 before each; a pcap of bare frames has link type 3'),
     'type': ('frames', 'with a KISS type octet left on in front', 'take it off; a pcap of such frames has link type 202'),
     'nulls': ('frames', 'behind leading nulls',
-              'the decoder refuses such by 10; nulls come from a stuck line driver, and a lone one may be a KISS type octet left on'),
+              'the decoder answers 10 to these; nulls come from a stuck line driver, and a lone one may be a KISS type octet left on'),
     'flags': ('frames', 'with flags (7E) left on', 'take them off, a frame is what stands between them'),
     'check': ('frames', 'with the check sequence left on, as the last two octets', 'take it off, a frame here ends before it'),
-    'long': ('frames', f'of more than {RAW_LIMIT:,} octets', 'the dumper answers such by 50'),
+    'long': ('frames', f'of more than {RAW_LIMIT:,} octets', 'the dumper answers 50 to these'),
     'address': ('frames', 'without an address field that can be read', 'the decoder answers 1, 2, 3, 4 or 9; is this AX.25?'),
-    'framed': ('packets', 'of link type 202 with C0 in front', 'it leaves C0 out: take both C0 off and undo the escapes, or give a KISS log'),
-    'stream': ('KISS packets', f'of more than {STREAM_LIMIT:,} octets of data', 'ax25_kiss_feed drops such'),
+    'framed': ('packets', 'of link type 202 with C0 in front',
+               'packets of that type have neither C0 nor escapes: take both C0 off and undo the escapes, or give a KISS log'),
+    'stream': ('KISS packets', f'of more than {STREAM_LIMIT:,} octets of data', 'ax25_kiss_feed drops these'),
     None: ('packets', 'not captured whole', 'passed over; a snap length cuts them, and tcpdump -s 0 has none'),
     52: ('KISS packets', 'with a DB that is no escape', 'passed over; octets were lost or changed on the line'),
     53: ('KISS packets', 'that no C0 ends', 'passed over; the log is cut there'),
@@ -92,6 +95,7 @@ class Doubts:
         self.met = {}
         self.frames = self.packets = self.passed_over = 0
         self.first = None
+        self.passed = None  # why the packet that comes next is passed over
         self.lengths = set()  # of all frames but the last
         self.last = None
 
@@ -108,15 +112,23 @@ class Doubts:
                 self.meet(found, item.place)
         elif isinstance(item, Packet):
             self.packets += 1
-            if self.form == 'KISS log':
-                found = 'stream' if len(item.data) > STREAM_LIMIT else None
-            else:
-                found = 'framed' if item.octets[1:3] == ESCAPED_FEND else None
-            if found:
+            for found in self.of_packet(item):
                 self.meet(found, item.place)
+            self.passed = None
         elif isinstance(item, PassedOver):
             self.passed_over += 1
-            self.meet(item.number, item.place)
+            if item.number is None:
+                self.meet(None, item.place)
+            self.passed = item.number
+
+    def of_packet(self, item):
+        """What may be wrong with a KISS packet, and why it is passed over."""
+        if CLEAR.match(item.octets[1:].replace(ESCAPED_FEND, FEND).replace(ESCAPED_FESC, b'\xDB')):
+            return ['bare']
+        found = [self.passed] if self.passed is not None else []
+        if self.form == 'KISS log':
+            return found + (['stream'] if len(item.data) > STREAM_LIMIT else [])
+        return found + (['framed'] if item.octets[1:3] == ESCAPED_FEND else [])
 
     def line_length(self, length):
         if self.last is not None and len(self.lengths) < 2:
@@ -126,13 +138,14 @@ class Doubts:
     def is_dump(self):
         """Whether the lines are one dump that was cut into pieces of one length, so that most of them are no frames."""
         refused, _ = self.met.get('address', (0, None))
-        return self.form == 'hex lines' and len(self.lengths) == 1 and self.last <= max(self.lengths) and 2 * refused >= self.frames
+        cut = len(self.lengths) == 1 and max(self.lengths) in DUMPED and self.last <= max(self.lengths)
+        return self.form == 'hex lines' and cut and 2 * refused >= self.frames
 
     def lines(self):
         """In the order in which they were met first, but for those of the whole capture."""
         if self.is_dump():
-            yield (f'every line has {max(self.lengths)} octets, and most are no frames: this looks like a dump that was cut into lines; '
-                   + readers.LINE_BY_LINE)
+            yield (f'every line but the last has {max(self.lengths)} octets, and half of the lines or more are no frames: this looks like a dump '
+                   'that was cut into lines; if they are one frame, put them together (xxd -r -p IN OUT.raw)')
         if self.form == 'raw frame' and self.first.octets[-1:] == b'\n':
             yield "its last octet is a line end (0A), which may be an editor's and not the frame's"
         for found, (count, place) in self.met.items():

@@ -31,10 +31,12 @@ def say(text):
     write(sys.stdout, f'# {text}')
 
 
-def standard_input():
+def standard_input(raw):
     if sys.stdin is None:
         raise Refused('it is closed: name a file')
     if sys.stdin.isatty():
+        if raw:
+            raise Refused('--raw is for a file or a pipe: frames are typed in hex, without --raw')
         complain(HINT)
     with open(sys.stdin.fileno(), 'rb', buffering=0, closefd=False) as pipe:
         file = copied(pipe)
@@ -89,7 +91,7 @@ def main():
     words, status = numbers(), 0
     for path, raw in captures or [(INPUT, False)]:
         try:
-            with standard_input() if path == INPUT else opened(path, pipes=True) as file:
+            with standard_input(raw) if path == INPUT else opened(path, pipes=True) as file:
                 look(file, path, raw, command, words)
         except Refused as why:
             complain(f'look: {NAMELESS if path == INPUT else shown(path)}: {why}')

@@ -1,6 +1,7 @@
 """The readers of captures: each format in a stream, so that a file of any size takes the same memory. What a file is its octets say; what
 can't be told is refused in words, with what to do."""
 import codecs
+import contextlib
 import hashlib
 import io
 import os
@@ -29,35 +30,40 @@ PCAPNG_ORDER = {b'\x1A\x2B\x3C\x4D': '>', b'\x4D\x3C\x2B\x1A': '<'}
 LINKS = {3: 'AX25', 202: 'AX25_KISS'}
 SAVE_AS_PCAP = 'save it as pcap (editcap -F pcap IN OUT)'
 COPY_ANEW = 'copy or capture it anew'
-LINE_BY_LINE = 'write the octets alone, a frame a line (od -An -v -tx1 -w4096 IN)'
+OFFSETS = ('turn it back into octets (one by xxd: xxd -r IN OUT.raw; one by Wireshark, hexdump -C or od -Ax -tx1: text2pcap -l 3 IN OUT; one by '
+           'od -tx1: text2pcap -o oct -l 3 IN OUT), or dump the frame itself without offsets (od -An -v -tx1 -w4096 FRAME)')
+# What stands for a space in text that was copied from a page or a chat.
+SPACES = dict.fromkeys(map(ord, '\u00A0\u2007\u200B\u202F\u2060\uFEFF'), ' ')
 
 # The first octets of files that are no captures for this program, what they are, and what makes one of them.
 FOREIGN = [(re.compile(first, re.DOTALL), kind, turn) for first, kind, turn in [
-    (rb'\x1F\x8B', 'gzip', 'unpack it (gunzip IN)'),
-    (rb'BZh[1-9](1AY&SY|\x17rE8P\x90)', 'bzip2', 'unpack it (bunzip2 IN)'),
-    (rb'\xFD7zXZ\0', 'xz', 'unpack it (unxz IN)'),
-    (rb'\x28\xB5\x2F\xFD', 'zstd', 'unpack it (unzstd IN)'),
+    (rb'\x1F\x8B', 'gzip', 'unpack it (gunzip <IN >OUT)'),
+    (rb'BZh[1-9](1AY&SY|\x17rE8P\x90)', 'bzip2', 'unpack it (bunzip2 <IN >OUT)'),
+    (rb'\xFD7zXZ\0', 'xz', 'unpack it (unxz <IN >OUT)'),
+    (rb'\x28\xB5\x2F\xFD', 'zstd', 'unpack it (unzstd <IN >OUT)'),
     (rb'PK(\x03\x04|\x05\x06)', 'zip', 'unpack it (unzip IN)'),
     (rb'\x34\xCD\xB2\xA1|\xA1\xB2\xCD\x34', 'modified pcap', SAVE_AS_PCAP),
     (rb'snoop\0\0\0', 'snoop', SAVE_AS_PCAP),
     (rb'btsnoop\0', 'btsnoop (Bluetooth)', 'there are no AX.25 frames in it'),
-    (rb'\xFF\xFE\0\0|\0\0\xFE\xFF', 'UTF-32 text', 'turn it (iconv -f UTF-32 -t UTF-8 IN >OUT)'),
-    (rb'\xFF\xFE|\xFE\xFF', 'UTF-16 text', 'turn it (iconv -f UTF-16 -t UTF-8 IN >OUT)'),
-    (rb'([\t\n\r -~]\0\0\0){2}', 'UTF-32 text', 'turn it (iconv -f UTF-32LE -t UTF-8 IN >OUT)'),
-    (rb'(\0\0\0[\t\n\r -~]){2}', 'UTF-32 text', 'turn it (iconv -f UTF-32BE -t UTF-8 IN >OUT)'),
-    (rb'([\t\n\r -~]\0){4}', 'UTF-16 text', 'turn it (iconv -f UTF-16LE -t UTF-8 IN >OUT)'),
-    (rb'(\0[\t\n\r -~]){4}', 'UTF-16 text', 'turn it (iconv -f UTF-16BE -t UTF-8 IN >OUT)'),
-    (rb'(RIFF|RF64).{4}WAVE', 'WAV (sound)', "its frames are to be found first (direwolf's atest -h IN prints them in hex)"),
+    (rb'\xFF\xFE\0\0|\0\0\xFE\xFF', 'UTF-32 text', 'convert it (iconv -f UTF-32 -t UTF-8 IN >OUT)'),
+    (rb'\xFF\xFE|\xFE\xFF', 'UTF-16 text', 'convert it (iconv -f UTF-16 -t UTF-8 IN >OUT)'),
+    (rb'([\t\n\r -~]\0\0\0){2}', 'UTF-32 text', 'convert it (iconv -f UTF-32LE -t UTF-8 IN >OUT)'),
+    (rb'(\0\0\0[\t\n\r -~]){2}', 'UTF-32 text', 'convert it (iconv -f UTF-32BE -t UTF-8 IN >OUT)'),
+    (rb'([\t\n\r -~]\0){4}', 'UTF-16 text', 'convert it (iconv -f UTF-16LE -t UTF-8 IN >OUT)'),
+    (rb'(\0[\t\n\r -~]){4}', 'UTF-16 text', 'convert it (iconv -f UTF-16BE -t UTF-8 IN >OUT)'),
+    (rb'(RIFF|RF64).{4}WAVE', 'WAV (sound)', "its frames are to be found first (by direwolf's and Wireshark's programs: "
+     "atest -h IN | grep -aE '^ +[0-9a-f]{3}: ' | text2pcap -q -l 3 - OUT)"),
     (rb'\x7FELF', 'ELF (a program)', 'there are no frames in it'),
 ]]
 
 # Text whose first line is no hex: what such a line looks like, what it is, and what to do.
 TEXTS = [(re.compile(line), kind, turn) for line, kind, turn in [
-    (r'\s*(0x)?0{4,}[:\s]\s*[0-9A-Fa-f]{2,}\s', 'a dump with offsets', LINE_BY_LINE),
-    (r'.*?(0x|\\x)[0-9A-Fa-f]{2}|\s*[0-9A-Fa-f]{2}\s*[:;,.-]\s*[0-9A-Fa-f]{2}\b', 'hex with signs before or between the octets',
-     'write the digits alone, a frame a line, with spaces or without'),
-    (r'.*?[0-9A-Za-z]{1,6}(-\d+)?>[0-9A-Za-z]{1,6}(-\d+)?[,:]', "a monitor's text",
+    (r'\s*(0x)?0{4,}[:\s]\s*[0-9A-Fa-f]{2,}\s', 'a dump with offsets', OFFSETS),
+    (r'.*?[0-9A-Za-z]{1,6}(-\d+)?>[0-9A-Za-z]{1,6}(-\d+)?[,:]|.*?\bfm \S+ to \S+ ', "a monitor's text",
      'the octets are not in it: record them in hex, as KISS or as pcap'),
+    # A time or a date has two such signs.
+    (r'.*?((0x|\\x)[0-9A-Fa-f]{2}[\s,;]*){4}|\s*([0-9A-Fa-f]{2}\s*[:;,.-]\s*){4}', 'hex with signs before or between the octets',
+     'write the digits alone, a frame a line, with spaces or without'),
     (r'', 'plain text', "a capture in text has each frame's octets in hex, a frame a line"),
 ]]
 
@@ -209,7 +215,7 @@ def hex_line(line):
             return bytes.fromhex(line)
         except ValueError:
             pass  # Why is said below; most lines are pairs of digits, and quick.
-    text = line.partition('#')[0]
+    text = line.partition('#')[0].translate(SPACES)
     if NO_TEXT.search(line):
         raise Refused('this is no text in UTF-8')
     strange = re.search('[^0-9A-Fa-f \t\n]', text)
@@ -217,7 +223,7 @@ def hex_line(line):
         raise Unclear(f'{strange[0]!r} is no hex digit')
     words = text.split()
     if has_offset(words):
-        raise Refused(f'{words[0]} is the offset of a dump: {LINE_BY_LINE}')
+        raise Refused(f'{words[0]} is the offset of a dump: {OFFSETS}')
     digits = ''.join(words)
     if len(digits) % 2 == 1:
         raise Refused(f'{len(digits)} hex digits: the last octet has only one, so a digit is missing or one too many')
@@ -251,15 +257,16 @@ def hex_lines(stream):
 # pcap and pcapng
 
 
-def pcap_comes_out(head, order, header):
-    """Whether a pcap can be read with packet headers of this length, as far as the octets go."""
-    at = 24
+def packets_by(head, order, header):
+    """How many packets a pcap has as far as the octets go, if it can be read to its end with packet headers of this length; else none."""
+    at, packets = 24, 0
     while at + header <= len(head):
         length, whole = struct.unpack_from(order + 'II', head, at + 8)
         if length > PACKET_LIMIT or whole < length:
-            return False
+            return 0
         at += header + length
-    return at == len(head) or len(head) >= HEAD
+        packets += 1
+    return packets if at == len(head) or len(head) >= HEAD else 0
 
 
 def pcap_header(head, form):
@@ -267,16 +274,19 @@ def pcap_header(head, form):
     if len(head) < 24:
         raise Refused(f'{form}: the file ends inside its header: {24 - len(head)} of its 24 octets are missing: {COPY_ANEW}')
     order = PCAP[head[:4]]
-    # The upper half may say that frames carry a check sequence, which is no part of a frame here.
+    # Above its 26 bits one says whether the upper four count the octets, by two, of the frames' check sequences: no part of a frame here.
     link, = struct.unpack_from(order + 'I', head, 20)
-    more, link = link >> 16, link & 0xFFFF
+    more, link = link >> 26, link & 0x03FFFFFF
     if link not in LINKS:
         read = ' and '.join(f'{number} ({name})' for number, name in LINKS.items())
         raise Refused(f'{form} of link type {link}: only {read} are read, which AX.25 interfaces have')
-    if more:
-        raise Refused(f'{form} of link type {link}: its frames carry a check sequence (upper half {more:04X}): save them without it')
-    if not pcap_comes_out(head, order, 16) and pcap_comes_out(head, order, 20):
-        raise Refused(f"Nokia's pcap, whose packet headers have four octets more, is not read: {SAVE_AS_PCAP}")
+    if more & 1 and more >> 2:
+        raise Refused(f'{form} of link type {link}: its frames carry a check sequence of {2 * (more >> 2)} octets: save them without it')
+    nokia = packets_by(head, order, 20)
+    if nokia and not packets_by(head, order, 16):
+        # A file that was cut four octets behind its first packet looks the same.
+        cut = '' if nokia > 1 else f'; or the file ends inside the header of packet 2: {COPY_ANEW}'
+        raise Refused(f"Nokia's pcap, whose packet headers have four octets more, is not read: {SAVE_AS_PCAP}{cut}")
     return order, link
 
 
@@ -359,16 +369,19 @@ def pcapng(stream):
         for _ in pcapng_blocks(stream):
             pass  # One that is cut or damaged is said to be that, whether there is an editcap or not.
         raise Refused(f"pcapng is not read without Wireshark's editcap: {SAVE_AS_PCAP}") from None
-    with editcap:
-        try:
-            for octets in pcapng_blocks(stream):
-                editcap.stdin.write(octets)
+    try:
+        for octets in pcapng_blocks(stream):
+            editcap.stdin.write(octets)
+    except BrokenPipeError:
+        pass  # It ended, and says why.
+    except BaseException:
+        editcap.kill()
+        raise
+    finally:
+        # What it did not take is still to be written, and can't be.
+        with contextlib.suppress(BrokenPipeError):
             editcap.stdin.close()
-        except BrokenPipeError:
-            pass
-        except BaseException:
-            editcap.kill()
-            raise
+        editcap.wait()
     made.seek(0)
     said.seek(0)
     words = ' '.join(said.read(1000).decode('utf-8', 'replace').split())
@@ -458,7 +471,7 @@ class Capture:
     def __init__(self, file, name, raw=False, lone=False):
         self.digested = Digested(file)
         self.stream = io.BufferedReader(self.digested, HEAD)
-        self.raw, self.named_raw = raw, name.lower().endswith(RAW_NAMES)
+        self.form, self.raw, self.named_raw = None, raw, name.lower().endswith(RAW_NAMES)
         head = head_of(self.stream)
         if not head:
             raise Refused('the file is empty')
@@ -468,7 +481,7 @@ class Capture:
         except Refused as why:
             raise self.with_hint(why) from None
         if told is None and not (raw or self.named_raw or lone and len(head) <= RAW_LIMIT):
-            raise Refused('no pcap, pcapng, KISS log (which starts with C0) or lines of hex (in UTF-8); '
+            raise Refused('this is no pcap, no pcapng, no KISS log (which starts with C0) and no lines of hex (in UTF-8); '
                           f"if it is one raw frame: --raw FILE, or a name that ends in {', '.join(RAW_NAMES)}")
         self.form, self.held = told or ('raw frame', raw_frame(self.stream))
 
@@ -476,7 +489,7 @@ class Capture:
         hint = ''
         if self.raw:
             hint = f'; its octets say {self.looks_like}, so leave --raw out' if self.looks_like else ''
-        elif self.named_raw or isinstance(why, Unclear):
+        elif self.form != 'raw frame' and (self.named_raw or isinstance(why, Unclear)):
             hint = '; if it is one raw frame: --raw FILE'
         return Refused(f'{why}{hint}')
 

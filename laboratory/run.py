@@ -1,7 +1,6 @@
 """The laboratory's run. ./lab starts it and says what it does."""
 import datetime
 import glob
-import itertools
 import os
 import re
 import shutil
@@ -20,7 +19,7 @@ import host
 import processes
 import report
 import sources
-from command import shown
+from command import open_streams, shown
 from progress import Progress, TestLog
 from verdict import many, some
 
@@ -28,8 +27,10 @@ COMPONENT = 'ax25frame'
 # rt ci removes target/, so the run works beside it. Only a whole report gets a folder with the day's date.
 UNFINISHED = 'lab-unfinished'
 DELIVERED = ('libax25frame.a', 'ax25.h', 'dumper')
-# What the report takes from outside its folder. It is removed before anything is run, so that it is of this run or not there.
-TAKEN = ('dist', 'target/compare')
+# What the report takes from outside its folder: dist/, which an earlier build may have left, and which is put back where the run does not
+# come to its end, and this folder. Neither is there when the test begins, so that what is taken is of this run.
+TAKEN = 'target/compare'
+ASIDE = 'dist-before'
 SAMPLES = ('*.pcap', '*.kiss', '*.hex', '*.raw')
 # How many octets of what was read from the captures are kept beside the report. It can be read again from the captures.
 LONGEST_LIST = 100_000_000
@@ -48,7 +49,8 @@ def arguments(words):
     check, named, left = False, [], iter(words)
     for word in left:
         if word == '--':
-            return check, [*named, word, *left]
+            files = list(left)
+            return check, [*named, word, *files] if files else named
         if word == '--check':
             check = True
             continue
@@ -57,7 +59,10 @@ def arguments(words):
             raise Refused(f'no option {shown(word)}; {there}')
         named.append(word)
         if word == '--raw':
-            named += list(itertools.islice(left, 1))
+            file = next(left, None)
+            if file is None:
+                raise Refused('--raw wants a file')
+            named.append(file)
     return check, named
 
 
@@ -106,6 +111,9 @@ class Run:
     def __init__(self, words, given, lock):
         self.words, self.given, self.lock = words, given, lock
         self.folder = below(UNFINISHED)
+        # Of the commands that are run: one that is stopped may leave something there. Where rt is root, nobody runs programs below it.
+        self.scratch = tempfile.mkdtemp(prefix='ax25-lab-')
+        os.chmod(self.scratch, 0o711)
         self.progress = Progress()
         self.began = now()
 
@@ -114,7 +122,9 @@ class Run:
 
     def begun(self, words, log, **more):
         """A command of the run, in a session of its own, so that an interruption reaches it from here alone."""
-        return subprocess.Popen(words, cwd=ROOT, stdin=subprocess.DEVNULL, stdout=log, start_new_session=True, pass_fds=(self.lock,), **more)
+        environment = {**os.environ, 'TMPDIR': self.scratch}
+        return subprocess.Popen(words, cwd=ROOT, stdin=subprocess.DEVNULL, stdout=log, start_new_session=True, pass_fds=(self.lock,),
+                                env=environment, **more)
 
     def prepare(self, checked):
         if os.path.lexists(self.folder):
@@ -131,8 +141,16 @@ class Run:
         with open(self.left('frames.txt'), 'wb') as file:
             if read_captures('read', *self.words, stdout=file):
                 raise Refused('the captures can no longer be read')
-        for path in TAKEN:
-            remove(below(path))
+        remove(below(TAKEN))
+        if os.path.lexists(below('dist')):
+            os.rename(below('dist'), self.left(ASIDE))
+
+    def put_back(self):
+        """Leaves the tree as it was found, but for target/, after a run that did not come to its end."""
+        if os.path.lexists(self.left(ASIDE)):
+            remove(below('dist'))
+            os.rename(self.left(ASIDE), below('dist'))
+        shutil.rmtree(self.folder, ignore_errors=True)
 
     def warn(self):
         """What will keep the report from holding is said before the wait."""
@@ -208,6 +226,7 @@ class Run:
         report.write(self.folder, made)
         if os.path.getsize(self.left('frames.txt')) > LONGEST_LIST:
             os.remove(self.left('frames.txt'))
+        remove(self.left(ASIDE))
         processes.ignore_signals()
         day, n = time.strftime('%Y-%m-%d'), 1
         while os.path.lexists(below(name := f'lab-{day}' + (f'-{n}' if n > 1 else ''))):
@@ -244,9 +263,11 @@ def whole_run(words):
         except (processes.Interrupted, Refused, OSError):
             processes.ignore_signals()
             if not processes.stop_all():
-                shutil.rmtree(run.folder, ignore_errors=True)
+                run.put_back()
             run.progress.clear()
             raise
+        finally:
+            shutil.rmtree(run.scratch, ignore_errors=True)
 
 
 def tell(text):
@@ -258,6 +279,7 @@ def tell(text):
 
 
 def main():
+    open_streams()
     for stream in (sys.stdout, sys.stderr):
         # Names and words are in UTF-8, whatever the host's language is.
         stream.reconfigure(encoding='utf-8', errors='replace')

@@ -49,6 +49,12 @@ def checks(lab):
     for words in (['--josn', 'x'], ['--check', '--json', 'x'], ['-x']):
         status, said = lab.run(*words)
         check(f"{' '.join(words)} is refused", status == 2 and 'lab: no option -' in said and not lab.ran(), said)
+    status, said = lab.run('--check', '--raw')
+    check('--raw without a file is refused', status == 2 and said == 'lab: --raw wants a file\n', said)
+    status, said = lab.run('--check', '--help')
+    check('--help behind another option', status == 0 and 'usage: ./lab ' in said, said)
+    status, said = lab.run('--check', '--')
+    check('-- alone names no file, so that the samples are read', status == 0 and 'frames.hex' in said, said)
     equal('where nobody reads what it says, it ends without a word', (*lab.run_unread(), lab.ran(), lab.folders()), (141, '', False, []))
     check('all of this within seconds', time.monotonic() - began < 40, time.monotonic() - began)
 
@@ -121,14 +127,18 @@ def whole_run(lab):
 
 
 def interruptions(lab):
+    built = f'{lab.tree}/dist/built'
+    write(built, '')
     for number in (signal.SIGINT, signal.SIGTERM, signal.SIGHUP):
         process = lab.begin()
+        check(f'{number.name}: while it runs, dist/ of an earlier build is not there', not os.path.exists(built))
         process.send_signal(number)
         said = process.communicate(timeout=60)[0].decode()
         told = process.returncode == 128 + number and said.count('interrupted') == 1
         check(f'{number.name}: it says so, and keeps nothing', told and not lab.folders(), f'{process.returncode} {said} {lab.folders()}')
-        tidy = not os.path.exists(f'{lab.marks}/scratch')
-        check(f'{number.name}: nothing goes on, and the test has tidied up', not lab.alive() and tidy, lab.alive())
+        left = os.listdir(f'{lab.marks}/tmp') + [name for name in ('scratch',) if os.path.exists(f'{lab.marks}/{name}')]
+        check(f'{number.name}: nothing goes on, and nothing is left of what the test made', not lab.alive() and not left, (lab.alive(), left))
+        check(f'{number.name}: dist/ of an earlier build is put back', os.path.exists(built))
         lab.forget()
 
     busy = 'another ./lab runs in this tree'

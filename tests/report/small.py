@@ -22,6 +22,7 @@ hang)
     trap 'rm -f "$MARKS/scratch"' EXIT
     trap 'exit 143' TERM
     echo >"$MARKS/scratch"
+    mktemp >/dev/null
     sleep 600 & echo $! >>"$MARKS/ran"
     (setsid sleep 600 & echo $! >>"$MARKS/ran")
     echo 'rt: one proved (1 s)'
@@ -108,11 +109,13 @@ class Lab:
 
     def __init__(self, work, name):
         self.tree, self.marks = small_tree(f'{work}/{name}'), f'{work}/{name}-marks'
+        os.makedirs(f'{self.marks}/tmp')
         for file, part in (('compared', COMPARED), ('on-captures', ON_CAPTURES), ('bench', BENCH)):
             write(f'{self.marks}/{file}.json', json.dumps(part))
 
     def words(self, *words, standin='', **environment):
-        return {'args': ['./lab', *words], 'cwd': self.tree, 'env': {**ENVIRONMENT, 'MARKS': self.marks, 'STANDIN': standin, **environment}}
+        return {'args': ['./lab', *words], 'cwd': self.tree, 'env': {
+            **ENVIRONMENT, 'MARKS': self.marks, 'STANDIN': standin, 'TMPDIR': f'{self.marks}/tmp', **environment}}
 
     def run(self, *words, **more):
         """The exit status and what was printed."""
