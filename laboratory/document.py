@@ -196,54 +196,54 @@ def listed(report):
 
 
 def relays(part):
-    return (f"{part['relayed_routes']} frames with a route were relayed by each of their repeaters: {part['relays']} relays, "
-            f"{part['relayed']} of them passed on.")
+    return (f"{many(part['relayed_routes'], 'frame')} with a route relayed by each of their repeaters: {many(part['relays'], 'relay')}, "
+            f"{part['relayed']:,} of them passed on.")
 
 
 def packets(part):
     numbers = part['packet_numbers']
-    refused = [f', {count} refused by {number}' for number, count in numbers.items() if number != '0' and count]
-    return f"{sum(numbers.values())} KISS packets were read: {numbers['0']} accepted" + ''.join(refused) + '.'
+    refused = [f', {count:,} refused by {number}' for number, count in numbers.items() if number != '0' and count]
+    return f"{many(sum(numbers.values()), 'KISS packet')} read: {numbers['0']:,} accepted" + ''.join(refused) + '.'
 
 
 def streams(part):
     counts = part['kiss_streams']
-    return (f"{counts['streams']} KISS streams of {counts['octets']} octets were read in pieces: {counts['packets']} packets given out, "
-            f"{counts['dropped']} dropped.")
+    return (f"{many(counts['streams'], 'KISS stream')} of {many(counts['octets'], 'octet')} read in pieces: "
+            f"{many(counts['packets'], 'packet')} given out, {counts['dropped']:,} dropped.")
 
 
 def pairs(part):
     """How the frames stand to what they are re-encoded as, and to one another (document 02, M-107)."""
-    again, met = (', '.join(f'{name}: {count}' for name, count in part['pairs'][way].items()) or 'none'
+    again, met = (', '.join(f'{name}: {count:,}' for name, count in part['pairs'][way].items()) or 'none'
                   for way in ('re-encoded as that', 'met with the same frame and info'))
     forgotten = part.get('not_remembered')
-    rest = f' {forgotten} frames were beside earlier ones, but not remembered for later ones.' if forgotten else ''
-    return (f"Beside what it is re-encoded as each accepted frame is: {again}. {part['frames_again']} frames have the frame and info of an "
-            f"earlier one, which for {part['neither_canonical']} of them is no more canonical than they are; beside the canonical one of the "
-            f'two the other is: {met}.{rest}')
+    rest = f" {many(forgotten, 'frame')} put beside earlier ones, but not remembered for later ones." if forgotten else ''
+    return (f"Beside what it is re-encoded as each accepted frame is: {again}. {many(part['frames_again'], 'frame')} met with the frame and info "
+            f"of an earlier one, which for {part['neither_canonical']:,} of them is no more canonical than they are; beside the canonical one of "
+            f'the two the other is: {met}.{rest}')
 
 
 def nulls(part):
     """How many frames a stuck line driver may have spoilt, and that both readers were held to what they owe these (document 02, M-108)."""
     frames = sum(capture['frames'] for capture in part['captures'])
     if part['leading_nulls'] == 0:
-        return f'None of {frames} frames had leading nulls.'
+        return f'None of {frames:,} frames had leading nulls.'
     if part['mismatches']:
         outcome = 'what the decoder and the entry for old captures make of them was compared, and something above differs'
     else:
         outcome = 'the decoder refuses them by 10, and the entry for old captures answers as the Rust does, but for the listed differences'
-    return f"{part['leading_nulls']} of {frames} frames had leading nulls: {outcome}."
+    return f"{part['leading_nulls']:,} of {frames:,} frames had leading nulls: {outcome}."
 
 
 def rooms(part):
-    return 'Room lent to writers: ' + ', '.join(f'{name} {count} times' for name, count in part['rooms'].items()) + '.'
+    return 'Room lent to writers: ' + ', '.join(f"{name} {many(count, 'time')}" for name, count in part['rooms'].items()) + '.'
 
 
 def capture_row(capture):
     name = Code(capture['file'])
     if 'refused' in capture:
         return [name, 'refused', '', '', '', '', '', '']
-    return [name, capture['format'], f"{capture['octets']:,}", capture['frames'], capture['packets'], capture['passed_over'],
+    return [name, capture['format'], *(f'{capture[count]:,}' for count in ('octets', 'frames', 'packets', 'passed_over')),
             Code(capture['sha256']), len(capture['doubts']) or 'none']
 
 
@@ -262,8 +262,9 @@ def captures(report):
     out += [Paragraph('What is doubtful in them:'), Items(doubts)] if doubts else []
     if part is None:
         return out + [Paragraph('Not compared.')]
-    said = [f"{part['decodes']} decodes and {part['writes']} writes compared; {part['accepted']} accepted, {part['canonical']} of them canonical."]
-    return out + [Paragraph(' '.join(said + [of(part) for of in (nulls, relays, pairs, packets, streams, rooms)]))]
+    said = [f"{many(part['decodes'], 'decode')} and {many(part['writes'], 'write')} compared: {part['accepted']:,} accepted, "
+            f"{part['canonical']:,} of them canonical."]
+    return out + [Paragraph('What came of them:'), Items(said + [of(part) for of in (nulls, relays, pairs, packets, streams, rooms)])]
 
 
 def compared(report):
@@ -271,9 +272,10 @@ def compared(report):
     out = [Heading('The Rust beside the port')]
     if part is None:
         return out + [Paragraph('Not compared.')]
-    said = [f"{part['decodes']} decodes, {part['writes']} writes and {part['relays']} relays compared, {part['relayed']} of the relays passed on."]
+    said = [f"{part['decodes']:,} decodes, {part['writes']:,} writes and {part['relays']:,} relays compared, {part['relayed']:,} of the relays "
+            'passed on.']
     said += [of(part) for of in (packets, streams, rooms)]
-    return out + [Paragraph(' '.join(said)), Paragraph(f"The {len(part['classes'])} classes of inputs stand in the first appendix.")]
+    return out + [Items(said), Paragraph(f"The {len(part['classes'])} classes of inputs stand in the first appendix.")]
 
 
 def proved(report):
@@ -296,7 +298,7 @@ def checks(count):
 def appendices(report):
     found = []
     if report['compared']:
-        rows = [(line['name'], line['inputs'], line['mismatches']) for line in report['compared']['classes']]
+        rows = [(line['name'], f"{line['inputs']:,}", f"{line['mismatches']:,}") for line in report['compared']['classes']]
         found.append(('the classes of the comparison', [Table(['class', 'inputs', 'mismatches'], rows)]))
     if report['ratios']:
         rows = [(ratio['input'], ratio['call'], f"{ratio['ratio']:.1f}") for ratio in report['ratios']]
