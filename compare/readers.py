@@ -274,7 +274,8 @@ def pcap_header(head, form):
     if len(head) < 24:
         raise Refused(f'{form}: the file ends inside its header: {24 - len(head)} of its 24 octets are missing: {COPY_ANEW}')
     order = PCAP[head[:4]]
-    # Above its 26 bits one says whether the upper four count the octets, by two, of the frames' check sequences: no part of a frame here.
+    # Above the link type's 26 bits one bit says whether the top four count the words, of two octets, of a check sequence behind each frame,
+    # which is no part of a frame here.
     link, = struct.unpack_from(order + 'I', head, 20)
     more, link = link >> 26, link & 0x03FFFFFF
     if link not in LINKS:
