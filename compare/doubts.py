@@ -6,12 +6,12 @@ import re
 
 import readers
 from command import number
-from readers import CHARACTER, FEND, RAW_LIMIT, Frame, Packet, PassedOver
+from readers import CHARACTER, FEND, RAW_LIMIT, Frame, Packet, PassedOver, unescaped
 
-DUMPED = (8, 16, 20, 24, 30, 32)  # how many octets programs that dump write in a line
+DUMPED = (8, 16, 24, 30, 32)  # how many octets programs that dump write in a line
 STREAM_LIMIT = 1024  # of the data of a packet that ax25_kiss_feed gives out
 FLAG = b'\x7E'
-ESCAPED_FEND, ESCAPED_FESC = b'\xDB\xDC', b'\xDB\xDD'
+ESCAPED_FEND = b'\xDB\xDC'
 EVEN, ODD = (b'[' + b''.join(b'\\x%02X' % octet for octet in range(low, 256, 2)) + b']' for low in (0, 1))
 # Two to ten addresses of letters, digits and spaces, the last with the bit that ends the field, and an octet behind them.
 CLEAR = re.compile(rb'(?:' + CHARACTER + rb'{6}' + EVEN + rb'){1,9}' + CHARACTER + rb'{6}' + ODD + rb'.', re.DOTALL)
@@ -95,7 +95,6 @@ class Doubts:
         self.met = {}
         self.frames = self.packets = self.passed_over = 0
         self.first = None
-        self.passed = None  # why the packet that comes next is passed over
         self.lengths = set()  # of all frames but the last
         self.last = None
 
@@ -114,18 +113,16 @@ class Doubts:
             self.packets += 1
             for found in self.of_packet(item):
                 self.meet(found, item.place)
-            self.passed = None
         elif isinstance(item, PassedOver):
             self.passed_over += 1
             if item.number is None:
-                self.meet(None, item.place)
-            self.passed = item.number
+                self.meet(None, item.place)  # Of a KISS packet the number tells, which comes next.
 
     def of_packet(self, item):
         """What may be wrong with a KISS packet, and why it is passed over."""
-        if CLEAR.match(item.octets[1:].replace(ESCAPED_FEND, FEND).replace(ESCAPED_FESC, b'\xDB')):
+        if CLEAR.match(unescaped(item.octets[1:])):
             return ['bare']
-        found = [self.passed] if self.passed is not None else []
+        found = [item.number] if item.number else []
         if self.form == 'KISS log':
             return found + (['stream'] if len(item.data) > STREAM_LIMIT else [])
         return found + (['framed'] if item.octets[1:3] == ESCAPED_FEND else [])
@@ -136,7 +133,7 @@ class Doubts:
         self.last = length
 
     def is_dump(self):
-        """Whether the lines are one dump that was cut into pieces of one length, so that most of them are no frames."""
+        """Whether the lines are one dump that was cut into pieces of one length, so that half of them or more are no frames."""
         refused, _ = self.met.get('address', (0, None))
         cut = len(self.lengths) == 1 and max(self.lengths) in DUMPED and self.last <= max(self.lengths)
         return self.form == 'hex lines' and cut and 2 * refused >= self.frames

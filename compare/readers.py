@@ -140,7 +140,7 @@ def kiss_frame(inside, closed):
     good, octets = inside, inside
     if b'\xDB' in inside:
         good = WELL_ESCAPED.match(inside)[0]
-        octets = good.replace(b'\xDB\xDC', FEND).replace(b'\xDB\xDD', b'\xDB')
+        octets = unescaped(good)
     if octets and octets[0] & 0x0F:
         raise NoFrame(54, f'KISS command {octets[0]:02X}, no data')
     if octets and octets[0] >> 4 >= PORTS:
@@ -187,6 +187,10 @@ def not_too_long(at, inside):
 
 def escaped(octets):
     return octets.replace(b'\xDB', b'\xDB\xDD').replace(FEND, b'\xDB\xDC')
+
+
+def unescaped(octets):
+    return octets.replace(b'\xDB\xDC', FEND).replace(b'\xDB\xDD', b'\xDB')
 
 
 # Lines of hex

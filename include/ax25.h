@@ -3,7 +3,7 @@
    Nine calls on octets that the caller lends: six on frames, two on the KISS packets that carry frames to a modem and back, and
    one on a serial line, which gives such packets in pieces. Each is proved to give exactly the answer that its contract states,
    for every input, to read and write nothing but what is lent to it, and to return. It is a port of the Rust crate ax25 0.4.0, under
-   the licence Apache-2.0: NOTICE, which comes with it, has its text and whose work this is.
+   the licence Apache-2.0: the file NOTICE has its text, and says whose work this is.
 
    What a frame is here: the octets between the flags, from the destination's first to the last of the info, as they are before bits are
    stuffed. It has no flags (7E), no check sequence (FCS) and nothing of KISS. Whoever takes octets off a line removes these first: no

@@ -115,7 +115,7 @@ class Run:
         self.scratch = tempfile.mkdtemp(prefix='ax25-lab-')
         os.chmod(self.scratch, 0o711)
         self.progress = Progress()
-        self.began = now()
+        self.began, self.testing = now(), False
 
     def left(self, name):
         return os.path.join(self.folder, name)
@@ -147,8 +147,10 @@ class Run:
 
     def put_back(self):
         """Leaves the tree as it was found, but for target/, after a run that did not come to its end."""
-        if os.path.lexists(self.left(ASIDE)):
+        aside = os.path.lexists(self.left(ASIDE))
+        if aside or self.testing:
             remove(below('dist'))
+        if aside:
             os.rename(self.left(ASIDE), below('dist'))
         shutil.rmtree(self.folder, ignore_errors=True)
 
@@ -165,6 +167,7 @@ class Run:
     def test(self):
         log = TestLog(ROOT, self.left('test.log'))
         self.progress.step(f'1 of 4: proving and testing the sources: {usual_time()}. The log grows in {UNFINISHED}/test.log')
+        self.testing = True
         with open(log.path, 'wb') as file:
             process = self.begun(['./test'], file, stderr=subprocess.STDOUT)
         running = True

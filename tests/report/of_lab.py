@@ -2,6 +2,7 @@
 import os
 import pty
 import re
+import shutil
 import signal
 import time
 
@@ -127,18 +128,20 @@ def whole_run(lab):
 
 
 def interruptions(lab):
-    built = f'{lab.tree}/dist/built'
-    write(built, '')
-    for number in (signal.SIGINT, signal.SIGTERM, signal.SIGHUP):
+    dist = f'{lab.tree}/dist'
+    for number, before in ((signal.SIGINT, ['built']), (signal.SIGTERM, ['built']), (signal.SIGHUP, [])):
+        shutil.rmtree(dist)
+        for name in before:
+            write(f'{dist}/{name}', '')
         process = lab.begin()
-        check(f'{number.name}: while it runs, dist/ of an earlier build is not there', not os.path.exists(built))
+        equal(f'{number.name}: while it runs, dist/ is its own', os.listdir(dist), ['made'])
         process.send_signal(number)
         said = process.communicate(timeout=60)[0].decode()
         told = process.returncode == 128 + number and said.count('interrupted') == 1
         check(f'{number.name}: it says so, and keeps nothing', told and not lab.folders(), f'{process.returncode} {said} {lab.folders()}')
-        left = os.listdir(f'{lab.marks}/tmp') + [name for name in ('scratch',) if os.path.exists(f'{lab.marks}/{name}')]
+        left = os.listdir(f'{lab.marks}/tmp') + ['scratch'] * os.path.exists(f'{lab.marks}/scratch')
         check(f'{number.name}: nothing goes on, and nothing is left of what the test made', not lab.alive() and not left, (lab.alive(), left))
-        check(f'{number.name}: dist/ of an earlier build is put back', os.path.exists(built))
+        equal(f"{number.name}: dist/ is as it was before the run: {before or 'not there'}", os.listdir(dist) if os.path.exists(dist) else [], before)
         lab.forget()
 
     busy = 'another ./lab runs in this tree'

@@ -23,6 +23,7 @@ hang)
     trap 'exit 143' TERM
     echo >"$MARKS/scratch"
     mktemp >/dev/null
+    mkdir dist && echo >dist/made
     sleep 600 & echo $! >>"$MARKS/ran"
     (setsid sleep 600 & echo $! >>"$MARKS/ran")
     echo 'rt: one proved (1 s)'
