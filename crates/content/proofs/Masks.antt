@@ -5,11 +5,12 @@ use mathlib.Core.Bool.{Bool, true, false, cond, not}
 use native.Mathlib.Omega.{arith}
 use lib.Dec.{eqb, eqb→eq}
 use lib.Bits.{bitAnd, bitOr, and-mask, or-shifted}
-use Rattle.octets.specs.Octet.{flag}
+use Rattle.octets.specs.Octet.{field, flag}
 use Rattle.octets.proofs.Bits.{field-mask, low-mask, bit-test}
 use Rattle.octets.proofs.Octet.{octet-same, bits-always}
 use Rattle.content.specs.Control.{receiveOf, sendOf, pollOf, sKind, uKind}
-use Rattle.content.specs.Spell.{numbered, sent, unnumbered}
+use Rattle.content.specs.Spell.{numbered, received, sent, unnumbered}
+use Rattle.content.specs.declared.Mode.the-variants.{Short, Long}
 
 pub receive-mask : (c : ℕ) → bitAnd c 0xE0 / 32 ≡ receiveOf c
 receive-mask c = field-mask c 5 3
@@ -25,6 +26,9 @@ s-mask c = low-mask c 4
 
 pub u-mask : (c : ℕ) → c < 256 → bitAnd c 0xEF ≡ uKind c
 u-mask c h = octet-same (λ n. bitAnd n 0xEF) uKind tt c h
+
+pub seven-shift : (c : ℕ) → c < 256 → field 1 7 c ≡ c / 2
+seven-shift c h = omega arith
 
 -- bits 5 to 7, bit 4, and the low four
 pub numbered-or : (receive : ℕ) (on : Bool) (low : ℕ)
@@ -42,11 +46,26 @@ numbered-or receive on low =
         let f : receive % 8 * 2 ^ 5 + 0 ≡ (receive % 8 * 2) * 2 ^ 4 = omega arith in
         rw (e, or-shifted (receive % 8) 5 0 (omega arith), f, or-shifted (receive % 8 * 2) 4 (low % 16) (omega arith)) (omega arith)
 
-pub sent-shift : (send : ℕ) → bitAnd send 7 * 2 % 256 ≡ sent send
-sent-shift send = rw (and-mask send 3) (omega arith)
+-- N(R) above the bit 0
+pub received-or : (receive : ℕ) (on : Bool) → bitOr (bitAnd receive 127 * 2 % 256) (cond on 1 0) ≡ received receive on
+received-or receive on = rw (and-mask receive 7) (joined on)
+  where
+    joined : (on : Bool) → bitOr (receive % 128 * 2 % 256) (cond on 1 0) ≡ received receive on
+    joined true =
+        let e : receive % 128 * 2 % 256 ≡ receive % 128 * 2 ^ 1 = omega arith in
+        rw (e, or-shifted (receive % 128) 1 1 (omega arith)) (omega arith)
+    joined false =
+        let e : receive % 128 * 2 % 256 ≡ receive % 128 * 2 ^ 1 = omega arith in
+        rw (e, or-shifted (receive % 128) 1 0 (omega arith)) (omega arith)
 
--- N(S) at its place leaves the bits above the low four zero
-pub sent-low : (send : ℕ) → sent send % 16 ≡ sent send
+pub sent-short : (send : ℕ) → bitAnd send 7 * 2 % 256 ≡ sent Short send
+sent-short send = rw (and-mask send 3) (omega arith)
+
+pub sent-long : (send : ℕ) → bitAnd send 127 * 2 % 256 ≡ sent Long send
+sent-long send = rw (and-mask send 7) (omega arith)
+
+-- N(S) modulo 8 at its place leaves the bits above the low four zero
+pub sent-low : (send : ℕ) → sent Short send % 16 ≡ sent Short send
 sent-low send = omega arith
 
 pub unnumbered-or : (kind : ℕ) → kind < 256 → (on : Bool) → bitOr (bitAnd kind 0xEF) (cond on 16 0) ≡ unnumbered (uKind kind) on

@@ -1,3 +1,4 @@
+pub mod Mode
 pub mod Control
 pub mod Spell
 pub mod Encode

@@ -1,9 +1,17 @@
 // The content of a frame, which is everything after the address field: its kinds, and writing them. The crate `parse` reads them.
 use protocol::ProtocolIdentifier;
 ghost use mathlib.Core.Path.{_≡_};
+ghost use Rattle.content.specs.Mode.{modeOf, controls};
 ghost use Rattle.content.specs.Encode.{encodeNumber};
 
 mod writing; // writing.rt: from a kind and its info to octets
+
+// How the sequence numbers of I and S frames are counted: modulo 8, in one control octet, or modulo 128, in two. A frame does not tell
+// which; the caller knows it.
+pub enum Mode {
+    Short,
+    Long,
+}
 
 // Indicates whether a given frame is a Command or a Response.
 pub enum CommandResponse {
@@ -37,8 +45,19 @@ pub struct Reject {
     pub poll_or_final: bool,
 }
 
+// SREJ Supervisory (S) frame
+pub struct SelectiveReject {
+    pub receive_sequence: u8,
+    pub poll_or_final: bool,
+}
+
 // SABM Unnumbered (U) frame
 pub struct SetAsynchronousBalancedMode {
+    pub poll: bool,
+}
+
+// SABME Unnumbered (U) frame
+pub struct SetAsynchronousBalancedModeExtended {
     pub poll: bool,
 }
 
@@ -81,18 +100,32 @@ pub struct UnnumberedInformation {
     pub poll_or_final: bool,
 }
 
+// XID Unnumbered (U) frame
+pub struct ExchangeIdentification {
+    pub poll_or_final: bool,
+}
+
+// TEST Unnumbered (U) frame
+pub struct Test {
+    pub poll_or_final: bool,
+}
+
 // The body of the frame after the end of the address field. Info is no part of it: reading reports its place, writing is lent it.
 pub enum FrameContent {
     Information(Information),
     ReceiveReady(ReceiveReady),
     ReceiveNotReady(ReceiveNotReady),
     Reject(Reject),
+    SelectiveReject(SelectiveReject),
     SetAsynchronousBalancedMode(SetAsynchronousBalancedMode),
+    SetAsynchronousBalancedModeExtended(SetAsynchronousBalancedModeExtended),
     Disconnect(Disconnect),
     DisconnectedMode(DisconnectedMode),
     UnnumberedAcknowledge(UnnumberedAcknowledge),
     FrameReject(FrameReject),
     UnnumberedInformation(UnnumberedInformation),
+    ExchangeIdentification(ExchangeIdentification),
+    Test(Test),
     // Content that is written as the lent octets alone. Reading never gives it.
     UnknownContent,
 }
@@ -100,6 +133,7 @@ pub enum FrameContent {
 // What writing content gives.
 pub enum EncodeAnswer {
     Written,
+    FrameRejectInLongMode,
     InfoNotAllowed,
     PidOutsideClass,
     NoRoom,
@@ -110,12 +144,32 @@ pub struct ContentWritten {
     pub length: usize,
 }
 
+impl Mode {
+    // The mode by its number: 0 is the short one, any other the long one.
+    pub fn of_number(number: u32) -> Mode
+        ensures { λ r. ⌜ r ≡ modeOf number ⌝ }
+    {
+        if number == 0 { Mode::Short } else { Mode::Long }
+    }
+
+    // How many control octets an I or S frame has.
+    pub fn controls(self) -> usize
+        ensures { λ r. ⌜ r ≡ controls self ⌝ }
+    {
+        match self {
+            Mode::Short => 1,
+            Mode::Long => 2,
+        }
+    }
+}
+
 impl EncodeAnswer {
     pub fn number(self) -> u32
         ensures { λ r. ⌜ r ≡ encodeNumber self ⌝ }
     {
         match self {
             EncodeAnswer::Written => 0,
+            EncodeAnswer::FrameRejectInLongMode => 11,
             EncodeAnswer::InfoNotAllowed => 23,
             EncodeAnswer::PidOutsideClass => 25,
             EncodeAnswer::NoRoom => 24,

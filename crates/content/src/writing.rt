@@ -4,14 +4,16 @@ use super::ContentWritten;
 use super::EncodeAnswer;
 use super::FrameContent;
 use super::FrameReject;
+use super::Mode;
 ghost use mathlib.Core.Path.{_≡_};
 ghost use mathlib.Core.Bool.{cond};
+ghost use mathlib.Core.List.{[], _∷_, _++_};
 ghost use Prim.Native.Nat.{_%_};
 ghost use lib.ListN.{length};
 ghost use Rattle.octets.specs.Splice.{splice};
 ghost use Rattle.content.specs.Control.{uKind};
-ghost use Rattle.content.specs.Spell.{hasInfo, numbered, sent, unnumbered, flags, isResponse, front};
-ghost use Rattle.content.specs.Encode.{strayInfo, strayPid, lacksRoom, encodeOf, encoded, four};
+ghost use Rattle.content.specs.Spell.{hasInfo, hasPid, numbered, received, sent, sequenced, unnumbered, flags, isResponse, front};
+ghost use Rattle.content.specs.Encode.{isFrameReject, longFrmr, strayInfo, strayPid, lacksRoom, encodeOf, encoded, four};
 
 fn bit_if(on: bool, value: u8) -> u8
     ensures { λ r. ⌜ r ≡ cond on value 0 ⌝ }
@@ -26,11 +28,42 @@ fn numbered(receive: u8, on: bool, low: u8) -> u8
     ((receive & 0b0000_0111) << 5) | bit_if(on, 1 << 4) | (low & 0b0000_1111)
 }
 
-// N(S) in bits 1 to 3.
-fn sent(send: u8) -> u8
-    ensures { λ r. ⌜ r ≡ sent send ⌝ }
+// N(R) in bits 1 to 7, the bit 0.
+fn received(receive: u8, on: bool) -> u8
+    ensures { λ r. ⌜ r ≡ received receive on ⌝ }
 {
-    (send & 0b0000_0111) << 1
+    ((receive & 0b0111_1111) << 1) | bit_if(on, 1)
+}
+
+// N(S) from bit 1 on.
+fn sent(mode: Mode, send: u8) -> u8
+    ensures { λ r. ⌜ r ≡ sent mode send ⌝ }
+{
+    match mode {
+        Mode::Short => (send & 0b0000_0111) << 1,
+        Mode::Long => (send & 0b0111_1111) << 1,
+    }
+}
+
+// The octets before the info of an I frame, zeros after them.
+fn i_front(mode: Mode, receive: u8, on: bool, send: u8, pid: u8) -> [u8; 4]
+    ensures { λ r. ⌜ r ≡ four (sequenced mode receive on (sent mode send) ++ (pid ∷ [])) ⌝ }
+{
+    let low = sent(mode, send);
+    match mode {
+        Mode::Short => [numbered(receive, on, low), pid, 0, 0],
+        Mode::Long => [low, received(receive, on), pid, 0],
+    }
+}
+
+// The control field of an S frame whose type is the low four bits of `kind`, zeros after it.
+fn s_front(mode: Mode, receive: u8, on: bool, kind: u8) -> [u8; 4]
+    ensures { λ r. ⌜ r ≡ four (sequenced mode receive on (kind % 16)) ⌝ }
+{
+    match mode {
+        Mode::Short => [numbered(receive, on, kind), 0, 0, 0],
+        Mode::Long => [kind & 0b0000_1111, received(receive, on), 0, 0],
+    }
 }
 
 // The kind's bits with the bit 4.
@@ -58,14 +91,18 @@ impl FrameReject {
 
     // The four octets of an FRMR.
     fn front(self) -> [u8; 4]
-        ensures { λ r. ⌜ r ≡ front (FrameContent.FrameReject self) ⌝ }
+        ensures { λ r. ⌜ r ≡ front Mode.Short (FrameContent.FrameReject self) ⌝ }
     {
         let command_response = self.command_response;
         let response = is_response(command_response);
         [
             unnumbered(0b1000_0111, self.final_bit),
             self.flags(),
-            numbered(self.receive_sequence, response, sent(self.send_sequence)),
+            numbered(
+                self.receive_sequence,
+                response,
+                sent(Mode::Short, self.send_sequence),
+            ),
             self.rejected_control_field_raw,
         ]
     }
@@ -80,75 +117,92 @@ impl FrameContent {
             FrameContent::ReceiveReady(_) => false,
             FrameContent::ReceiveNotReady(_) => false,
             FrameContent::Reject(_) => false,
+            FrameContent::SelectiveReject(_) => false,
             FrameContent::SetAsynchronousBalancedMode(_) => false,
+            FrameContent::SetAsynchronousBalancedModeExtended(_) => false,
             FrameContent::Disconnect(_) => false,
             FrameContent::DisconnectedMode(_) => false,
             FrameContent::UnnumberedAcknowledge(_) => false,
             FrameContent::FrameReject(_) => false,
             FrameContent::UnnumberedInformation(_) => true,
+            FrameContent::ExchangeIdentification(_) => true,
+            FrameContent::Test(_) => true,
             FrameContent::UnknownContent => true,
         }
     }
 
-    // How many octets stand before the info.
-    pub fn front_len(self) -> usize
-        ensures { λ r. ⌜ r ≡ length (front self) ⌝ }
+    pub fn has_pid(self) -> bool
+        ensures { λ r. ⌜ r ≡ hasPid self ⌝ }
     {
         match self {
-            FrameContent::Information(_) => 2,
-            FrameContent::ReceiveReady(_) => 1,
-            FrameContent::ReceiveNotReady(_) => 1,
-            FrameContent::Reject(_) => 1,
+            FrameContent::Information(_) => true,
+            FrameContent::ReceiveReady(_) => false,
+            FrameContent::ReceiveNotReady(_) => false,
+            FrameContent::Reject(_) => false,
+            FrameContent::SelectiveReject(_) => false,
+            FrameContent::SetAsynchronousBalancedMode(_) => false,
+            FrameContent::SetAsynchronousBalancedModeExtended(_) => false,
+            FrameContent::Disconnect(_) => false,
+            FrameContent::DisconnectedMode(_) => false,
+            FrameContent::UnnumberedAcknowledge(_) => false,
+            FrameContent::FrameReject(_) => false,
+            FrameContent::UnnumberedInformation(_) => true,
+            FrameContent::ExchangeIdentification(_) => false,
+            FrameContent::Test(_) => false,
+            FrameContent::UnknownContent => false,
+        }
+    }
+
+    // How many octets stand before the info.
+    pub fn front_len(self, mode: Mode) -> usize
+        ensures { λ r. ⌜ r ≡ length (front mode self) ⌝ }
+    {
+        match self {
+            FrameContent::Information(_) => mode.controls() + 1,
+            FrameContent::ReceiveReady(_) => mode.controls(),
+            FrameContent::ReceiveNotReady(_) => mode.controls(),
+            FrameContent::Reject(_) => mode.controls(),
+            FrameContent::SelectiveReject(_) => mode.controls(),
             FrameContent::SetAsynchronousBalancedMode(_) => 1,
+            FrameContent::SetAsynchronousBalancedModeExtended(_) => 1,
             FrameContent::Disconnect(_) => 1,
             FrameContent::DisconnectedMode(_) => 1,
             FrameContent::UnnumberedAcknowledge(_) => 1,
             FrameContent::FrameReject(_) => 4,
             FrameContent::UnnumberedInformation(_) => 2,
+            FrameContent::ExchangeIdentification(_) => 1,
+            FrameContent::Test(_) => 1,
             FrameContent::UnknownContent => 0,
         }
     }
 
     // The octets before the info, zeros after them.
-    pub fn front(self) -> [u8; 4]
-        ensures { λ r. ⌜ r ≡ four (front self) ⌝ }
+    pub fn front(self, mode: Mode) -> [u8; 4]
+        ensures { λ r. ⌜ r ≡ four (front mode self) ⌝ }
     {
         match self {
             FrameContent::Information(i) => {
                 let pid = i.pid;
-                [
-                    numbered(i.receive_sequence, i.poll, sent(i.send_sequence)),
-                    pid.to_byte(),
-                    0,
-                    0,
-                ]
+                let octet = pid.to_byte();
+                i_front(mode, i.receive_sequence, i.poll, i.send_sequence, octet)
             }
             FrameContent::ReceiveReady(rr) => {
-                [
-                    numbered(rr.receive_sequence, rr.poll_or_final, 0b0000_0001),
-                    0,
-                    0,
-                    0,
-                ]
+                s_front(mode, rr.receive_sequence, rr.poll_or_final, 0b0000_0001)
             }
             FrameContent::ReceiveNotReady(rnr) => {
-                [
-                    numbered(rnr.receive_sequence, rnr.poll_or_final, 0b0000_0101),
-                    0,
-                    0,
-                    0,
-                ]
+                s_front(mode, rnr.receive_sequence, rnr.poll_or_final, 0b0000_0101)
             }
             FrameContent::Reject(rej) => {
-                [
-                    numbered(rej.receive_sequence, rej.poll_or_final, 0b0000_1001),
-                    0,
-                    0,
-                    0,
-                ]
+                s_front(mode, rej.receive_sequence, rej.poll_or_final, 0b0000_1001)
+            }
+            FrameContent::SelectiveReject(srej) => {
+                s_front(mode, srej.receive_sequence, srej.poll_or_final, 0b0000_1101)
             }
             FrameContent::SetAsynchronousBalancedMode(sabm) => {
                 [unnumbered(0b0010_1111, sabm.poll), 0, 0, 0]
+            }
+            FrameContent::SetAsynchronousBalancedModeExtended(sabme) => {
+                [unnumbered(0b0110_1111, sabme.poll), 0, 0, 0]
             }
             FrameContent::Disconnect(disc) => [unnumbered(0b0100_0011, disc.poll), 0, 0, 0],
             FrameContent::DisconnectedMode(dm) => [unnumbered(0b0000_1111, dm.final_bit), 0, 0, 0],
@@ -165,7 +219,43 @@ impl FrameContent {
                     0,
                 ]
             }
+            FrameContent::ExchangeIdentification(xid) => {
+                [unnumbered(0b1010_1111, xid.poll_or_final), 0, 0, 0]
+            }
+            FrameContent::Test(test) => [unnumbered(0b1110_0011, test.poll_or_final), 0, 0, 0],
             FrameContent::UnknownContent => [0, 0, 0, 0],
+        }
+    }
+
+    fn is_frame_reject(self) -> bool
+        ensures { λ r. ⌜ r ≡ isFrameReject self ⌝ }
+    {
+        match self {
+            FrameContent::Information(_) => false,
+            FrameContent::ReceiveReady(_) => false,
+            FrameContent::ReceiveNotReady(_) => false,
+            FrameContent::Reject(_) => false,
+            FrameContent::SelectiveReject(_) => false,
+            FrameContent::SetAsynchronousBalancedMode(_) => false,
+            FrameContent::SetAsynchronousBalancedModeExtended(_) => false,
+            FrameContent::Disconnect(_) => false,
+            FrameContent::DisconnectedMode(_) => false,
+            FrameContent::UnnumberedAcknowledge(_) => false,
+            FrameContent::FrameReject(_) => true,
+            FrameContent::UnnumberedInformation(_) => false,
+            FrameContent::ExchangeIdentification(_) => false,
+            FrameContent::Test(_) => false,
+            FrameContent::UnknownContent => false,
+        }
+    }
+
+    // FRMR in the long mode, which has none.
+    pub fn long_frmr(self, mode: Mode) -> bool
+        ensures { λ r. ⌜ r ≡ longFrmr mode self ⌝ }
+    {
+        match mode {
+            Mode::Short => false,
+            Mode::Long => self.is_frame_reject(),
         }
     }
 
@@ -197,10 +287,10 @@ impl FrameContent {
     }
 
     // Too little room for the content with info of this length. The sum of the lengths might not fit a usize, so none is made.
-    fn lacks_room(self, carried: usize, room: usize) -> bool
-        ensures { λ r. ⌜ r ≡ lacksRoom self carried room ⌝ }
+    fn lacks_room(self, mode: Mode, carried: usize, room: usize) -> bool
+        ensures { λ r. ⌜ r ≡ lacksRoom mode self carried room ⌝ }
     {
-        let n = self.front_len();
+        let n = self.front_len(mode);
         if room < n {
             return true;
         }
@@ -208,12 +298,12 @@ impl FrameContent {
     }
 
     // The octets before the info, from the start of `out` on.
-    fn put_front(self, out: &mut [u8]) -> usize
-        ensures { λ r. ⌜ r ≡ length (front self) ⌝ }
-        ensures { λ r. ⌜ now (out .exit) ≡ splice (now (out .entry)) 0 (front self) ⌝ }
+    fn put_front(self, mode: Mode, out: &mut [u8]) -> usize
+        ensures { λ r. ⌜ r ≡ length (front mode self) ⌝ }
+        ensures { λ r. ⌜ now (out .exit) ≡ splice (now (out .entry)) 0 (front mode self) ⌝ }
     {
-        let n = self.front_len();
-        let octets = self.front();
+        let n = self.front_len(mode);
+        let octets = self.front(mode);
         // The usual lengths by their own stores: quicker than a copy whose length is not known.
         if n == 2 {
             lent_buffer::put(out, 0, &octets[..2]);
@@ -226,10 +316,16 @@ impl FrameContent {
     }
 
     // The content's octets, then the lent info, from the start of `out` on. A refusal writes nothing.
-    pub fn encode(self, info: &[u8], out: &mut [u8]) -> ContentWritten
-        ensures { λ r. ⌜ r ≡ encodeOf self (length (now (info .entry))) (length (now (out .entry))) ⌝ }
-        ensures { λ r. ⌜ now (out .exit) ≡ splice (now (out .entry)) 0 (encoded self (now (info .entry)) (length (now (out .entry)))) ⌝ }
+    pub fn encode(self, mode: Mode, info: &[u8], out: &mut [u8]) -> ContentWritten
+        ensures { λ r. ⌜ r ≡ encodeOf mode self (length (now (info .entry))) (length (now (out .entry))) ⌝ }
+        ensures { λ r. ⌜ now (out .exit) ≡ splice (now (out .entry)) 0 (encoded mode self (now (info .entry)) (length (now (out .entry)))) ⌝ }
     {
+        if self.long_frmr(mode) {
+            return ContentWritten {
+                answer: EncodeAnswer::FrameRejectInLongMode,
+                length: 0,
+            };
+        }
         if self.stray_info(info.len()) {
             return ContentWritten {
                 answer: EncodeAnswer::InfoNotAllowed,
@@ -242,13 +338,13 @@ impl FrameContent {
                 length: 0,
             };
         }
-        if self.lacks_room(info.len(), out.len()) {
+        if self.lacks_room(mode, info.len(), out.len()) {
             return ContentWritten {
                 answer: EncodeAnswer::NoRoom,
                 length: 0,
             };
         }
-        let n = self.put_front(out);
+        let n = self.put_front(mode, out);
         lent_buffer::put(out, n, info);
         ContentWritten {
             answer: EncodeAnswer::Written,

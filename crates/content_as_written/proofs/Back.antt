@@ -1,8 +1,8 @@
 -- Octets that writing put together, taken apart again: each field is back, and the tests go the kind's way.
 use Prim.Native.Nat.{ℕ, _+_, _%_, _<_}
-use mathlib.Core.Path.{_≡_, refl, _∙_}
+use mathlib.Core.Path.{_≡_, refl, ap, _∙_}
 use mathlib.Core.Bool.{Bool, true, false, cond, Bool·beq}
-use mathlib.Core.List.{List, _∷_}
+use mathlib.Core.List.{List, [], _∷_, _++_}
 use native.Mathlib.Omega.{arith}
 use borrow.Author.Tests.{eq-eqb, ne-eqb, le-ltb}
 use lib.Dec.{T, eqb, ltb, ltb→lt}
@@ -10,9 +10,12 @@ use lib.ListN.{length}
 use Rattle.octets.specs.Octet.{field, bit, flag}
 use Rattle.octets.proofs.Octet.{bits-always}
 use Rattle.protocol.specs.Pid.{pidOf}
-use Rattle.content.specs.Control.{rr, rnr, rej, sabm, disc, dm, ua, frmr, ui, receiveOf, sendOf, pollOf, sKind}
-use Rattle.parse.specs.Content.{iOf, sOf, uiOf, frmrOf, uOf, contentOf, responseOf}
-use Rattle.content.specs.Spell.{numbered, sent, unnumbered, isResponse, front, PlainContent}
+use Rattle.content.specs.Mode.{limit}
+use Rattle.content.specs.Control.{sabm, sabme, disc, dm, ua, frmr, ui, xid, test, receiveOf, sendOf, pollOf, sKind}
+use Rattle.parse.specs.Content.{iOf, sKindOf, sOf, uiOf, frmrOf, uOf, contentOf, responseOf}
+use Rattle.content.specs.Spell.{numbered, received, sent, sequenced, unnumbered, isResponse, front, PlainContent}
+use Rattle.content.specs.declared.Mode.{Mode}
+use Rattle.content.specs.declared.Mode.the-variants.{Short, Long}
 use Rattle.content.specs.declared.CommandResponse.{CommandResponse}
 use Rattle.content.specs.declared.CommandResponse.the-variants.{Command, Response}
 use Rattle.content.specs.declared.FrameReject.{FrameReject}
@@ -33,101 +36,126 @@ module _ (n m : ℕ) (l : m < 16) where
   poll-back true = eq-eqb (field 4 1 (numbered n true m)) 1 (omega arith)
   poll-back false = ne-eqb (field 4 1 (numbered n false m)) 1 (λ e. omega arith)
 
--- a list with an element is not empty, and one with two has room for a PID
+-- and of the second octet of a long control field
+module _ (n : ℕ) (h : n < 128) where
+  pub received-back : (p : Bool) → field 1 7 (received n p) ≡ n
+  received-back true = omega arith
+  received-back false = omega arith
+
+  pub final-back : (p : Bool) → bit 0 (received n p) ≡ p
+  final-back true = eq-eqb (field 0 1 (received n true)) 1 (omega arith)
+  final-back false = ne-eqb (field 0 1 (received n false)) 1 (λ e. omega arith)
+
+-- a list with an element is not empty, and one with two or three has room for a PID
 some : (x : ℕ) (s : List ℕ) → eqb (length (x ∷ s)) 0 ≡ false
 some x s = ne-eqb (length (x ∷ s)) 0 (λ e. omega arith)
 
 two : (x y : ℕ) (s : List ℕ) → ltb (length (x ∷ y ∷ s)) 2 ≡ false
 two x y s = le-ltb (length (x ∷ y ∷ s)) 2 (omega arith)
 
+three : (x y z : ℕ) (s : List ℕ) → ltb (length (x ∷ y ∷ z ∷ s)) 3 ≡ false
+three x y z s = le-ltb (length (x ∷ y ∷ z ∷ s)) 3 (omega arith)
+
 -- the low bits lead to I, S or U
-i-way : (c : ℕ) (s : List ℕ) → field 0 1 c ≡ 0 → contentOf (c ∷ s) ≡ iOf (c ∷ s)
-unfolding contentOf
-i-way c s e = simp (some, eq-eqb (field 0 1 c) 0 e)
+module _ (m : Mode) (c : ℕ) (s : List ℕ) where
+  i-way : field 0 1 c ≡ 0 → contentOf m (c ∷ s) ≡ iOf m (c ∷ s)
+  unfolding contentOf
+  i-way e = simp (some, eq-eqb (field 0 1 c) 0 e)
 
-s-way : (c : ℕ) (s : List ℕ) → field 0 2 c ≡ 1 → contentOf (c ∷ s) ≡ sOf c
-unfolding contentOf
-s-way c s e = simp (some, ne-eqb (field 0 1 c) 0 (λ z. omega arith), eq-eqb (field 0 2 c) 1 e)
+  s-way : field 0 2 c ≡ 1 → contentOf m (c ∷ s) ≡ sOf m (c ∷ s)
+  unfolding contentOf
+  s-way e = simp (some, ne-eqb (field 0 1 c) 0 (λ z. omega arith), eq-eqb (field 0 2 c) 1 e)
 
-u-way : (c : ℕ) (s : List ℕ) → field 0 2 c ≡ 3 → contentOf (c ∷ s) ≡ uOf c (c ∷ s)
-unfolding contentOf
-u-way c s e = simp (some, ne-eqb (field 0 1 c) 0 (λ z. omega arith), ne-eqb (field 0 2 c) 1 (λ z. omega arith))
+  u-way : field 0 2 c ≡ 3 → contentOf m (c ∷ s) ≡ uOf m c (c ∷ s)
+  unfolding contentOf
+  u-way e = simp (some, ne-eqb (field 0 1 c) 0 (λ z. omega arith), ne-eqb (field 0 2 c) 1 (λ z. omega arith))
 
-module _ (n : ℕ) (h : n < 8) (p : Bool) where
-  pub send-back : (m : ℕ) → m < 8 → sendOf (numbered n p (sent m)) ≡ m
-  send-back m l = by-bit p
-    where
-      by-bit : (p : Bool) → sendOf (numbered n p (sent m)) ≡ m
-      by-bit true = omega arith
-      by-bit false = omega arith
+pub send-back : (n : ℕ) (p : Bool) (v : ℕ) → v < 8 → sendOf (numbered n p (sent Short v)) ≡ v
+send-back n true v l = omega arith
+send-back n false v l = omega arith
 
-  pub i-back : (m : ℕ) → m < 8 → (c : ℕ) (s : List ℕ)
-      → contentOf (numbered n p (sent m) ∷ c ∷ s)
-      ≡ Accepted (kind.Information (record { pid = pidOf c; «receive_sequence» = n; «send_sequence» = m; poll = p }))
-  unfolding iOf
-  i-back m l c s =
-      let d : sent m < 16 = omega arith in
-      i-way (numbered n p (sent m)) (c ∷ s) (omega (arith, low-back n (sent m) d p))
-      ∙ simp (two, receive-back n (sent m) d h p, send-back m l, poll-back n (sent m) d p)
+pub i-back : (m : Mode) (n : ℕ) → n < limit m → (p : Bool) (v : ℕ) → v < limit m → (c : ℕ) (s : List ℕ)
+    → contentOf m ((sequenced m n p (sent m v) ++ (c ∷ [])) ++ s)
+    ≡ Accepted (kind.Information (record { pid = pidOf c; «receive_sequence» = n; «send_sequence» = v; poll = p }))
+unfolding iOf
+i-back Short n h p v l c s =
+    let d : sent Short v < 16 = omega arith in
+    i-way Short (numbered n p (sent Short v)) (c ∷ s) (omega (arith, low-back n (sent Short v) d p))
+    ∙ simp (two, receive-back n (sent Short v) d h p, send-back n p v l, poll-back n (sent Short v) d p)
+i-back Long n h p v l c s =
+    let own : field 1 7 (sent Long v) ≡ v = omega arith in
+    i-way Long (sent Long v) (received n p ∷ c ∷ s) (omega arith)
+    ∙ simp (two, three, own, received-back n h p, final-back n h p)
 
-  s-back : (m : ℕ) → m < 16 → m % 4 ≡ 1 → (s : List ℕ) → contentOf (numbered n p m ∷ s) ≡ sOf (numbered n p m)
-  s-back m l e s = s-way (numbered n p m) s (omega (arith, low-back n m l p))
+-- what the low four bits tell hangs on nothing else
+kind-low : (c t : ℕ) → sKind c ≡ t → t < 16 → (n : ℕ) (p : Bool) → sKindOf c n p ≡ sKindOf t n p
+unfolding sKindOf
+kind-low c t e h n p = let own : sKind t ≡ t = omega arith in rw (e, own) refl
 
-  pub rr-back : (s : List ℕ) → contentOf (numbered n p rr ∷ s) ≡ Accepted (kind.ReceiveReady (record { «receive_sequence» = n; «poll_or_final» = p }))
-  unfolding sOf
-  rr-back s = s-back rr (omega arith) refl s
-      ∙ simp (low-back n rr (omega arith) p, receive-back n rr (omega arith) h p, poll-back n rr (omega arith) p)
-
-  pub rnr-back : (s : List ℕ) → contentOf (numbered n p rnr ∷ s) ≡ Accepted (kind.ReceiveNotReady (record { «receive_sequence» = n; «poll_or_final» = p }))
-  unfolding sOf
-  rnr-back s = s-back rnr (omega arith) refl s
-      ∙ simp (low-back n rnr (omega arith) p, receive-back n rnr (omega arith) h p, poll-back n rnr (omega arith) p)
-
-  pub rej-back : (s : List ℕ) → contentOf (numbered n p rej ∷ s) ≡ Accepted (kind.Reject (record { «receive_sequence» = n; «poll_or_final» = p }))
-  unfolding sOf
-  rej-back s = s-back rej (omega arith) refl s
-      ∙ simp (low-back n rej (omega arith) p, receive-back n rej (omega arith) h p, poll-back n rej (omega arith) p)
+pub s-back : (m : Mode) (n : ℕ) → n < limit m → (p : Bool) (t : ℕ) → t < 16 → t % 4 ≡ 1 → (s : List ℕ)
+    → contentOf m (sequenced m n p t ++ s) ≡ Accepted (sKindOf t n p)
+unfolding sOf
+s-back Short n h p t l e s =
+    s-way Short (numbered n p t) s (omega (arith, low-back n t l p))
+    ∙ rw (receive-back n t l h p, poll-back n t l p) (ap Accepted (kind-low (numbered n p t) t (low-back n t l p) l n p))
+s-back Long n h p t l e s =
+    s-way Long t (received n p ∷ s) (omega arith) ∙ rw (two t (received n p) s, received-back n h p, final-back n h p) refl
 
 -- the unnumbered kinds, by computing with either bit
-module _ (s : List ℕ) where
-  pub sabm-back : (p : Bool) → contentOf (unnumbered sabm p ∷ s) ≡ Accepted (kind.SetAsynchronousBalancedMode (record { poll = p }))
+module _ (m : Mode) (s : List ℕ) where
+  pub sabm-back : (p : Bool) → contentOf m (unnumbered sabm p ∷ s) ≡ Accepted (kind.SetAsynchronousBalancedMode (record { poll = p }))
   unfolding uOf
-  sabm-back true = u-way _ s refl
-  sabm-back false = u-way _ s refl
+  sabm-back true = u-way m _ s refl
+  sabm-back false = u-way m _ s refl
 
-  pub disc-back : (p : Bool) → contentOf (unnumbered disc p ∷ s) ≡ Accepted (kind.Disconnect (record { poll = p }))
+  pub sabme-back : (p : Bool) → contentOf m (unnumbered sabme p ∷ s) ≡ Accepted (kind.SetAsynchronousBalancedModeExtended (record { poll = p }))
   unfolding uOf
-  disc-back true = u-way _ s refl
-  disc-back false = u-way _ s refl
+  sabme-back true = u-way m _ s refl
+  sabme-back false = u-way m _ s refl
 
-  pub dm-back : (p : Bool) → contentOf (unnumbered dm p ∷ s) ≡ Accepted (kind.DisconnectedMode (record { «final_bit» = p }))
+  pub disc-back : (p : Bool) → contentOf m (unnumbered disc p ∷ s) ≡ Accepted (kind.Disconnect (record { poll = p }))
   unfolding uOf
-  dm-back true = u-way _ s refl
-  dm-back false = u-way _ s refl
+  disc-back true = u-way m _ s refl
+  disc-back false = u-way m _ s refl
 
-  pub ua-back : (p : Bool) → contentOf (unnumbered ua p ∷ s) ≡ Accepted (kind.UnnumberedAcknowledge (record { «final_bit» = p }))
+  pub dm-back : (p : Bool) → contentOf m (unnumbered dm p ∷ s) ≡ Accepted (kind.DisconnectedMode (record { «final_bit» = p }))
   unfolding uOf
-  ua-back true = u-way _ s refl
-  ua-back false = u-way _ s refl
+  dm-back true = u-way m _ s refl
+  dm-back false = u-way m _ s refl
 
-  pub frmr-way : (p : Bool) → contentOf (unnumbered frmr p ∷ s) ≡ frmrOf (unnumbered frmr p ∷ s)
+  pub ua-back : (p : Bool) → contentOf m (unnumbered ua p ∷ s) ≡ Accepted (kind.UnnumberedAcknowledge (record { «final_bit» = p }))
   unfolding uOf
-  frmr-way true = u-way _ s refl
-  frmr-way false = u-way _ s refl
+  ua-back true = u-way m _ s refl
+  ua-back false = u-way m _ s refl
 
-  ui-way : (p : Bool) → contentOf (unnumbered ui p ∷ s) ≡ uiOf (unnumbered ui p ∷ s)
+  pub frmr-way : (p : Bool) → contentOf m (unnumbered frmr p ∷ s) ≡ frmrOf m (unnumbered frmr p ∷ s)
   unfolding uOf
-  ui-way true = u-way _ s refl
-  ui-way false = u-way _ s refl
+  frmr-way true = u-way m _ s refl
+  frmr-way false = u-way m _ s refl
+
+  ui-way : (p : Bool) → contentOf m (unnumbered ui p ∷ s) ≡ uiOf (unnumbered ui p ∷ s)
+  unfolding uOf
+  ui-way true = u-way m _ s refl
+  ui-way false = u-way m _ s refl
+
+  pub xid-back : (p : Bool) → contentOf m (unnumbered xid p ∷ s) ≡ Accepted (kind.ExchangeIdentification (record { «poll_or_final» = p }))
+  unfolding uOf
+  xid-back true = u-way m _ s refl
+  xid-back false = u-way m _ s refl
+
+  pub test-back : (p : Bool) → contentOf m (unnumbered test p ∷ s) ≡ Accepted (kind.Test (record { «poll_or_final» = p }))
+  unfolding uOf
+  test-back true = u-way m _ s refl
+  test-back false = u-way m _ s refl
 
 u-poll-back : (p : Bool) → (pollOf (unnumbered ui p) ≡ p) × (pollOf (unnumbered frmr p) ≡ p)
 u-poll-back true = (refl, refl)
 u-poll-back false = (refl, refl)
 
-pub ui-back : (p : Bool) (c : ℕ) (s : List ℕ)
-    → contentOf (unnumbered ui p ∷ c ∷ s) ≡ Accepted (kind.UnnumberedInformation (record { pid = pidOf c; «poll_or_final» = p }))
+pub ui-back : (m : Mode) (p : Bool) (c : ℕ) (s : List ℕ)
+    → contentOf m (unnumbered ui p ∷ c ∷ s) ≡ Accepted (kind.UnnumberedInformation (record { pid = pidOf c; «poll_or_final» = p }))
 unfolding uiOf
-ui-back p c s = ui-way (c ∷ s) p ∙ simp (two, u-poll-back p .0)
+ui-back m p c s = ui-way m (c ∷ s) p ∙ simp (two, u-poll-back p .0)
 
 -- FRMR's flags, by one test at each of the sixteen
 abbrev flagged : Bool → Bool → Bool → Bool → ℕ
@@ -159,10 +187,11 @@ response-back : (c : CommandResponse) → cond (isResponse c) Response Command �
 response-back Command = refl
 response-back Response = refl
 
-pub frmr-back : (k : FrameReject) → PlainContent (kind.FrameReject k) → frmrOf (front (kind.FrameReject k)) ≡ Accepted (kind.FrameReject k)
+pub frmr-back : (k : FrameReject) → PlainContent Short (kind.FrameReject k)
+    → frmrOf Short (front Short (kind.FrameReject k)) ≡ Accepted (kind.FrameReject k)
 unfolding frmrOf responseOf
 frmr-back k h =
-    let d : sent (k .«send_sequence») < 16 = omega arith in
+    let d : sent Short (k .«send_sequence») < 16 = omega arith in
     let r = isResponse (k .«command_response») in
     simp (
       u-poll-back (k .«final_bit») .1,
@@ -171,7 +200,7 @@ frmr-back k h =
       x-back (k .z) (k .y) (k .x) (k .w),
       w-back (k .z) (k .y) (k .x) (k .w),
       receive-back _ _ d (h .0) r,
-      send-back _ (h .0) r _ (h .1),
+      send-back (k .«receive_sequence») r (k .«send_sequence») (h .1),
       poll-back (k .«receive_sequence») _ d r,
       response-back (k .«command_response»),
     )

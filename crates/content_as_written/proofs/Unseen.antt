@@ -1,40 +1,37 @@
 -- Of the octets before info, writing gives back every bit that is not unseen, and reading looks at no bit that is.
-use Prim.Native.Nat.{ℕ, zero, suc, _*_, _/_, _≤_, _<_}
+use Prim.Native.Nat.{ℕ, zero, suc, _+_, _*_, _/_, _≤_, _<_}
 use mathlib.Core.Path.{_≡_, refl, ap, sym, _∙_}
-use mathlib.Core.Bool.{true, false, false≢true}
+use mathlib.Core.Bool.{Bool, true, false, false≢true, true≢false}
 use mathlib.Core.List.{List, [], _∷_, _++_, append-nil}
 use native.Mathlib.Omega.{arith}
-use borrow.Author.Tests.{ne-eqb, leb-false, ltb-true, ltb-false, eqb-false}
+use borrow.Author.Tests.{eq-eqb, ne-eqb, le-ltb, lt-leb, leb-false, ltb-true, ltb-false, eqb-false}
 use lib.Dec.{ltb}
-use lib.ListN.{length, getD, List·getD-eq-default}
-use Rattle.octets.specs.Octet.{Octets, field, bit}
+use lib.ListN.{length, getD, List·getD-append, List·getD-eq-default}
+use Rattle.octets.specs.Octet.{Octets, field, bit, flag}
 use Rattle.octets.proofs.Choice.{by, neither}
-use Rattle.octets.proofs.Octet.{upper-bits, all-bits, octets-same}
-use Rattle.protocol.proofs.Laws.{octet-pid}
-use Rattle.content.specs.Control.{frmr, uKind}
-use Rattle.content.specs.Spell.{hasInfo, flags, front, spellContent}
+use Rattle.octets.proofs.Octet.{octet-same, upper-bits, all-bits, octets-same}
+use Rattle.content.specs.Mode.{isLong, controls}
+use Rattle.content.specs.Control.{rr, rnr, rej, srej, frmr, pollOf, sKind, uKind, receiveIn, pollIn}
+use Rattle.content.specs.Spell.{hasInfo, flags, sequenced, unnumbered, front, spellContent}
+use Rattle.content.specs.declared.Mode.{Mode}
+use Rattle.content.specs.declared.Mode.the-variants.{Short, Long}
 use Rattle.content.specs.declared.FrameReject.{FrameReject}
 use Rattle.content.specs.declared.FrameContent.{FrameContent}
 use Rattle.content.specs.declared.FrameContent.the-variants as kind
-use Rattle.parse.specs.Content.{frmrFieldsOf, responseOf, frmrOf, uOf, contentOf}
+use Rattle.parse.specs.Content.{frmrFieldsOf, responseOf, frmrOf, sKindOf, sOf, uOf, contentOf}
 use Rattle.parse.specs.declared.ContentAnswer.the-variants.{Accepted}
 use Rattle.parse.proofs.Read.{Reads, accepted}
-use Rattle.parse.proofs.Read.Reads.{i-frame, rr-frame, rnr-frame, rej-frame, sabm-frame, disc-frame, dm-frame, ua-frame, frmr-frame, ui-frame}
+use Rattle.parse.proofs.Read.Reads.{i-frame, rr-frame, rnr-frame, rej-frame, srej-frame, sabm-frame, sabme-frame, disc-frame, dm-frame, ua-frame, frmr-frame, ui-frame, xid-frame, test-frame}
 use Rattle.content_as_written.specs.AsWritten.{infoOf}
-use Rattle.content_as_written.specs.Unseen.{unseen}
+use Rattle.content_as_written.specs.Unseen.{unseenS, unseen, hasUnseen}
 use Rattle.content_as_written.proofs.Back.{z-back, y-back, x-back, w-back}
-use Rattle.content_as_written.proofs.AsWritten.{numbered-again, sent-again, unnumbered-again, copy-even}
+use Rattle.content_as_written.proofs.AsWritten.{numbered-again, received-again, unnumbered-again, copy-even, info-exact}
 use Rattle.content_as_written.proofs.Laws.{content-kept}
 
--- an element of the first one or two
+-- an element of the first
 one-kept : (s : List ℕ) (a : ℕ) → a ≡ getD s 0 0 → (i : ℕ) → i < 1 → getD (a ∷ []) i 0 ≡ getD s i 0
 one-kept s a e zero h = e
 one-kept s a e (suc i) h = absurd (omega arith)
-
-two-kept : (s : List ℕ) (a b : ℕ) → a ≡ getD s 0 0 → b ≡ getD s 1 0 → (i : ℕ) → i < 2 → getD (a ∷ b ∷ []) i 0 ≡ getD s i 0
-two-kept s a b e f zero h = e
-two-kept s a b e f (suc zero) h = f
-two-kept s a b e f (suc (suc i)) h = absurd (omega arith)
 
 -- an octet without its low bit has the other bits
 even-bits : (b j : ℕ) → 1 ≤ j → j < 8 → bit j (b / 2 * 2) ≡ bit j b
@@ -48,7 +45,32 @@ even-bits b (suc (suc (suc (suc (suc (suc zero)))))) h l = let e : field 6 1 (b 
 even-bits b (suc (suc (suc (suc (suc (suc (suc zero))))))) h l = let e : field 7 1 (b / 2 * 2) ≡ field 7 1 b = omega arith in rw e refl
 even-bits b (suc (suc (suc (suc (suc (suc (suc (suc j)))))))) h l = absurd (omega arith)
 
-module _ (s : List ℕ) (o : Octets s) where
+-- the low four bits of an octet, by its bits, and its bits by them
+abbrev lower : ℕ → ℕ
+lower b = flag 3 (bit 3 b) + flag 2 (bit 2 b) + flag 1 (bit 1 b) + flag 0 (bit 0 b)
+
+low-same : (a b : ℕ) → a < 256 → b < 256 → ((j : ℕ) → j < 4 → bit j a ≡ bit j b) → sKind a ≡ sKind b
+low-same a b h l f =
+    octet-same sKind lower tt a h
+    ∙ rw (f 3 (omega arith), f 2 (omega arith), f 1 (omega arith), f 0 (omega arith)) (sym (octet-same sKind lower tt b l))
+
+low-bits : (b j : ℕ) → j < 4 → bit j (sKind b) ≡ bit j b
+low-bits b zero h = let e : field 0 1 (sKind b) ≡ field 0 1 b = omega arith in rw e refl
+low-bits b (suc zero) h = let e : field 1 1 (sKind b) ≡ field 1 1 b = omega arith in rw e refl
+low-bits b (suc (suc zero)) h = let e : field 2 1 (sKind b) ≡ field 2 1 b = omega arith in rw e refl
+low-bits b (suc (suc (suc zero))) h = let e : field 3 1 (sKind b) ≡ field 3 1 b = omega arith in rw e refl
+low-bits b (suc (suc (suc (suc j)))) h = absurd (omega arith)
+
+-- an S control field, written again
+s-kept : (m : Mode) (s : List ℕ) → Octets s → (k : ℕ) → sKind (getD s 0 0) ≡ k → (i j : ℕ)
+    → i < length (sequenced m (receiveIn m s) (pollIn m s) k) → j < 8 → unseenS m i j ≡ false
+    → bit j (getD (sequenced m (receiveIn m s) (pollIn m s) k) i 0) ≡ bit j (getD s i 0)
+s-kept Short s o k e i j l h u = ap (bit j) (one-kept s _ (rw e at (numbered-again (getD s 0 0) (o 0))) i l)
+s-kept Long s o k e zero j l h u = rw (← e) (low-bits (getD s 0 0) j (omega (arith, leb-false _ j u)))
+s-kept Long s o k e (suc zero) j l h u = ap (bit j) (received-again (getD s 1 0) (o 1))
+s-kept Long s o k e (suc (suc i)) j l h u = absurd (omega arith)
+
+module _ (m : Mode) (s : List ℕ) (o : Octets s) where
   abbrev b : ℕ
   b = getD s 1 0
 
@@ -60,31 +82,61 @@ module _ (s : List ℕ) (o : Octets s) where
   flag-bits (suc (suc (suc zero))) h = z-back (bit 3 b) (bit 2 b) (bit 1 b) (bit 0 b)
   flag-bits (suc (suc (suc (suc j)))) h = absurd (omega arith)
 
-  kept : {k : FrameContent} → Reads s k → (i j : ℕ) → i < length (front k) → j < 8 → unseen k i j ≡ false → bit j (getD (front k) i 0) ≡ bit j (getD s i 0)
-  unfolding unseen
-  kept (i-frame n t) i j l h u = ap (bit j) (two-kept s _ _ (sent-again (getD s 0 0) (o 0) t) (octet-pid (getD s 1 0) (o 1)) i l)
-  kept (rr-frame n t) i j l h u = ap (bit j) (one-kept s _ (rw t at (numbered-again (getD s 0 0) (o 0))) i l)
-  kept (rnr-frame n t) i j l h u = ap (bit j) (one-kept s _ (rw t at (numbered-again (getD s 0 0) (o 0))) i l)
-  kept (rej-frame n t) i j l h u = ap (bit j) (one-kept s _ (rw t at (numbered-again (getD s 0 0) (o 0))) i l)
-  kept (sabm-frame n t) i j l h u = ap (bit j) (one-kept s _ (rw t at (unnumbered-again (getD s 0 0) (o 0))) i l)
-  kept (disc-frame n t) i j l h u = ap (bit j) (one-kept s _ (rw t at (unnumbered-again (getD s 0 0) (o 0))) i l)
-  kept (dm-frame n t) i j l h u = ap (bit j) (one-kept s _ (rw t at (unnumbered-again (getD s 0 0) (o 0))) i l)
-  kept (ua-frame n t) i j l h u = ap (bit j) (one-kept s _ (rw t at (unnumbered-again (getD s 0 0) (o 0))) i l)
-  kept (frmr-frame n t) zero j l h u = ap (bit j) (rw t at (unnumbered-again (getD s 0 0) (o 0)))
-  kept (frmr-frame n t) (suc zero) j l h u = flag-bits j (omega (arith, leb-false _ j (neither _ _ u .0)))
-  kept (frmr-frame n t) (suc (suc zero)) j l h u =
-      ap (bit j) (copy-even (getD s 2 0) (o 2)) ∙ even-bits (getD s 2 0) j (omega (arith, eqb-false j _ u)) h
-  kept (frmr-frame n t) (suc (suc (suc zero))) j l h u = refl
-  kept (frmr-frame n t) (suc (suc (suc (suc i)))) j l h u = absurd (omega arith)
-  kept (ui-frame n t) i j l h u =
-      ap (bit j) (two-kept s _ _ (rw t at (unnumbered-again (getD s 0 0) (o 0))) (octet-pid (getD s 1 0) (o 1)) i l)
+  -- of a kind with info every octet is written as it was read
+  info-kept : {k : FrameContent} → Reads m s k → hasInfo k ≡ true → (i j : ℕ) → i < length (front m k)
+      → bit j (getD (front m k) i 0) ≡ bit j (getD s i 0)
+  info-kept {k} r e i j l =
+      ap (bit j) (sym (List·getD-append (front m k) (infoOf m k s) 0 i l) ∙ ap (λ (y : List ℕ). getD y i 0) (info-exact m s o r e))
 
--- FRMR by its length and control octet
-frmr-read : (s : List ℕ) → length s ≡ 4 → uKind (getD s 0 0) ≡ frmr → contentOf s ≡ Accepted (kind.FrameReject (frmrFieldsOf s))
+  u-kept : (k : ℕ) → uKind (getD s 0 0) ≡ k → (i j : ℕ) → i < 1 → bit j (getD (unnumbered k (pollOf (getD s 0 0)) ∷ []) i 0) ≡ bit j (getD s i 0)
+  u-kept k t i j l = ap (bit j) (one-kept s _ (rw t at (unnumbered-again (getD s 0 0) (o 0))) i l)
+
+  kept : {k : FrameContent} → Reads m s k → (i j : ℕ) → i < length (front m k) → j < 8 → unseen m k i j ≡ false
+      → bit j (getD (front m k) i 0) ≡ bit j (getD s i 0)
+  unfolding unseen
+  kept (i-frame n t) i j l h u = info-kept (i-frame n t) refl i j l
+  kept (rr-frame n t) i j l h u = s-kept m s o rr t i j l h u
+  kept (rnr-frame n t) i j l h u = s-kept m s o rnr t i j l h u
+  kept (rej-frame n t) i j l h u = s-kept m s o rej t i j l h u
+  kept (srej-frame n t) i j l h u = s-kept m s o srej t i j l h u
+  kept (sabm-frame n t) i j l h u = u-kept _ t i j l
+  kept (sabme-frame n t) i j l h u = u-kept _ t i j l
+  kept (disc-frame n t) i j l h u = u-kept _ t i j l
+  kept (dm-frame n t) i j l h u = u-kept _ t i j l
+  kept (ua-frame n t) i j l h u = u-kept _ t i j l
+  kept (frmr-frame a n t) zero j l h u = ap (bit j) (rw t at (unnumbered-again (getD s 0 0) (o 0)))
+  kept (frmr-frame a n t) (suc zero) j l h u = flag-bits j (omega (arith, leb-false _ j (neither _ _ u .0)))
+  kept (frmr-frame a n t) (suc (suc zero)) j l h u =
+      ap (bit j) (copy-even (getD s 2 0) (o 2)) ∙ even-bits (getD s 2 0) j (omega (arith, eqb-false j _ u)) h
+  kept (frmr-frame a n t) (suc (suc (suc zero))) j l h u = refl
+  kept (frmr-frame a n t) (suc (suc (suc (suc i)))) j l h u = absurd (omega arith)
+  kept (ui-frame n t) i j l h u = info-kept (ui-frame n t) refl i j l
+  kept (xid-frame n t) i j l h u = info-kept (xid-frame n t) refl i j l
+  kept (test-frame n t) i j l h u = info-kept (test-frame n t) refl i j l
+
+-- FRMR by its length and control octet, and S of the long mode by its first
+frmr-read : (s : List ℕ) → length s ≡ 4 → uKind (getD s 0 0) ≡ frmr → contentOf Short s ≡ Accepted (kind.FrameReject (frmrFieldsOf s))
 unfolding contentOf uOf frmrOf
 frmr-read s n t =
     let c : ℕ = getD s 0 0 in
     simp (n, ne-eqb (field 0 1 c) 0 (λ z. omega arith), ne-eqb (field 0 2 c) 1 (λ z. omega arith), t)
+
+long-s-read : (s : List ℕ) → 2 ≤ length s → field 0 2 (getD s 0 0) ≡ 1
+    → contentOf Long s ≡ Accepted (sKindOf (getD s 0 0) (receiveIn Long s) (pollIn Long s))
+unfolding contentOf sOf
+long-s-read s n t =
+    let c : ℕ = getD s 0 0 in
+    simp (
+      ne-eqb (length s) 0 (λ z. omega (arith, z, n)),
+      ne-eqb (field 0 1 c) 0 (λ z. omega arith),
+      eq-eqb (field 0 2 c) 1 t,
+      le-ltb (length s) 2 n,
+    )
+
+-- what the low four bits tell hangs on nothing else
+same-kind : (c d : ℕ) → sKind c ≡ sKind d → (n : ℕ) (p : Bool) → sKindOf c n p ≡ sKindOf d n p
+unfolding sKindOf
+same-kind c d e n p = rw e refl
 
 -- the fields of FRMR's second info octet hang on all bits but the low one
 even-fields : (b : ℕ) → (field 5 3 (b / 2 * 2) ≡ field 5 3 b) × (field 4 1 (b / 2 * 2) ≡ field 4 1 b) × (field 1 3 (b / 2 * 2) ≡ field 1 3 b)
@@ -98,14 +150,14 @@ upper-fields a b e =
 
 -- octets of the same length with the same bits save for unseen ones are read as the same
 module _ (s t : List ℕ) (o : Octets s) (p : Octets t) (n : length t ≡ length s) where
-  abbrev Same : FrameContent → Type 0
-  Same k = (i j : ℕ) → j < 8 → unseen k i j ≡ false → bit j (getD t i 0) ≡ bit j (getD s i 0)
+  abbrev Same : Mode → FrameContent → Type 0
+  Same m k = (i j : ℕ) → j < 8 → unseen m k i j ≡ false → bit j (getD t i 0) ≡ bit j (getD s i 0)
 
-  control-same : Same (kind.FrameReject (frmrFieldsOf s)) → getD t 0 0 ≡ getD s 0 0
+  control-same : Same Short (kind.FrameReject (frmrFieldsOf s)) → getD t 0 0 ≡ getD s 0 0
   unfolding unseen
   control-same f = all-bits _ _ (p 0) (o 0) (λ j h. f 0 j h refl)
 
-  frmr-fields : Same (kind.FrameReject (frmrFieldsOf s)) → frmrFieldsOf t ≡ frmrFieldsOf s
+  frmr-fields : Same Short (kind.FrameReject (frmrFieldsOf s)) → frmrFieldsOf t ≡ frmrFieldsOf s
   unfolding unseen responseOf
   frmr-fields f =
       let rejected : getD t 3 0 ≡ getD s 3 0 = all-bits _ _ (p 3) (o 3) (λ j h. f 3 j h refl) in
@@ -125,54 +177,96 @@ module _ (s t : List ℕ) (o : Octets s) (p : Octets t) (n : length t ≡ length
       refl
 
   -- where no bit is unseen they are the same octets
-  plainly : {k : FrameContent} → ((i j : ℕ) → unseen k i j ≡ false) → contentOf s ≡ Accepted k → Same k → contentOf t ≡ Accepted k
-  plainly u e f = ap contentOf (octets-same t s p o n (λ i j h. f i j h (u i j))) ∙ e
+  plainly : (m : Mode) {k : FrameContent} → ((i j : ℕ) → unseen m k i j ≡ false) → contentOf m s ≡ Accepted k → Same m k → contentOf m t ≡ Accepted k
+  plainly m u e f = ap (contentOf m) (octets-same t s p o n (λ i j h. f i j h (u i j))) ∙ e
 
-  same-read : {k : FrameContent} → Reads s k → contentOf s ≡ Accepted k → Same k → contentOf t ≡ Accepted k
+  -- of an S control the low four bits of the first octet, and in the long mode all of the second
+  s-same : (m : Mode) {k : FrameContent} → ((i j : ℕ) → unseen m k i j ≡ unseenS m i j) → controls m ≤ length s → field 0 2 (getD s 0 0) ≡ 1
+      → contentOf m s ≡ Accepted k → Same m k → contentOf m t ≡ Accepted k
+  s-same Short u l w e f = plainly Short u e f
+  s-same Long {k} u l w e f =
+      let first : sKind (getD t 0 0) ≡ sKind (getD s 0 0) =
+      low-same _ _ (p 0) (o 0) (λ j h. f 0 j (omega arith) (u 0 j ∙ lt-leb 4 j h)) in
+      let second : getD t 1 0 ≡ getD s 1 0 = all-bits _ _ (p 1) (o 1) (λ j h. f 1 j h (u 1 j)) in
+      long-s-read t (rw n l) (omega (arith, first, w))
+      ∙ rw (same-kind _ _ first (receiveIn Long t) (pollIn Long t), second) (sym (long-s-read s l w) ∙ e)
+
+  same-read : (m : Mode) {k : FrameContent} → Reads m s k → contentOf m s ≡ Accepted k → Same m k → contentOf m t ≡ Accepted k
   unfolding unseen
-  same-read (i-frame m c) e f = plainly (λ i j. refl) e f
-  same-read (rr-frame m c) e f = plainly (λ i j. refl) e f
-  same-read (rnr-frame m c) e f = plainly (λ i j. refl) e f
-  same-read (rej-frame m c) e f = plainly (λ i j. refl) e f
-  same-read (sabm-frame m c) e f = plainly (λ i j. refl) e f
-  same-read (disc-frame m c) e f = plainly (λ i j. refl) e f
-  same-read (dm-frame m c) e f = plainly (λ i j. refl) e f
-  same-read (ua-frame m c) e f = plainly (λ i j. refl) e f
-  same-read (frmr-frame m c) e f = frmr-read t (n ∙ m) (ap uKind (control-same f) ∙ c) ∙ rw (frmr-fields f) refl
-  same-read (ui-frame m c) e f = plainly (λ i j. refl) e f
+  same-read m (i-frame l c) e f = plainly m (λ i j. refl) e f
+  same-read m (rr-frame l c) e f = s-same m (λ i j. refl) l (omega (arith, c)) e f
+  same-read m (rnr-frame l c) e f = s-same m (λ i j. refl) l (omega (arith, c)) e f
+  same-read m (rej-frame l c) e f = s-same m (λ i j. refl) l (omega (arith, c)) e f
+  same-read m (srej-frame l c) e f = s-same m (λ i j. refl) l (omega (arith, c)) e f
+  same-read m (sabm-frame l c) e f = plainly m (λ i j. refl) e f
+  same-read m (sabme-frame l c) e f = plainly m (λ i j. refl) e f
+  same-read m (disc-frame l c) e f = plainly m (λ i j. refl) e f
+  same-read m (dm-frame l c) e f = plainly m (λ i j. refl) e f
+  same-read m (ua-frame l c) e f = plainly m (λ i j. refl) e f
+  same-read Short (frmr-frame a l c) e f = frmr-read t (n ∙ l) (ap uKind (control-same f) ∙ c) ∙ rw (frmr-fields f) refl
+  same-read Long (frmr-frame a l c) e f = absurd (true≢false a)
+  same-read m (ui-frame l c) e f = plainly m (λ i j. refl) e f
+  same-read m (xid-frame l c) e f = plainly m (λ i j. refl) e f
+  same-read m (test-frame l c) e f = plainly m (λ i j. refl) e f
 
-  pub unseen-read : (k : FrameContent) → contentOf s ≡ Accepted k → Same k → contentOf t ≡ Accepted k
-  unseen-read k e f = same-read (accepted s k e) e f
+  pub unseen-read : (m : Mode) (k : FrameContent) → contentOf m s ≡ Accepted k → Same m k → contentOf m t ≡ Accepted k
+  unseen-read m k e f = same-read m (accepted m s k e) e f
 
--- the only kind with unseen bits is FRMR
-pub only-frmr : (k : FrameContent) → ((r : FrameReject) → k ≡ kind.FrameReject r → ⊥) → (i j : ℕ) → unseen k i j ≡ false
+none-s : (m : Mode) → isLong m ≡ false → (i j : ℕ) → unseenS m i j ≡ false
+none-s Short h i j = refl
+none-s Long h i j = absurd (true≢false h)
+
+-- no other kind has unseen bits
+pub none-unseen : (m : Mode) (k : FrameContent) → hasUnseen m k ≡ false → (i j : ℕ) → unseen m k i j ≡ false
 unfolding unseen
-only-frmr (kind.Information k) n i j = refl
-only-frmr (kind.ReceiveReady k) n i j = refl
-only-frmr (kind.ReceiveNotReady k) n i j = refl
-only-frmr (kind.Reject k) n i j = refl
-only-frmr (kind.SetAsynchronousBalancedMode k) n i j = refl
-only-frmr (kind.Disconnect k) n i j = refl
-only-frmr (kind.DisconnectedMode k) n i j = refl
-only-frmr (kind.UnnumberedAcknowledge k) n i j = refl
-only-frmr (kind.FrameReject k) n i j = absurd (n k refl)
-only-frmr (kind.UnnumberedInformation k) n i j = refl
-only-frmr kind.UnknownContent n i j = refl
+none-unseen m (kind.Information k) h i j = refl
+none-unseen m (kind.ReceiveReady k) h i j = none-s m h i j
+none-unseen m (kind.ReceiveNotReady k) h i j = none-s m h i j
+none-unseen m (kind.Reject k) h i j = none-s m h i j
+none-unseen m (kind.SelectiveReject k) h i j = none-s m h i j
+none-unseen m (kind.SetAsynchronousBalancedMode k) h i j = refl
+none-unseen m (kind.SetAsynchronousBalancedModeExtended k) h i j = refl
+none-unseen m (kind.Disconnect k) h i j = refl
+none-unseen m (kind.DisconnectedMode k) h i j = refl
+none-unseen m (kind.UnnumberedAcknowledge k) h i j = refl
+none-unseen m (kind.FrameReject k) h i j = absurd (true≢false h)
+none-unseen m (kind.UnnumberedInformation k) h i j = refl
+none-unseen m (kind.ExchangeIdentification k) h i j = refl
+none-unseen m (kind.Test k) h i j = refl
+none-unseen m kind.UnknownContent h i j = refl
 
--- which has no info
-pub info-seen : (k : FrameContent) → hasInfo k ≡ true → (i j : ℕ) → unseen k i j ≡ false
-info-seen k e = only-frmr k (λ r q. false≢true (sym (ap hasInfo q) ∙ e))
+-- those have no info
+pub info-seen : (m : Mode) (k : FrameContent) → hasInfo k ≡ true → (i j : ℕ) → unseen m k i j ≡ false
+info-seen m k e = none-unseen m k (bare-unseen k e)
+  where
+    bare-unseen : (k : FrameContent) → hasInfo k ≡ true → hasUnseen m k ≡ false
+    bare-unseen (kind.Information k) e = refl
+    bare-unseen (kind.ReceiveReady k) e = absurd (false≢true e)
+    bare-unseen (kind.ReceiveNotReady k) e = absurd (false≢true e)
+    bare-unseen (kind.Reject k) e = absurd (false≢true e)
+    bare-unseen (kind.SelectiveReject k) e = absurd (false≢true e)
+    bare-unseen (kind.SetAsynchronousBalancedMode k) e = absurd (false≢true e)
+    bare-unseen (kind.SetAsynchronousBalancedModeExtended k) e = absurd (false≢true e)
+    bare-unseen (kind.Disconnect k) e = absurd (false≢true e)
+    bare-unseen (kind.DisconnectedMode k) e = absurd (false≢true e)
+    bare-unseen (kind.UnnumberedAcknowledge k) e = absurd (false≢true e)
+    bare-unseen (kind.FrameReject k) e = absurd (false≢true e)
+    bare-unseen (kind.UnnumberedInformation k) e = refl
+    bare-unseen (kind.ExchangeIdentification k) e = refl
+    bare-unseen (kind.Test k) e = refl
+    bare-unseen kind.UnknownContent e = refl
 
 -- content that is as long as what its reading spells has the bits of that, save for unseen ones
-pub content-bits : (s : List ℕ) → Octets s → (k : FrameContent) → contentOf s ≡ Accepted k → length (spellContent k (infoOf k s)) ≡ length s
-    → (i j : ℕ) → j < 8 → unseen k i j ≡ false → bit j (getD (spellContent k (infoOf k s)) i 0) ≡ bit j (getD s i 0)
-content-bits s o k e l i j h u =
+pub content-bits : (m : Mode) (s : List ℕ) → Octets s → (k : FrameContent) → contentOf m s ≡ Accepted k
+    → length (spellContent m k (infoOf m k s)) ≡ length s
+    → (i j : ℕ) → j < 8 → unseen m k i j ≡ false → bit j (getD (spellContent m k (infoOf m k s)) i 0) ≡ bit j (getD s i 0)
+content-bits m s o k e l i j h u =
     by (hasInfo k)
-    (λ x. rw (content-kept s o k e x) refl)
-    (λ x. let all : front k ++ infoOf k s ≡ front k = rw x (append-nil (front k)) in
-    let long : length (front k) ≡ length s = sym (ap (λ (y : List ℕ). length y) all) ∙ l in
+    (λ x. rw (content-kept m s o k e x) refl)
+    (λ x. let all : front m k ++ infoOf m k s ≡ front m k = rw x (append-nil (front m k)) in
+    let long : length (front m k) ≡ length s = sym (ap (λ (y : List ℕ). length y) all) ∙ l in
     rw all
-    (by (ltb i (length (front k)))
-    (λ y. kept s o (accepted s k e) i j (ltb-true i (length (front k)) y) h u)
-    (λ y. let past : length (front k) ≤ i = ltb-false i (length (front k)) y in
-    rw (List·getD-eq-default (front k) 0 past, List·getD-eq-default s 0 (rw long at past)) refl)))
+    (by (ltb i (length (front m k)))
+    (λ y. kept m s o (accepted m s k e) i j (ltb-true i (length (front m k)) y) h u)
+    (λ y. let past : length (front m k) ≤ i = ltb-false i (length (front m k)) y in
+    rw (List·getD-eq-default (front m k) 0 past, List·getD-eq-default s 0 (rw long at past)) refl)))

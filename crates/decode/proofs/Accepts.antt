@@ -11,6 +11,7 @@ use Rattle.octets.specs.Octet.{bit}
 use Rattle.octets.proofs.First.{first-le, first-passes}
 use Rattle.parse.specs.Content.{contentOf}
 use Rattle.content.specs.declared.FrameContent.{FrameContent}
+use Rattle.content.specs.declared.Mode.{Mode}
 use Rattle.parse.specs.declared.ContentAnswer.{ContentAnswer}
 use Rattle.parse.specs.declared.ContentAnswer.the-variants as content
 use Rattle.decode.specs.Answer.{isAccepted}
@@ -18,7 +19,7 @@ use Rattle.decode.specs.Read.{nonzero, startOf, endOf, repeatersOf, fram
 use Rattle.decode.specs.declared.Decoded.{Decoded}
 use Rattle.decode.specs.declared.DecodeAnswer.{DecodeAnswer}
 
-pub record Accepts (s : List ℕ) (d : Decoded) : Type 0 where
+pub record Accepts (m : Mode) (s : List ℕ) (d : Decoded) : Type 0 where
   pub count : ℕ
   pub kind : FrameContent
   pub first : nonzero (getD s 0 0) ≡ true
@@ -26,12 +27,12 @@ pub record Accepts (s : List ℕ) (d : Decoded) : Type 0 where
   pub long : 14 ≤ endOf s + 1
   pub counted : repeatersOf 0 (endOf s) ≡ count
   pub few : count ≤ 8
-  pub read : contentOf (drop (endOf s + 1) s) ≡ content.Accepted kind
-  pub made : d ≡ acceptedWith (frameAt s 0 count kind) (endOf s + 1) (length s)
+  pub read : contentOf m (drop (endOf s + 1) s) ≡ content.Accepted kind
+  pub made : d ≡ acceptedWith m (frameAt s 0 count kind) (endOf s + 1) (length s)
 
-module _ (s : List ℕ) where
+module _ (m : Mode) (s : List ℕ) where
   unfoldable If : Decoded → Type 0
-  If d = isAccepted (d .answer) ≡ true → Accepts s d
+  If d = isAccepted (d .answer) ≡ true → Accepts m s d
 
   refuse : (a : DecodeAnswer) → isAccepted a ≡ false → If (refusedWith a)
   unfolding If refusedWith
@@ -42,17 +43,18 @@ module _ (s : List ℕ) where
   unless false a d h g = g refl
 
   by-content : (n : ℕ) → startOf s ≡ 0 → endOf s < length s → 14 ≤ endOf s + 1 → repeatersOf 0 (endOf s) ≡ n → n ≤ 8
-      → (a : ContentAnswer) → contentOf (drop (endOf s + 1) s) ≡ a → If (withContent s 0 n (endOf s + 1) a)
+      → (a : ContentAnswer) → contentOf m (drop (endOf s + 1) s) ≡ a → If (withContent m s 0 n (endOf s + 1) a)
   unfolding withContent If
   by-content n st ei lo co fe (content.Accepted k) e =
       λ _. record { count = n; kind = k; first = rw st at (first-passes nonzero s 0 (rw st (omega arith))); end-in = ei; long = lo; counted = co; few = fe; read = e; made = refl }
   by-content n st ei lo co fe content.ContentZeroLength e = refuse _ refl
   by-content n st ei lo co fe content.MissingPidField e = refuse _ refl
-  by-content n st ei lo co fe content.UnrecognisedSFieldType e = refuse _ refl
   by-content n st ei lo co fe content.UnrecognisedUFieldType e = refuse _ refl
   by-content n st ei lo co fe content.WrongSizeFrmrInfo e = refuse _ refl
+  by-content n st ei lo co fe content.FrameRejectInLongMode e = refuse _ refl
+  by-content n st ei lo co fe content.MissingControlOctet e = refuse _ refl
 
-  by-tests : If (decode s)
+  by-tests : If (decode m s)
   unfolding decode decodeField
   by-tests =
       unless (eqb (startOf s) (length s)) _ _ refl
@@ -65,8 +67,8 @@ module _ (s : List ℕ) where
       (omega (arith, ltb-false 0 (startOf s) a))
       (omega (arith, eqb-false (endOf s) (length s) b, first-le (bit 0) s))
       (omega (arith, ltb-false (endOf s + 1 - 0) 14 c)) refl (ltb-false 8 _ e)
-      (contentOf (drop (endOf s + 1) s)) refl))))))
+      (contentOf m (drop (endOf s + 1) s)) refl))))))
 
-  pub accepts : isAccepted (decode s .answer) ≡ true → Accepts s (decode s)
+  pub accepts : isAccepted (decode m s .answer) ≡ true → Accepts m s (decode m s)
   unfolding If
   accepts = by-tests

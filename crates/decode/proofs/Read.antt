@@ -16,10 +16,6 @@ use Rattle.octets.specs.Octet.{Octets, bit}
 use Rattle.octets.specs.First.{first}
 use Rattle.octets.proofs.Bits.{bit-test}
 use Rattle.octets.proofs.First.{first-is, first-beyond, first-sooner, first-same}
-use Rattle.content.specs.Spell.{hasInfo}
-use Rattle.content.specs.declared.FrameContent.{FrameContent}
-use Rattle.content.specs.declared.FrameContent.the-variants as kind
-use Rattle.content.proofs.FrameContent.{the-type as content-type}
 use Rattle.parse.proofs.ContentAnswer.{the-type}
 use Rattle.parse.specs.declared.ContentAnswer.{ContentAnswer}
 use Rattle.parse.specs.declared.ContentAnswer.the-variants as content
@@ -69,39 +65,26 @@ pub end-masked : (s : List ℕ) → first (masked 0x01) s ≡ endOf s
 end-masked s = first-same (masked 0x01) (bit 0) s 0 (λ k h. bit-test (getD s k 0) 0)
 
 -- what a match on the answer tells where it is not the first case
-pub told-refused : (a : DecodeAnswer) → OneOf (1 ∷ 2 ∷ 3 ∷ 4 ∷ 5 ∷ 6 ∷ 7 ∷ 8 ∷ 9 ∷ 10 ∷ []) (tagOf decode-type a) → isAccepted a ≡ false
-told-refused answer.Accepted h = absurd (miss (1 ∷ 2 ∷ 3 ∷ 4 ∷ 5 ∷ 6 ∷ 7 ∷ 8 ∷ 9 ∷ 10 ∷ []) 0 tt h)
+pub told-refused : (a : DecodeAnswer) → OneOf (1 ∷ 2 ∷ 3 ∷ 4 ∷ 5 ∷ 6 ∷ 7 ∷ 8 ∷ 9 ∷ 10 ∷ 11 ∷ []) (tagOf decode-type a) → isAccepted a ≡ false
+told-refused answer.Accepted h = absurd (miss (1 ∷ 2 ∷ 3 ∷ 4 ∷ 5 ∷ 6 ∷ 7 ∷ 8 ∷ 9 ∷ 10 ∷ 11 ∷ []) 0 tt h)
 told-refused answer.OnlyNullBytes h = refl
 told-refused answer.NoEndToAddressField h = refl
 told-refused (answer.AddressFieldTooShort start end) h = refl
 told-refused (answer.FrameTooShort len) h = refl
 told-refused answer.MissingPidField h = refl
-told-refused answer.UnrecognisedSFieldType h = refl
 told-refused answer.UnrecognisedUFieldType h = refl
 told-refused answer.WrongSizeFrmrInfo h = refl
 told-refused answer.TooManyRepeaters h = refl
 told-refused answer.LeadingNullBytes h = refl
+told-refused answer.FrameRejectInLongMode h = refl
+told-refused answer.MissingControlOctet h = refl
 
 -- and of the content's answer
-pub told-content : (a : ContentAnswer) → OneOf (1 ∷ 2 ∷ 3 ∷ 4 ∷ 5 ∷ []) (tagOf the-type a) → isAccepted (refusalOf a) ≡ false
-told-content (content.Accepted k) h = absurd (miss (1 ∷ 2 ∷ 3 ∷ 4 ∷ 5 ∷ []) 0 tt h)
+pub told-content : (a : ContentAnswer) → OneOf (1 ∷ 2 ∷ 3 ∷ 4 ∷ 5 ∷ 6 ∷ []) (tagOf the-type a) → isAccepted (refusalOf a) ≡ false
+told-content (content.Accepted k) h = absurd (miss (1 ∷ 2 ∷ 3 ∷ 4 ∷ 5 ∷ 6 ∷ []) 0 tt h)
 told-content content.ContentZeroLength h = refl
 told-content content.MissingPidField h = refl
-told-content content.UnrecognisedSFieldType h = refl
 told-content content.UnrecognisedUFieldType h = refl
 told-content content.WrongSizeFrmrInfo h = refl
-
--- and of the content, that it is neither I nor UI
-pub told-bare : (k : FrameContent) → OneOf (1 ∷ 2 ∷ 3 ∷ 4 ∷ 5 ∷ 6 ∷ 7 ∷ 8 ∷ 9 ∷ 10 ∷ []) (tagOf content-type k)
-    → OneOf (0 ∷ 1 ∷ 2 ∷ 3 ∷ 4 ∷ 5 ∷ 6 ∷ 7 ∷ 8 ∷ 10 ∷ []) (tagOf content-type k) → (k ≡ kind.UnknownContent → ⊥) → hasInfo k ≡ false
-told-bare (kind.Information k) h g n = absurd (miss (1 ∷ 2 ∷ 3 ∷ 4 ∷ 5 ∷ 6 ∷ 7 ∷ 8 ∷ 9 ∷ 10 ∷ []) 0 tt h)
-told-bare (kind.ReceiveReady k) h g n = refl
-told-bare (kind.ReceiveNotReady k) h g n = refl
-told-bare (kind.Reject k) h g n = refl
-told-bare (kind.SetAsynchronousBalancedMode k) h g n = refl
-told-bare (kind.Disconnect k) h g n = refl
-told-bare (kind.DisconnectedMode k) h g n = refl
-told-bare (kind.UnnumberedAcknowledge k) h g n = refl
-told-bare (kind.FrameReject k) h g n = refl
-told-bare (kind.UnnumberedInformation k) h g n = absurd (miss (0 ∷ 1 ∷ 2 ∷ 3 ∷ 4 ∷ 5 ∷ 6 ∷ 7 ∷ 8 ∷ 10 ∷ []) 9 tt g)
-told-bare kind.UnknownContent h g n = absurd (n refl)
+told-content content.FrameRejectInLongMode h = refl
+told-content content.MissingControlOctet h = refl

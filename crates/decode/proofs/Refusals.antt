@@ -6,6 +6,7 @@ use mathlib.Core.List.{List}
 use lib.Dec.{eqb, ltb}
 use lib.ListN.{length, drop}
 use Rattle.octets.proofs.Choice.{either}
+use Rattle.content.specs.declared.Mode.{Mode}
 use Rattle.parse.specs.Content.{contentOf}
 use Rattle.parse.specs.declared.ContentAnswer.{ContentAnswer}
 use Rattle.parse.specs.declared.ContentAnswer.the-variants as content
@@ -21,22 +22,23 @@ bare : (a : DecodeAnswer) → Bare (refusedWith a)
 unfolding refusedWith
 bare a e = refl
 
-bare-content : (s : List ℕ) (start n control : ℕ) (a : ContentAnswer) → Bare (withContent s start n control a)
+bare-content : (m : Mode) (s : List ℕ) (start n control : ℕ) (a : ContentAnswer) → Bare (withContent m s start n control a)
 unfolding withContent acceptedWith
-bare-content s start n control (content.Accepted k) e = absurd (true≢false e)
-bare-content s start n control content.ContentZeroLength e = bare _ e
-bare-content s start n control content.MissingPidField e = bare _ e
-bare-content s start n control content.UnrecognisedSFieldType e = bare _ e
-bare-content s start n control content.UnrecognisedUFieldType e = bare _ e
-bare-content s start n control content.WrongSizeFrmrInfo e = bare _ e
+bare-content m s start n control (content.Accepted k) e = absurd (true≢false e)
+bare-content m s start n control content.ContentZeroLength e = bare _ e
+bare-content m s start n control content.MissingPidField e = bare _ e
+bare-content m s start n control content.UnrecognisedUFieldType e = bare _ e
+bare-content m s start n control content.WrongSizeFrmrInfo e = bare _ e
+bare-content m s start n control content.FrameRejectInLongMode e = bare _ e
+bare-content m s start n control content.MissingControlOctet e = bare _ e
 
-pub refused-is : (s : List ℕ) → isAccepted (decode s .answer) ≡ false → decode s ≡ refusedWith (decode s .answer)
+pub refused-is : (m : Mode) (s : List ℕ) → isAccepted (decode m s .answer) ≡ false → decode m s ≡ refusedWith (decode m s .answer)
 unfolding decode decodeField
-refused-is s =
+refused-is m s =
     either Bare (eqb (startOf s) (length s)) (λ _. bare _)
     (λ _. either Bare (ltb 0 (startOf s)) (λ _. bare _)
     (λ _. either Bare (eqb (endOf s) (length s)) (λ _. bare _)
     (λ _. either Bare (ltb (endOf s + 1 - 0) 14) (λ _. bare _)
     (λ _. either Bare (eqb (endOf s + 1) (length s)) (λ _. bare _)
     (λ _. either Bare (ltb 8 (repeatersOf 0 (endOf s))) (λ _. bare _)
-    (λ _. bare-content s _ _ _ (contentOf (drop (endOf s + 1) s))))))))
+    (λ _. bare-content m s _ _ _ (contentOf m (drop (endOf s + 1) s))))))))

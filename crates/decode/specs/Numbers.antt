@@ -1,4 +1,4 @@
--- When each number of decoding is given (document 01, Numbers; document 02, M-108), said of the octets and not by decoding them.
+-- When each number of decoding is given (document 01, Numbers; document 02, M-108 and M-109), said of the octets and not by decoding them.
 use Prim.Native.Nat.{ℕ, _+_}
 use mathlib.Core.Bool.{Bool, cond, not}
 use mathlib.Core.List.{List}
@@ -6,6 +6,7 @@ use lib.Dec.{eqb, ltb, leb}
 use lib.ListN.{length, getD, drop}
 use Rattle.octets.specs.Octet.{bit}
 use Rattle.octets.specs.All.{all}
+use Rattle.content.specs.declared.Mode.{Mode}
 use Rattle.parse.specs.Numbers.{rows}
 use Rattle.decode.specs.Answer.{Report, number}
 use Rattle.decode.specs.Read.{nonzero, endOf, repeatersOf}
@@ -35,12 +36,12 @@ abbrev pub manyRepeaters : List ℕ → Bool
 manyRepeaters s = leb 9 (repeatersOf 0 (endOf s))
 
 -- the table in decoding's order: 1, 10, 2, 3 with start and end, 4 with length, 9, then the content's number
-unfoldable pub reported : List ℕ → Report
-reported s =
+unfoldable pub reported : Mode → List ℕ → Report
+reported m s =
     cond (noStart s) (number 1)
     (cond (leadingNull s) (number 10)
     (cond (noEnd s) (number 2)
     (cond (shortField s) (record { number = 3; start = 0; end = endOf s; len = 0 })
     (cond (noContent s) (record { number = 4; start = 0; end = 0; len = length s })
     (cond (manyRepeaters s) (number 9)
-    (number (rows (drop (endOf s + 1) s))))))))
+    (number (rows m (drop (endOf s + 1) s))))))))

@@ -4,12 +4,13 @@ use mathlib.Core.Bool.{Bool, cond, _&&_}
 use mathlib.Core.List.{List}
 use lib.Dec.{eqb, ltb, leb}
 use lib.ListN.{length, drop}
+use Rattle.content.specs.declared.Mode.{Mode}
 use Rattle.parse.specs.Content.{contentOf}
 use Rattle.frame.specs.Frame.{defaultFrame}
 use Rattle.decode.specs.Answer.{isAccepted}
 use Rattle.decode.specs.Read.{startOf, endOf, refusedWith, withContent, decode}
 use Rattle.decode.specs.declared.DecodeAnswer.{DecodeAnswer}
-use Rattle.decode.specs.declared.DecodeAnswer.the-variants.{Accepted, OnlyNullBytes, LeadingNullBytes, MissingPidField, UnrecognisedSFieldType, UnrecognisedUFieldType, WrongSizeFrmrInfo, FrameTooShort}
+use Rattle.decode.specs.declared.DecodeAnswer.the-variants.{Accepted, OnlyNullBytes, LeadingNullBytes, MissingPidField, UnrecognisedUFieldType, WrongSizeFrmrInfo, FrameTooShort, FrameRejectInLongMode, MissingControlOctet}
 use Rattle.decode.specs.declared.Decoded.{Decoded}
 use Rattle.decode.specs.declared.Outline.{Outline}
 
@@ -21,19 +22,19 @@ outlineBy end d = record { answer = d .answer; end = cond (isAccepted (d .answer
 abbrev pub refusedOutline : DecodeAnswer → Outline
 refusedOutline a = record { answer = a; end = 0; «route_count» = defaultFrame .«route_count» }
 
-abbrev pub outlineOf : List ℕ → Outline
-outlineOf s = outlineBy (endOf s) (decode s)
+abbrev pub outlineOf : Mode → List ℕ → Outline
+outlineOf m s = outlineBy (endOf s) (decode m s)
 
 -- whether so many octets hold an address field up to `end` with n repeaters
 abbrev pub holds : ℕ → ℕ → ℕ → Bool
 holds len end n = ltb end len && (leb n 8 && leb (14 + 7 * n) (end + 1))
 
 -- decoding that goes on from an outline. One that tells of more than the octets hold is refused with 4 and their length
-unfoldable pub decodeBy : List ℕ → Outline → Decoded
-decodeBy s o =
+unfoldable pub decodeBy : Mode → List ℕ → Outline → Decoded
+decodeBy m s o =
     cond (isAccepted (o .answer))
     (cond (holds (length s) (o .end) (o .«route_count»))
-    (withContent s 0 (o .«route_count») (o .end + 1) (contentOf (drop (o .end + 1) s)))
+    (withContent m s 0 (o .«route_count») (o .end + 1) (contentOf m (drop (o .end + 1) s)))
     (refusedWith (FrameTooShort (length s))))
     (refusedWith (o .answer))
 
@@ -46,7 +47,8 @@ abbrev pub refusalBy : ℕ → DecodeAnswer
 refusalBy n =
     cond (eqb n 0) Accepted
     (cond (eqb n 5) MissingPidField
-    (cond (eqb n 6) UnrecognisedSFieldType
     (cond (eqb n 7) UnrecognisedUFieldType
     (cond (eqb n 8) WrongSizeFrmrInfo
-    (FrameTooShort 0)))))
+    (cond (eqb n 11) FrameRejectInLongMode
+    (cond (eqb n 12) MissingControlOctet
+    (FrameTooShort 0))))))

@@ -1,4 +1,5 @@
--- Reading a frame: document 01's rules 1, 2, 4 and 5, and the numbers in their order, document 02's 10 (M-108) among them.
+-- Reading a frame: document 01's rules 1, 2, 4 and 5, and the numbers in their order, document 02's 10 (M-108), 11 and 12 (M-109) among
+-- them.
 use Prim.Native.Nat.{ℕ, _+_, _-_, _*_, _/_}
 use mathlib.Core.Bool.{Bool, true, false, cond, not}
 use mathlib.Core.List.{List, [], _∷_}
@@ -8,11 +9,12 @@ use Rattle.octets.specs.Octet.{bit}
 use Rattle.octets.specs.First.{first}
 use Rattle.address.specs.Group.{addressOf, markOf}
 use Rattle.address.specs.declared.group.ParsedAddress.{ParsedAddress}
+use Rattle.content.specs.declared.Mode.{Mode}
 use Rattle.content.specs.declared.FrameContent.{FrameContent}
 use Rattle.parse.specs.declared.ContentAnswer.{ContentAnswer}
 use Rattle.parse.specs.declared.ContentAnswer.the-variants as content
 use Rattle.parse.specs.Content.{contentOf}
-use Rattle.content.specs.Spell.{hasInfo}
+use Rattle.content.specs.Spell.{hasInfo, front}
 use Rattle.frame.specs.Frame.{noEntry, defaultFrame}
 use Rattle.frame.specs.declared.Mark.{Mark}
 use Rattle.frame.specs.declared.Mark.the-variants.{Command, Response, Absent}
@@ -73,14 +75,14 @@ frameAt s start n k = record {
 unfoldable pub refusedWith : DecodeAnswer → Decoded
 refusedWith a = record { answer = a; frame = defaultFrame; «info_start» = 0; «info_len» = 0 }
 
--- a frame whose control octet is at `control`: info, of any length (docs/DIFFERENCES.md, A14), follows control and PID in a kind that
--- has it
-unfoldable pub acceptedWith : Ax25Frame → ℕ → ℕ → Decoded
-acceptedWith f control len = record {
+-- a frame whose control octet is at `control`: info, of any length (docs/DIFFERENCES.md, A14), follows control field and PID in I and UI,
+-- and the control octet in XID and TEST
+unfoldable pub acceptedWith : Mode → Ax25Frame → ℕ → ℕ → Decoded
+acceptedWith m f control len = record {
   answer = answer.Accepted;
   frame = f;
-  «info_start» = cond (hasInfo (f .content)) (control + 2) 0;
-  «info_len» = cond (hasInfo (f .content)) (len - (control + 2)) 0;
+  «info_start» = cond (hasInfo (f .content)) (control + length (front m (f .content))) 0;
+  «info_len» = cond (hasInfo (f .content)) (len - (control + length (front m (f .content)))) 0;
 }
 
 -- what the content's refusal is to the frame
@@ -88,39 +90,41 @@ abbrev pub refusalOf : ContentAnswer → DecodeAnswer
 refusalOf (content.Accepted k) = answer.Accepted
 refusalOf content.ContentZeroLength = answer.FrameTooShort 0
 refusalOf content.MissingPidField = answer.MissingPidField
-refusalOf content.UnrecognisedSFieldType = answer.UnrecognisedSFieldType
 refusalOf content.UnrecognisedUFieldType = answer.UnrecognisedUFieldType
 refusalOf content.WrongSizeFrmrInfo = answer.WrongSizeFrmrInfo
+refusalOf content.FrameRejectInLongMode = answer.FrameRejectInLongMode
+refusalOf content.MissingControlOctet = answer.MissingControlOctet
 
 -- rule 5: with the content's answer in hand
-unfoldable pub withContent : List ℕ → ℕ → ℕ → ℕ → ContentAnswer → Decoded
-withContent s start n control (content.Accepted k) = acceptedWith (frameAt s start n k) control (length s)
-withContent s start n control content.ContentZeroLength = refusedWith (refusalOf content.ContentZeroLength)
-withContent s start n control content.MissingPidField = refusedWith (refusalOf content.MissingPidField)
-withContent s start n control content.UnrecognisedSFieldType = refusedWith (refusalOf content.UnrecognisedSFieldType)
-withContent s start n control content.UnrecognisedUFieldType = refusedWith (refusalOf content.UnrecognisedUFieldType)
-withContent s start n control content.WrongSizeFrmrInfo = refusedWith (refusalOf content.WrongSizeFrmrInfo)
+unfoldable pub withContent : Mode → List ℕ → ℕ → ℕ → ℕ → ContentAnswer → Decoded
+withContent m s start n control (content.Accepted k) = acceptedWith m (frameAt s start n k) control (length s)
+withContent m s start n control content.ContentZeroLength = refusedWith (refusalOf content.ContentZeroLength)
+withContent m s start n control content.MissingPidField = refusedWith (refusalOf content.MissingPidField)
+withContent m s start n control content.UnrecognisedUFieldType = refusedWith (refusalOf content.UnrecognisedUFieldType)
+withContent m s start n control content.WrongSizeFrmrInfo = refusedWith (refusalOf content.WrongSizeFrmrInfo)
+withContent m s start n control content.FrameRejectInLongMode = refusedWith (refusalOf content.FrameRejectInLongMode)
+withContent m s start n control content.MissingControlOctet = refusedWith (refusalOf content.MissingControlOctet)
 
 -- the number of repeaters of an address field from `start` to `end`
 abbrev pub repeatersOf : ℕ → ℕ → ℕ
 repeatersOf start end = (end + 1 - start - 14) / 7
 
 -- an address field from `start` to `end`: 3, 4, 9, then the content's number
-unfoldable pub decodeField : List ℕ → ℕ → ℕ → Decoded
-decodeField s start end =
+unfoldable pub decodeField : Mode → List ℕ → ℕ → ℕ → Decoded
+decodeField m s start end =
     cond (ltb (end + 1 - start) 14) (refusedWith (answer.AddressFieldTooShort start end))
     (cond (eqb (end + 1) (length s)) (refusedWith (answer.FrameTooShort (length s)))
     (cond (ltb 8 (repeatersOf start end)) (refusedWith answer.TooManyRepeaters)
-    (withContent s start (repeatersOf start end) (end + 1) (contentOf (drop (end + 1) s)))))
+    (withContent m s start (repeatersOf start end) (end + 1) (contentOf m (drop (end + 1) s)))))
 
 -- the whole: 1; 10 where nulls stand before the start (docs/DIFFERENCES.md, B8), so that every address field starts at 0; 2; then the
 -- address field's
-unfoldable pub decode : List ℕ → Decoded
-decode s =
+unfoldable pub decode : Mode → List ℕ → Decoded
+decode m s =
     cond (eqb (startOf s) (length s)) (refusedWith answer.OnlyNullBytes)
     (cond (ltb 0 (startOf s)) (refusedWith answer.LeadingNullBytes)
     (cond (eqb (endOf s) (length s)) (refusedWith answer.NoEndToAddressField)
-    (decodeField s 0 (endOf s))))
+    (decodeField m s 0 (endOf s))))
 
 -- the info octets that a decode of s reports
 abbrev pub infoIn : List ℕ → Decoded → List ℕ

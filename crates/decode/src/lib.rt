@@ -1,5 +1,6 @@
 // What reading a frame gives, and its outline: the answer, told from the octets before anything is taken apart. The crate `reading`
 // goes on from there.
+use content::Mode;
 use frame::Ax25Frame;
 ghost use mathlib.Core.Path.{_≡_};
 ghost use Prim.Native.Nat.{_≤_, _<_};
@@ -16,11 +17,12 @@ pub enum DecodeAnswer {
     AddressFieldTooShort { start: usize, end: usize },
     FrameTooShort { len: usize },
     MissingPidField,
-    UnrecognisedSFieldType,
     UnrecognisedUFieldType,
     WrongSizeFrmrInfo,
     TooManyRepeaters,
     LeadingNullBytes,
+    FrameRejectInLongMode,
+    MissingControlOctet,
 }
 
 // What reading gives. The info is `info_len` octets of the input from `info_start` on.
@@ -50,11 +52,12 @@ impl DecodeAnswer {
             DecodeAnswer::AddressFieldTooShort { start: _, end: _ } => 3,
             DecodeAnswer::FrameTooShort { len: _ } => 4,
             DecodeAnswer::MissingPidField => 5,
-            DecodeAnswer::UnrecognisedSFieldType => 6,
             DecodeAnswer::UnrecognisedUFieldType => 7,
             DecodeAnswer::WrongSizeFrmrInfo => 8,
             DecodeAnswer::TooManyRepeaters => 9,
             DecodeAnswer::LeadingNullBytes => 10,
+            DecodeAnswer::FrameRejectInLongMode => 11,
+            DecodeAnswer::MissingControlOctet => 12,
         }
     }
 }
@@ -66,19 +69,20 @@ pub fn refusal(number: u32) -> DecodeAnswer
     match number {
         0 => DecodeAnswer::Accepted,
         5 => DecodeAnswer::MissingPidField,
-        6 => DecodeAnswer::UnrecognisedSFieldType,
         7 => DecodeAnswer::UnrecognisedUFieldType,
         8 => DecodeAnswer::WrongSizeFrmrInfo,
+        11 => DecodeAnswer::FrameRejectInLongMode,
+        12 => DecodeAnswer::MissingControlOctet,
         _ => DecodeAnswer::FrameTooShort { len: 0 },
     }
 }
 
 // The answer for the content from the control octet on.
-fn content_answer(bytes: &[u8], control: usize) -> DecodeAnswer
+fn content_answer(mode: Mode, bytes: &[u8], control: usize) -> DecodeAnswer
     requires { ⌜ control ≤ length (now bytes) ⌝ }
-    ensures { λ r. ⌜ r ≡ refusalOf (contentOf (drop control (now (bytes .entry)))) ⌝ }
+    ensures { λ r. ⌜ r ≡ refusalOf (contentOf mode (drop control (now (bytes .entry)))) ⌝ }
 {
-    refusal(parse::number_of(&bytes[control..]))
+    refusal(parse::number_of(mode, &bytes[control..]))
 }
 
 fn refused_outline(answer: DecodeAnswer) -> Outline
@@ -93,9 +97,9 @@ fn refused_outline(answer: DecodeAnswer) -> Outline
 }
 
 // The address field, from the first octet to the end, and what follows.
-fn outline_field(bytes: &[u8], end: usize) -> Outline
+fn outline_field(mode: Mode, bytes: &[u8], end: usize) -> Outline
     requires { ⌜ end < length (now bytes) ⌝ }
-    ensures { λ r. ⌜ r ≡ outlineBy end (decodeField (now (bytes .entry)) 0 end) ⌝ }
+    ensures { λ r. ⌜ r ≡ outlineBy end (decodeField mode (now (bytes .entry)) 0 end) ⌝ }
 {
     let control = end + 1;
     if control < 14 {
@@ -108,7 +112,7 @@ fn outline_field(bytes: &[u8], end: usize) -> Outline
     if 8 < count {
         return refused_outline(DecodeAnswer::TooManyRepeaters);
     }
-    let answer = content_answer(bytes, control);
+    let answer = content_answer(mode, bytes, control);
     let DecodeAnswer::Accepted = answer else {
         return refused_outline(answer);
     };
@@ -141,8 +145,8 @@ fn null_answer(bytes: &[u8]) -> DecodeAnswer
 }
 
 // All that is known before anything is taken apart. Octets that do not start with a null are searched for the end alone.
-pub fn outline_of(bytes: &[u8]) -> Outline
-    ensures { λ r. ⌜ r ≡ outlineOf (now (bytes .entry)) ⌝ }
+pub fn outline_of(mode: Mode, bytes: &[u8]) -> Outline
+    ensures { λ r. ⌜ r ≡ outlineOf mode (now (bytes .entry)) ⌝ }
 {
     if !starts(bytes) {
         return refused_outline(null_answer(bytes));
@@ -151,5 +155,5 @@ pub fn outline_of(bytes: &[u8]) -> Outline
     if end == bytes.len() {
         return refused_outline(DecodeAnswer::NoEndToAddressField);
     }
-    outline_field(bytes, end)
+    outline_field(mode, bytes, end)
 }

@@ -1,9 +1,10 @@
-// The demands on the calls that C links as contracts of the code, as in `demand_contracts_frames`.
+// The demands on the calls that C links, all in the short mode, as contracts of the code, as in `demand_contracts_frames`.
 ghost use mathlib.Core.Path.{_≡_};
 ghost use mathlib.Core.Bool.{true, false};
 ghost use mathlib.Core.Logic.{_↔_};
 ghost use Prim.Native.Nat.{_≤_, _<_};
 ghost use lib.ListN.{length};
+ghost use Rattle.content.specs.declared.Mode.the-variants.{Short};
 ghost use Rattle.decode.specs.Answer.{numberOf, isAccepted};
 ghost use Rattle.decode.specs.Read.{decode};
 ghost use Rattle.old_captures.specs.Old.{former};
@@ -15,17 +16,19 @@ ghost use Rattle.demands.specs.OneSpelling.{Spelled, Respelled};
 ghost use Rattle.demands.specs.Relay.{relayRows, badStation, Relayed};
 ghost use Rattle.relay.specs.Relay.{stationOf, relayedAs};
 
-// Demand 1: the number is that of the first row of the table that holds.
+// Demand 1: the number is that of the first row of the table that holds. Document 02, M-109: 6 is no longer given, and 11 and 12 are the
+// long mode's.
 pub fn decoded(input: &[u8]) -> u32
-    ensures { λ r. ⌜ FirstRow (decodeTable (now (input .entry))) r ⌝ }
+    ensures { λ r. ⌜ FirstRow (decodeTable Short (now (input .entry))) r ⌝ }
+    ensures { λ r. ⌜ (r ≡ 6 → ⊥) × (r ≡ 11 → ⊥) × (r ≡ 12 → ⊥) ⌝ }
 {
     loader::ax25_decode(input)
 }
 
 // Document 02, M-108: the number that the decoder gave before leading nulls were refused, and still gives wherever that is not 10.
 pub fn decoded_old_capture(input: &[u8]) -> u32
-    ensures { λ r. ⌜ r ≡ numberOf (former (now (input .entry)) .answer) ⌝ }
-    ensures { λ r. ⌜ ((numberOf (decode (now (input .entry)) .answer) ≡ 10 → ⊥) → r ≡ numberOf (decode (now (input .entry)) .answer)) ⌝ }
+    ensures { λ r. ⌜ r ≡ numberOf (former Short (now (input .entry)) .answer) ⌝ }
+    ensures { λ r. ⌜ ((numberOf (decode Short (now (input .entry)) .answer) ≡ 10 → ⊥) → r ≡ numberOf (decode Short (now (input .entry)) .answer)) ⌝ }
     ensures { λ r. ⌜ (r ≡ 10 → ⊥) ⌝ }
 {
     loader::ax25_decode_old_capture(input)
@@ -33,16 +36,16 @@ pub fn decoded_old_capture(input: &[u8]) -> u32
 
 // Demand 3: 1 exactly when some plain frame spells the input, else 0.
 pub fn canonical(input: &[u8]) -> u32
-    ensures { λ r. ⌜ (r ≡ 1) ↔ Spelled (now (input .entry)) ⌝ }
-    ensures { λ r. ⌜ ((Spelled (now (input .entry)) → ⊥) → r ≡ 0) ⌝ }
+    ensures { λ r. ⌜ (r ≡ 1) ↔ Spelled Short (now (input .entry)) ⌝ }
+    ensures { λ r. ⌜ ((Spelled Short (now (input .entry)) → ⊥) → r ≡ 0) ⌝ }
 {
     loader::ax25_canonical(input)
 }
 
 // How many octets the respelling has; 0 where the input is refused.
 pub fn respelled_length(input: &[u8]) -> usize
-    ensures { λ r. ⌜ (isAccepted (decode (now (input .entry)) .answer) ≡ false → r ≡ 0) ⌝ }
-    ensures { λ r. ⌜ (isAccepted (decode (now (input .entry)) .answer) ≡ true → r ≡ length (again (now (input .entry)))) ⌝ }
+    ensures { λ r. ⌜ (isAccepted (decode Short (now (input .entry)) .answer) ≡ false → r ≡ 0) ⌝ }
+    ensures { λ r. ⌜ (isAccepted (decode Short (now (input .entry)) .answer) ≡ true → r ≡ length (again Short (now (input .entry)))) ⌝ }
 {
     loader::ax25_reencoded_length(input)
 }
@@ -51,13 +54,13 @@ pub fn respelled_length(input: &[u8]) -> usize
 // Demand 3: else the respelling stands at the start of the output, and the octets beyond it stay; an accepted input's respelling is
 // canonical, no longer than the input, and means the same.
 pub fn respelled(input: &[u8], output: &mut [u8]) -> u32
-    ensures { λ r. ⌜ (isAccepted (decode (now (input .entry)) .answer) ≡ false
-        → FirstRow (decodeTable (now (input .entry))) r × (now (output .exit) ≡ now (output .entry))) ⌝ }
-    ensures { λ r. ⌜ (isAccepted (decode (now (input .entry)) .answer) ≡ true → length (now (output .entry)) < length (again (now (input .entry)))
+    ensures { λ r. ⌜ (isAccepted (decode Short (now (input .entry)) .answer) ≡ false
+        → FirstRow (decodeTable Short (now (input .entry))) r × (now (output .exit) ≡ now (output .entry))) ⌝ }
+    ensures { λ r. ⌜ (isAccepted (decode Short (now (input .entry)) .answer) ≡ true → length (now (output .entry)) < length (again Short (now (input .entry)))
         → (r ≡ 24) × (now (output .exit) ≡ now (output .entry))) ⌝ }
-    ensures { λ r. ⌜ (isAccepted (decode (now (input .entry)) .answer) ≡ true → length (again (now (input .entry))) ≤ length (now (output .entry))
-        → (r ≡ 0) × (now (output .exit) ≡ starting (again (now (input .entry))) (now (output .entry)))) ⌝ }
-    ensures { λ r. ⌜ (isAccepted (decode (now (input .entry)) .answer) ≡ true → Respelled (now (input .entry)) (again (now (input .entry)))) ⌝ }
+    ensures { λ r. ⌜ (isAccepted (decode Short (now (input .entry)) .answer) ≡ true → length (again Short (now (input .entry))) ≤ length (now (output .entry))
+        → (r ≡ 0) × (now (output .exit) ≡ starting (again Short (now (input .entry))) (now (output .entry)))) ⌝ }
+    ensures { λ r. ⌜ (isAccepted (decode Short (now (input .entry)) .answer) ≡ true → Respelled Short (now (input .entry)) (again Short (now (input .entry)))) ⌝ }
 {
     loader::ax25_reencode(input, output)
 }

@@ -1,5 +1,6 @@
 // What document 02, M-100 and M-102, asks of relaying as contracts of the code, as in `demand_contracts_frames`.
 use address::Address;
+use content::Mode;
 use decode::Decoded;
 use frame::Ax25Frame;
 use relay::RelayAnswer;
@@ -30,30 +31,30 @@ pub fn relayed(own: Address, frame: &mut [u8]) -> RelayAnswer
 // relay was refused, what it was before.
 pub fn read_again(own: Address, frame: &mut [u8]) -> Decoded
     ensures { λ r. ⌜ (reportOf (relayAnswer own (now (frame .entry))) .number ≡ 0
-        → (r .answer ≡ decode (now (frame .entry)) .answer)
-        × (r .frame ≡ frameMarked (decode (now (frame .entry)) .frame) (duePlace (decode (now (frame .entry)) .frame)))
-        × (infoIn (now (frame .exit)) r ≡ infoIn (now (frame .entry)) (decode (now (frame .entry))))) ⌝ }
-    ensures { λ r. ⌜ ((reportOf (relayAnswer own (now (frame .entry))) .number ≡ 0 → ⊥) → r ≡ decode (now (frame .entry))) ⌝ }
-    ensures { λ r. ⌜ r ≡ decode (now (frame .exit)) ⌝ }
+        → (r .answer ≡ decode Mode.Short (now (frame .entry)) .answer)
+        × (r .frame ≡ frameMarked (decode Mode.Short (now (frame .entry)) .frame) (duePlace (decode Mode.Short (now (frame .entry)) .frame)))
+        × (infoIn (now (frame .exit)) r ≡ infoIn (now (frame .entry)) (decode Mode.Short (now (frame .entry))))) ⌝ }
+    ensures { λ r. ⌜ ((reportOf (relayAnswer own (now (frame .entry))) .number ≡ 0 → ⊥) → r ≡ decode Mode.Short (now (frame .entry))) ⌝ }
+    ensures { λ r. ⌜ r ≡ decode Mode.Short (now (frame .exit)) ⌝ }
     ensures { λ r. ⌜ now (frame .exit) ≡ relayed own (now (frame .entry)) ⌝ }
 {
     relay::relay(own, frame);
-    reading::from_bytes(frame)
+    reading::from_bytes(Mode::Short, frame)
 }
 
 // Canonicity stays, whatever the relay answers.
 pub fn canonical_again(own: Address, frame: &mut [u8]) -> bool
-    ensures { λ r. ⌜ r ≡ canonical (now (frame .entry)) ⌝ }
+    ensures { λ r. ⌜ r ≡ canonical Mode.Short (now (frame .entry)) ⌝ }
     ensures { λ r. ⌜ now (frame .exit) ≡ relayed own (now (frame .entry)) ⌝ }
 {
     relay::relay(own, frame);
-    spelling::is_canonical(frame)
+    spelling::is_canonical(Mode::Short, frame)
 }
 
 // A second relay by the same station.
 pub fn relayed_twice(own: Address, frame: &mut [u8]) -> RelayAnswer
     ensures { λ r. ⌜ (reportOf (relayAnswer own (now (frame .entry))) .number ≡ 0
-        → Again own (decode (now (frame .entry)) .frame) (reportOf r .number)) ⌝ }
+        → Again own (decode Mode.Short (now (frame .entry)) .frame) (reportOf r .number)) ⌝ }
     ensures { λ r. ⌜ r ≡ relayAnswer own (relayed own (now (frame .entry))) ⌝ }
     ensures { λ r. ⌜ now (frame .exit) ≡ relayed own (relayed own (now (frame .entry))) ⌝ }
 {

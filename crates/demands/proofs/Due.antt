@@ -13,10 +13,11 @@ use Rattle.octets.specs.All.{all}
 use Rattle.octets.specs.First.{first}
 use Rattle.octets.specs.Same.{same}
 use Rattle.octets.proofs.Choice.{by}
+use Rattle.content.specs.declared.Mode.the-variants.{Short}
 use Rattle.protocol.specs.Pid.{among, pidOf}
 use Rattle.address.specs.Address.{noCall, encodable}
 use Rattle.address.specs.Group.{addressOf, markOf}
-use Rattle.parse.specs.Content.{iOf, sOf, uiOf, uOf, contentOf}
+use Rattle.parse.specs.Content.{iOf, sKindOf, sOf, uiOf, uOf, contentOf}
 use Rattle.frame.specs.Frame.{noEntry, noRoute, simpleUi, defaultFrame}
 use Rattle.frame.specs.declared.Ax25Frame.{Ax25Frame}
 use Rattle.decode.specs.Read.{parsedAt, entryAt, placeAt, routeAt, frameAt, refusedWith, acceptedWith, withContent, decodeField, decode}
@@ -76,7 +77,7 @@ pub used-up-whole : (f : Ax25Frame) → usedUp f ≡ true → broken f ≡ false
 used-up-whole f u = whole-used f (eqb-true (duePlace f) (f .«route_count») u)
 
 -- the frame of the report: two hops are used, place 1 is due, and whichever of its repeaters relays it is refused by 43
-pub reported-frame : (hopsUsed (decode reported .frame) ≡ 2) × (duePlace (decode reported .frame) ≡ 1)
+pub reported-frame : (hopsUsed (decode Short reported .frame) ≡ 2) × (duePlace (decode Short reported .frame) ≡ 1)
     × (map offered hills ≡ (43, reported) ∷ (43, reported) ∷ (43, reported) ∷ [])
-unfolding first same among pidOf noCall addressOf markOf iOf sOf uiOf uOf contentOf noEntry noRoute simpleUi defaultFrame parsedAt entryAt placeAt routeAt frameAt refusedWith acceptedWith withContent decodeField decode ones onesIn all markedAt marks setOf hopSet hopsUsed duePlace broken sameStation encodable dueAnswer relayAnswer stationOf relayAnswerAs relayedAs
+unfolding first same among pidOf noCall addressOf markOf iOf sKindOf sOf uiOf uOf contentOf noEntry noRoute simpleUi defaultFrame parsedAt entryAt placeAt routeAt frameAt refusedWith acceptedWith withContent decodeField decode ones onesIn all markedAt marks setOf hopSet hopsUsed duePlace broken sameStation encodable dueAnswer relayAnswer stationOf relayAnswerAs relayedAs
 reported-frame = (refl, refl, refl)

@@ -6,7 +6,8 @@ use Rattle.octets.specs.Same.{same}
 use Rattle.protocol.specs.Pid.{among, pidOf}
 use Rattle.address.specs.Address.{noCall}
 use Rattle.address.specs.Group.{addressOf, markOf, ssidOctet, groupOf}
-use Rattle.parse.specs.Content.{iOf, sOf, uiOf, responseOf, frmrOf, uOf, contentOf}
+use Rattle.content.specs.declared.Mode.the-variants.{Short}
+use Rattle.parse.specs.Content.{iOf, sKindOf, sOf, uiOf, responseOf, frmrOf, uOf, contentOf}
 use Rattle.frame.specs.Frame.{noEntry, noRoute, simpleUi, defaultFrame}
 use Rattle.decode.specs.Read.{parsedAt, entryAt, placeAt, routeAt, frameAt, refusedWith, acceptedWith, withContent, decodeField, decode}
 use Rattle.frame.specs.Spell.{groupsOf, addressField, spell}
@@ -14,6 +15,6 @@ use Rattle.spelling.specs.Canonical.{again, canonical}
 use Rattle.respelling.specs.Reencode.{due}
 use Rattle.demands.specs.Examples.{outcome, inputs, outcomes}
 
-pub examples : map outcome inputs ≡ outcomes
-unfolding first same among pidOf noCall addressOf markOf ssidOctet groupOf iOf sOf uiOf responseOf frmrOf uOf contentOf noEntry noRoute simpleUi defaultFrame parsedAt entryAt placeAt routeAt frameAt refusedWith acceptedWith withContent decodeField decode groupsOf addressField spell again canonical due
+pub examples : map (outcome Short) inputs ≡ outcomes
+unfolding first same among pidOf noCall addressOf markOf ssidOctet groupOf iOf sKindOf sOf uiOf responseOf frmrOf uOf contentOf noEntry noRoute simpleUi defaultFrame parsedAt entryAt placeAt routeAt frameAt refusedWith acceptedWith withContent decodeField decode groupsOf addressField spell again canonical due
 examples = refl

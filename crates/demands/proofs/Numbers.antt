@@ -15,6 +15,7 @@ use Rattle.text.proofs.Laws.{text-numbers, parts-numbers}
 use Rattle.printing.proofs.Laws.{print-numbers}
 use Rattle.content.specs.Encode.{strayInfo, strayPid}
 use Rattle.content.proofs.Encode.{stray-one}
+use Rattle.content.specs.declared.Mode.{Mode}
 use Rattle.decode.specs.Answer.{numberOf}
 use Rattle.frame.specs.Frame.{writeNumber}
 use Rattle.decode.specs.Read.{decode}
@@ -35,13 +36,13 @@ use Rattle.octets.proofs.Lent.{splice-start}
 by-table : (x : ℕ) (rows : Table) → x ≡ given rows → (n : ℕ) → (x ≡ n) ↔ FirstRow rows n
 by-table x rows e n = rw e (exactly rows n)
 
-pub decoding : (s : List ℕ) (n : ℕ) → (numberOf (decode s .answer) ≡ n) ↔ FirstRow (decodeTable s) n
+pub decoding : (mode : Mode) (s : List ℕ) (n : ℕ) → (numberOf (decode mode s .answer) ≡ n) ↔ FirstRow (decodeTable mode s) n
 unfolding given
-decoding s n = by-table _ (decodeTable s) (decode-rows s) n
+decoding mode s n = by-table _ (decodeTable mode s) (decode-rows mode s) n
 
-pub writing : (f : Ax25Frame) (info : List ℕ) (room n : ℕ) → (writeNumber (writeAnswer f info room) ≡ n) ↔ FirstRow (writeTable f info room) n
+pub writing : (mode : Mode) (f : Ax25Frame) (info : List ℕ) (room n : ℕ) → (writeNumber (writeAnswer mode f info room) ≡ n) ↔ FirstRow (writeTable mode f info room) n
 unfolding given
-writing f info room n = by-table _ (writeTable f info room) (write-rows f info room) n
+writing mode f info room n = by-table _ (writeTable mode f info room) (write-rows mode f info room) n
 
 pub printing : (a : Address) (room n : ℕ) → (printNumberOf (printed a room .answer) ≡ n) ↔ FirstRow (printTable a room) n
 unfolding given
@@ -60,16 +61,16 @@ pub info-or-pid : (f : Ax25Frame) (n : ℕ) → strayInfo (f .content) n ≡ tru
 info-or-pid f n i p = false≢true (sym (stray-one (f .content) n i) ∙ p)
 
 -- a refused write has length 0, and what it leaves in a buffer is what was there
-pub refused-write : (f : Ax25Frame) (info : List ℕ) (room : ℕ) → (writeNumber (writeAnswer f info room) ≡ 0 → ⊥)
-    → (written f info room .length ≡ 0) × ((out : List ℕ) → splice out 0 (octetsWritten f info room) ≡ out)
-refused-write f info room n =
-    let e : octetsWritten f info room ≡ [] = refused-octets f info room n in
-    (ap (λ (w : Written). w .length) (written-is f info room) ∙ rw e refl, λ out. rw e (splice-none out 0))
+pub refused-write : (mode : Mode) (f : Ax25Frame) (info : List ℕ) (room : ℕ) → (writeNumber (writeAnswer mode f info room) ≡ 0 → ⊥)
+    → (written mode f info room .length ≡ 0) × ((out : List ℕ) → splice out 0 (octetsWritten mode f info room) ≡ out)
+refused-write mode f info room n =
+    let e : octetsWritten mode f info room ≡ [] = refused-octets mode f info room n in
+    (ap (λ (w : Written). w .length) (written-is mode f info room) ∙ rw e refl, λ out. rw e (splice-none out 0))
 
 -- an accepted write puts what the frame spells at the start of the buffer
-pub accepted-write : (f : Ax25Frame) (info out : List ℕ) → writeNumber (writeAnswer f info (length out)) ≡ 0
-    → (written f info (length out) .length ≡ length (spell f info))
-    × (splice out 0 (octetsWritten f info (length out)) ≡ starting (spell f info) out)
-accepted-write f info out n =
-    let o = accepted-octets f info (length out) n in
-    (ap (λ (w : Written). w .length) (written-is f info (length out)) ∙ rw (o .0) refl, rw (o .0) (splice-start out (spell f info) (o .1)))
+pub accepted-write : (mode : Mode) (f : Ax25Frame) (info out : List ℕ) → writeNumber (writeAnswer mode f info (length out)) ≡ 0
+    → (written mode f info (length out) .length ≡ length (spell mode f info))
+    × (splice out 0 (octetsWritten mode f info (length out)) ≡ starting (spell mode f info) out)
+accepted-write mode f info out n =
+    let o = accepted-octets mode f info (length out) n in
+    (ap (λ (w : Written). w .length) (written-is mode f info (length out)) ∙ rw (o .0) refl, rw (o .0) (splice-start out (spell mode f info) (o .1)))

@@ -50,14 +50,15 @@ its-own number byNumber back a b e = sym (back a) ∙ ap byNumber e ∙ back b
 
 written : ℕ → WriteAnswer
 written n =
-    cond (eqb n 0) write.Accepted (cond (eqb n 21) write.RouteTooLong (cond (eqb n 22) write.NotEncodable (cond (eqb n 23) write.InfoNotAllowed
-    (cond (eqb n 25) write.PidOutsideClass write.NoRoom))))
+    cond (eqb n 0) write.Accepted (cond (eqb n 21) write.RouteTooLong (cond (eqb n 22) write.NotEncodable
+    (cond (eqb n 11) write.FrameRejectInLongMode (cond (eqb n 23) write.InfoNotAllowed (cond (eqb n 25) write.PidOutsideClass write.NoRoom)))))
 
 written-back : (a : WriteAnswer) → written (writeNumber a) ≡ a
 unfolding written
 written-back write.Accepted = refl
 written-back write.RouteTooLong = refl
 written-back write.NotEncodable = refl
+written-back write.FrameRejectInLongMode = refl
 written-back write.InfoNotAllowed = refl
 written-back write.PidOutsideClass = refl
 written-back write.NoRoom = refl

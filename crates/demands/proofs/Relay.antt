@@ -39,6 +39,7 @@ use Rattle.octets.specs.Table.{Table, given, FirstRow}
 use Rattle.demands.specs.Numbers.{decodeTable}
 use Rattle.demands.specs.Relay.{dueRows, relayRows, relayTable, badStation, placeMarked, frameMarked, Relayed, Again}
 use Rattle.octets.proofs.Table.{exactly}
+use Rattle.content.specs.declared.Mode.the-variants.{Short}
 
 -- the number of an answer
 abbrev numbered : RelayAnswer → ℕ
@@ -61,24 +62,25 @@ zero-accepted read.NoEndToAddressField = refl
 zero-accepted (read.AddressFieldTooShort start end) = refl
 zero-accepted (read.FrameTooShort len) = refl
 zero-accepted read.MissingPidField = refl
-zero-accepted read.UnrecognisedSFieldType = refl
 zero-accepted read.UnrecognisedUFieldType = refl
 zero-accepted read.WrongSizeFrmrInfo = refl
 zero-accepted read.TooManyRepeaters = refl
 zero-accepted read.LeadingNullBytes = refl
+zero-accepted read.FrameRejectInLongMode = refl
+zero-accepted read.MissingControlOctet = refl
 
-decoded-rows : (s : List ℕ) → given (decodeTable s) ≡ numberOf (decode s .answer)
+decoded-rows : (s : List ℕ) → given (decodeTable Short s) ≡ numberOf (decode Short s .answer)
 unfolding given
-decoded-rows s = sym (decode-rows s)
+decoded-rows s = sym (decode-rows Short s)
 
 -- how the rows go on after decoding's
 rows-due : (own : Address) (s : List ℕ)
-    → given (decodeTable s ++ dueRows own (decode s .frame))
-    ≡ cond (isAccepted (decode s .answer)) (numbered (dueAnswer own (decode s .frame))) (numberOf (decode s .answer))
+    → given (decodeTable Short s ++ dueRows own (decode Short s .frame))
+    ≡ cond (isAccepted (decode Short s .answer)) (numbered (dueAnswer own (decode Short s .frame))) (numberOf (decode Short s .answer))
 unfolding given all dueAnswer
 rows-due own s =
-    let f = decode s .frame in
-    given-append (decodeTable s) (dueRows own f) refl
+    let f = decode Short s .frame in
+    given-append (decodeTable Short s) (dueRows own f) refl
     ∙ rw (decoded-rows s, zero-accepted)
     (by (usedUp f) (λ u. rw u refl) (λ u. rw u (by (broken f) (λ b. rw b refl) (λ b. rw b (by (ours own f) (λ o. rw o refl) (λ o. rw o refl))))))
 
@@ -87,7 +89,7 @@ unfolding given
 relay-rows own s =
     by (encodable own)
     (λ h. rw (h, rows-due own s)
-    (by (isAccepted (decode s .answer))
+    (by (isAccepted (decode Short s .answer))
     (λ e. rw (e, relay-accepted own s h e) refl)
     (λ e. rw (e, relay-refused own s h e) refl)))
     (λ h. rw (h, relay-stranger own s h) refl)
@@ -118,16 +120,16 @@ relaying-as c ssid s n = rw (as-rows c ssid s) (exactly (relayRows (badStation c
 -- what a 0 rests on
 record Due (own : Address) (s : List ℕ) : Type 0 where
   able : encodable own ≡ true
-  accepted : isAccepted (decode s .answer) ≡ true
-  inner : duePlace (decode s .frame) < decode s .frame .«route_count»
-  whole : broken (decode s .frame) ≡ false
+  accepted : isAccepted (decode Short s .answer) ≡ true
+  inner : duePlace (decode Short s .frame) < decode Short s .frame .«route_count»
+  whole : broken (decode Short s .frame) ≡ false
   is : relayAnswer own s ≡ relay.Relayed
 
 due-by : (own : Address) (s : List ℕ) → numbered (relayAnswer own s) ≡ 0 → Due own s
 due-by own s z =
     by (encodable own)
-    (λ h. by (isAccepted (decode s .answer))
-    (λ e. let f : Ax25Frame = decode s .frame in
+    (λ h. by (isAccepted (decode Short s .answer))
+    (λ e. let f : Ax25Frame = decode Short s .frame in
     let d = rw (relay-accepted own s h e) at z in
     by (eqb (duePlace f) (f .«route_count»))
     (λ u. absurd (omega (arith, rw (due-none own f (eqb-true _ _ u)) at d)))
@@ -138,7 +140,7 @@ due-by own s z =
     (λ o. record { able = h; accepted = e; inner = omega (arith, due-within f, n); whole = b; is = relay-accepted own s h e ∙ due-ours own f n b o })
     (λ o. absurd (omega (arith, rw (due-other own f n b o) at d))))))
     (λ e. let d = rw (relay-refused own s h e) at z in
-    absurd (true≢false (sym (eq-eqb _ _ d) ∙ zero-accepted (decode s .answer) ∙ e))))
+    absurd (true≢false (sym (eq-eqb _ _ d) ∙ zero-accepted (decode Short s .answer) ∙ e))))
     (λ h. absurd (omega (arith, rw (relay-stranger own s h) at z)))
 
 -- a refusal leaves the octets as they were
@@ -193,7 +195,7 @@ places-marked route i l h =
 
 module _ (own : Address) (s : List ℕ) (z : numbered (relayAnswer own s) ≡ 0) where
   abbrev f : Ax25Frame
-  f = decode s .frame
+  f = decode Short s .frame
 
   abbrev i : ℕ
   i = duePlace f
@@ -217,21 +219,21 @@ module _ (own : Address) (s : List ℕ) (z : numbered (relayAnswer own s) ≡ 0)
   within = let g = groups-inside s (d .accepted) in (omega (arith, d .inner, g .0), omega (arith, d .inner, g .1))
 
   eight-places : length (f .route) ≡ 8
-  eight-places = rw (route s (d .accepted) .read) (route-length s 14 (f .«route_count»))
+  eight-places = rw (route Short s (d .accepted) .read) (route-length s 14 (f .«route_count»))
 
-  read-again : decode t ≡ record {
-    answer = decode s .answer;
+  read-again : decode Short t ≡ record {
+    answer = decode Short s .answer;
     frame = remarked f i true;
-    «info_start» = decode s .«info_start»;
-    «info_len» = decode s .«info_len»;
+    «info_start» = decode Short s .«info_start»;
+    «info_len» = decode Short s .«info_len»;
   }
-  read-again = decode-marked s (d .accepted) i (orMark b) (d .inner) (mark-low b) ∙ rw (mark-high b) refl
+  read-again = decode-marked Short s (d .accepted) i (orMark b) (d .inner) (mark-low b) ∙ rw (mark-high b) refl
 
   frame-again : remarked f i true ≡ frameMarked f i
   unfolding frameMarked
   frame-again = rw (places-marked (f .route) i eight-places (within .0)) refl
 
-  again-accepted : isAccepted (decode t .answer) ≡ true
+  again-accepted : isAccepted (decode Short t .answer) ≡ true
   again-accepted = rw read-again (d .accepted)
 
   octets-again : Octets s → Octets t
@@ -240,16 +242,16 @@ module _ (own : Address) (s : List ℕ) (z : numbered (relayAnswer own s) ≡ 0)
       (λ e. let q : k ≡ p = eqb-true k p e in rw (q, getD-set-same s p (orMark b) 0 (within .1)) (omega arith))
       (λ e. rw (getD-set-other s p k (orMark b) 0 (eqb-false k p e)) (o k))
 
-  same-canonical : Octets s → canonical t ≡ canonical s
+  same-canonical : Octets s → canonical Short t ≡ canonical Short s
   same-canonical o =
-      canonical-direct t (octets-again o) again-accepted
-      ∙ rw read-again (direct-marked s (d .accepted) i (orMark b) (d .inner) (mark-low b))
-      ∙ sym (canonical-direct s o (d .accepted))
+      canonical-direct Short t (octets-again o) again-accepted
+      ∙ rw read-again (direct-marked Short s (d .accepted) i (orMark b) (d .inner) (mark-low b))
+      ∙ sym (canonical-direct Short s o (d .accepted))
 
   -- the mark was not set
   clear-before : bit 7 b ≡ false
   clear-before =
-      let r = route s (d .accepted) in
+      let r = route Short s (d .accepted) in
       sym (place-read s 14 (f .«route_count») i (d .inner) (r .few) .1)
       ∙ rw (← r .read) (sym (marked-in (f .route) (f .«route_count») i (d .inner)) ∙ due-free f (within .0))
 
@@ -263,37 +265,37 @@ module _ (own : Address) (s : List ℕ) (z : numbered (relayAnswer own s) ≡ 0)
     mark = rw (getD-set-same s p (orMark b) 0 (within .1)) (mark-high b);
     answer = ap (λ (x : Decoded). x .answer) read-again;
     frame = ap (λ (x : Decoded). x .frame) read-again ∙ frame-again;
-    info = rw read-again (info-marked s (d .accepted) i (orMark b) (d .inner) (mark-low b));
+    info = rw read-again (info-marked Short s (d .accepted) i (orMark b) (d .inner) (mark-low b));
     canonical = same-canonical o;
   })
 
   -- a second relay by the same station
-  next : (duePlace (decode t .frame) ≡ suc i) × (broken (decode t .frame) ≡ false)
+  next : (duePlace (decode Short t .frame) ≡ suc i) × (broken (decode Short t .frame) ≡ false)
   next =
-      due-next f (decode t .frame) _ (d .whole) (d .inner) (within .0) (rw eight-places (within .0)) refl
+      due-next f (decode Short t .frame) _ (d .whole) (d .inner) (within .0) (rw eight-places (within .0)) refl
       (ap (λ (x : Decoded). x .frame .route) read-again) (ap (λ (x : Decoded). x .frame .«route_count») read-again)
 
-  same-count : decode t .frame .«route_count» ≡ f .«route_count»
+  same-count : decode Short t .frame .«route_count» ≡ f .«route_count»
   same-count = ap (λ (x : Decoded). x .frame .«route_count») read-again
 
-  next-repeater : repeaterAt (decode t .frame .route) (suc i) ≡ repeaterAt (f .route) (suc i)
+  next-repeater : repeaterAt (decode Short t .frame .route) (suc i) ≡ repeaterAt (f .route) (suc i)
   next-repeater = rw read-again (getD-set-other (f .route) i (suc i) _ past (λ e. omega (arith, e)))
 
-  whose : ours own (decode t .frame) ≡ sameStation own (repeaterAt (f .route) (suc i) .repeater)
+  whose : ours own (decode Short t .frame) ≡ sameStation own (repeaterAt (f .route) (suc i) .repeater)
   whose = rw (next .0, next-repeater) refl
 
-  again : relayAnswer own (relayed own s) ≡ dueAnswer own (decode t .frame)
+  again : relayAnswer own (relayed own s) ≡ dueAnswer own (decode Short t .frame)
   again = rw left (relay-accepted own t (d .able) again-accepted)
 
   pub relayed-again : Again own f (numbered (relayAnswer own (relayed own s)))
   relayed-again = rw again (record {
-    none = λ e. rw (due-none own (decode t .frame) (next .0 ∙ e ∙ sym same-count)) refl;
-    another = λ n e. rw (due-other own (decode t .frame) (λ q. n (sym (next .0) ∙ q ∙ same-count)) (next .1) (whose ∙ e)) refl;
-    ours = λ n e. rw (due-ours own (decode t .frame) (λ q. n (sym (next .0) ∙ q ∙ same-count)) (next .1) (whose ∙ e)) refl;
+    none = λ e. rw (due-none own (decode Short t .frame) (next .0 ∙ e ∙ sym same-count)) refl;
+    another = λ n e. rw (due-other own (decode Short t .frame) (λ q. n (sym (next .0) ∙ q ∙ same-count)) (next .1) (whose ∙ e)) refl;
+    ours = λ n e. rw (due-ours own (decode Short t .frame) (λ q. n (sym (next .0) ∙ q ∙ same-count)) (next .1) (whose ∙ e)) refl;
   })
 
 -- canonicity stays, whatever the answer is
-pub relayed-canonical : (own : Address) (s : List ℕ) → Octets s → canonical (relayed own s) ≡ canonical s
+pub relayed-canonical : (own : Address) (s : List ℕ) → Octets s → canonical Short (relayed own s) ≡ canonical Short s
 relayed-canonical own s o =
     by (eqb (numbered (relayAnswer own s)) 0)
     (λ e. relayed-is own s (eqb-true _ _ e) o .canonical)

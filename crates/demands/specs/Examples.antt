@@ -1,4 +1,5 @@
--- Document 01's examples P1 to P13, each with its whole result; those of P6 and P13 are document 02's (M-108, M-105).
+-- Document 01's examples P1 to P13, in the short mode, each with its whole result; those of P6, P8, P9 and P13 are document 02's (M-108,
+-- M-109, M-105).
 use Prim.Native.Nat.{ℕ}
 use mathlib.Core.Bool.{Bool, true, false}
 use mathlib.Core.List.{List, [], _∷_, _++_}
@@ -6,8 +7,9 @@ use lib.ListN.{take}
 use Rattle.protocol.specs.declared.ProtocolIdentifier.{ProtocolIdentifier}
 use Rattle.protocol.specs.declared.ProtocolIdentifier.the-variants.{None, Layer3Impl}
 use Rattle.content.specs.declared.CommandResponse.the-variants as fault
+use Rattle.content.specs.declared.Mode.{Mode}
 use Rattle.content.specs.declared.FrameContent.{FrameContent}
-use Rattle.content.specs.declared.FrameContent.the-variants.{UnnumberedInformation, ReceiveReady, FrameReject}
+use Rattle.content.specs.declared.FrameContent.the-variants.{UnnumberedInformation, ReceiveReady, SelectiveReject, SetAsynchronousBalancedModeExtended, FrameReject}
 use Rattle.decode.specs.Answer.{Report, number, reportOf}
 use Rattle.frame.specs.Frame.{noRoute, defaultFrame}
 use Rattle.decode.specs.Read.{decode}
@@ -16,7 +18,7 @@ use Rattle.frame.specs.declared.Ax25Frame.{Ax25Frame}
 use Rattle.spelling.specs.Canonical.{canonical}
 use Rattle.respelling.specs.Reencode.{due}
 
--- all that an input gives: number and details, frame, info's place, whether it is canonical, the octets it is re-encoded as
+-- all that an input gives in a mode: number and details, frame, info's place, whether it is canonical, the octets it is re-encoded as
 pub record Outcome : Type 0 where
   pub report : Report
   pub frame : Ax25Frame
@@ -25,14 +27,14 @@ pub record Outcome : Type 0 where
   pub canonical : Bool
   pub again : List ℕ
 
-abbrev pub outcome : List ℕ → Outcome
-outcome s = record {
-  report = reportOf (decode s .answer);
-  frame = decode s .frame;
-  info-start = decode s .«info_start»;
-  info-len = decode s .«info_len»;
-  canonical = canonical s;
-  again = due s;
+abbrev pub outcome : Mode → List ℕ → Outcome
+outcome m s = record {
+  report = reportOf (decode m s .answer);
+  frame = decode m s .frame;
+  info-start = decode m s .«info_start»;
+  info-len = decode m s .«info_len»;
+  canonical = canonical m s;
+  again = due m s;
 }
 
 -- the 14 address octets of document 01's frame: to GAUGE, from BOX12-3
@@ -92,8 +94,22 @@ outcomes =
     ∷ record { report = number 0; frame = with (ui None); info-start = 16; info-len = 2; canonical = true; again = whole }
     ∷ refused (number 10)
     ∷ refused (number 5)
-    ∷ refused (number 6)
-    ∷ refused (number 7)
+    ∷ record {
+      report = number 0;
+      frame = with (SelectiveReject (record { «receive_sequence» = 0; «poll_or_final» = false }));
+      info-start = 0;
+      info-len = 0;
+      canonical = true;
+      again = addresses ++ (0x0D ∷ []);
+    }
+    ∷ record {
+      report = number 0;
+      frame = with (SetAsynchronousBalancedModeExtended (record { poll = false }));
+      info-start = 0;
+      info-len = 0;
+      canonical = true;
+      again = addresses ++ (0x6F ∷ []);
+    }
     ∷ refused (number 8)
     ∷ record {
       report = number 0;

@@ -6,3 +6,4 @@ pub mod Relay
 pub mod Due
 pub mod Unseen
 pub mod Old
+pub mod Modes

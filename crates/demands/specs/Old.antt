@@ -5,6 +5,8 @@ use mathlib.Core.Bool.{false}
 use mathlib.Core.List.{List, [], _∷_, _++_}
 use lib.ListN.{take}
 use Rattle.protocol.specs.declared.ProtocolIdentifier.the-variants.{None}
+use Rattle.content.specs.declared.Mode.{Mode}
+use Rattle.content.specs.declared.Mode.the-variants.{Short}
 use Rattle.content.specs.declared.FrameContent.the-variants.{ReceiveReady}
 use Rattle.decode.specs.Answer.{Report, number, numberOf, reportOf}
 use Rattle.decode.specs.Read.{decode}
@@ -15,15 +17,15 @@ use Rattle.old_captures.specs.Old.{decodeOld, former}
 use Rattle.demands.specs.Examples.{addresses, whole, with, ui}
 
 -- of a capture s and what was read of it
-pub record OldCapture (s : List ℕ) (d : Decoded) : Type 0 where
+pub record OldCapture (m : Mode) (s : List ℕ) (d : Decoded) : Type 0 where
   -- all that the decoder gave before leading nulls were refused
-  pub before : d ≡ former s
+  pub before : d ≡ former m s
   -- all that the decoder gives, wherever that does not answer 10
-  pub same : (numberOf (decode s .answer) ≡ 10 → ⊥) → d ≡ decode s
+  pub same : (numberOf (decode m s .answer) ≡ 10 → ⊥) → d ≡ decode m s
   -- 10 is never given
   pub never : numberOf (d .answer) ≡ 10 → ⊥
 
--- all that is read of a capture, and the decoder's number
+-- all that is read of a capture in the short mode, and the decoder's number
 pub record Capture : Type 0 where
   pub decoder : ℕ
   pub report : Report
@@ -33,11 +35,11 @@ pub record Capture : Type 0 where
 
 abbrev pub captured : List ℕ → Capture
 captured s = record {
-  decoder = numberOf (decode s .answer);
-  report = reportOf (decodeOld s .answer);
-  frame = decodeOld s .frame;
-  info-start = decodeOld s .«info_start»;
-  info-len = decodeOld s .«info_len»;
+  decoder = numberOf (decode Short s .answer);
+  report = reportOf (decodeOld Short s .answer);
+  frame = decodeOld Short s .frame;
+  info-start = decodeOld Short s .«info_start»;
+  info-len = decodeOld Short s .«info_len»;
 }
 
 abbrev pub refused : ℕ → Report → Capture

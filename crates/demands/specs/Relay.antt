@@ -18,6 +18,7 @@ use Rattle.hops.specs.Station.{sameStation}
 use Rattle.relay.specs.Relay.{usedUp, ours, dueMark}
 use Rattle.spelling.specs.Canonical.{canonical}
 use Rattle.octets.specs.Table.{Table}
+use Rattle.content.specs.declared.Mode.the-variants.{Short}
 use Rattle.demands.specs.Numbers.{decodeTable}
 
 -- the rows of a frame that decodes: 41, 43, 42
@@ -26,7 +27,7 @@ dueRows own f = (41, usedUp f) ∷ (43, broken f) ∷ (42, not (ours own f)) ∷
 
 -- the table, by whether our own address is refused: 22, then decoding's rows, then those
 abbrev pub relayRows : Bool → Address → List ℕ → Table
-relayRows refused own s = (22, refused) ∷ (decodeTable s ++ dueRows own (decode s .frame))
+relayRows refused own s = (22, refused) ∷ (decodeTable Short s ++ dueRows own (decode Short s .frame))
 
 abbrev pub relayTable : Address → List ℕ → Table
 relayTable own s = relayRows (not (encodable own)) own s
@@ -63,10 +64,10 @@ pub record Relayed (s t : List ℕ) : Type 0 where
   pub clear : bit 7 (getD s (dueMark s) 0) ≡ false
   pub mark : bit 7 (getD t (dueMark s) 0) ≡ true
   -- a further decode: the same answer, the same frame with that one mark set, the same info octets
-  pub answer : decode t .answer ≡ decode s .answer
-  pub frame : decode t .frame ≡ frameMarked (decode s .frame) (duePlace (decode s .frame))
-  pub info : infoIn t (decode t) ≡ infoIn s (decode s)
-  pub canonical : canonical t ≡ canonical s
+  pub answer : decode Short t .answer ≡ decode Short s .answer
+  pub frame : decode Short t .frame ≡ frameMarked (decode Short s .frame) (duePlace (decode Short s .frame))
+  pub info : infoIn t (decode Short t) ≡ infoIn s (decode Short s)
+  pub canonical : canonical Short t ≡ canonical Short s
 
 -- what a second relay by the same station answers of a frame, once relayed: 41 where no place is left, 42 where the next place is
 -- another's, 0 where it is ours too

@@ -13,9 +13,10 @@ use Rattle.text.specs.Text.{alphanumeric}
 use Rattle.printing.specs.Print.{trimmed}
 use Rattle.address.specs.declared.Address.{Address}
 use Rattle.printing.proofs.Laws.{used-le, trimmed-length}
-use Rattle.content.specs.Spell.{hasInfo}
+use Rattle.content.specs.Spell.{hasPid}
 use Rattle.content.specs.declared.FrameContent.{FrameContent}
 use Rattle.content.specs.declared.FrameContent.the-variants as kind
+use Rattle.content.specs.declared.Mode.the-variants.{Short}
 use Rattle.decode.specs.Answer.{isAccepted, numberOf}
 use Rattle.decode.specs.Read.{decode}
 use Rattle.frame.specs.Spell.{repeaterAt}
@@ -75,21 +76,25 @@ mark-short Command = omega arith
 mark-short Response = omega arith
 mark-short Absent = omega arith
 
-pub kind-short : (k : FrameContent) → length (kindText k) ≤ 4
+pub kind-short : (k : FrameContent) → length (kindText k) ≤ 5
 kind-short (kind.Information k) = omega arith
 kind-short (kind.ReceiveReady k) = omega arith
 kind-short (kind.ReceiveNotReady k) = omega arith
 kind-short (kind.Reject k) = omega arith
+kind-short (kind.SelectiveReject k) = omega arith
 kind-short (kind.SetAsynchronousBalancedMode k) = omega arith
+kind-short (kind.SetAsynchronousBalancedModeExtended k) = omega arith
 kind-short (kind.Disconnect k) = omega arith
 kind-short (kind.DisconnectedMode k) = omega arith
 kind-short (kind.UnnumberedAcknowledge k) = omega arith
 kind-short (kind.FrameReject k) = omega arith
 kind-short (kind.UnnumberedInformation k) = omega arith
+kind-short (kind.ExchangeIdentification k) = omega arith
+kind-short (kind.Test k) = omega arith
 kind-short kind.UnknownContent = omega arith
 
 pub pid-short : (k : FrameContent) → length (pidText k) ≤ 2
-pid-short k = either (λ (t : List ℕ). length t ≤ 2) (hasInfo k) (λ e. omega arith) (λ e. omega arith)
+pid-short k = either (λ (t : List ℕ). length t ≤ 2) (hasPid k) (λ e. omega arith) (λ e. omega arith)
 
 pub yes-no-short : (b : Bool) → length (yesNo b) ≤ 3
 yes-no-short true = omega arith
@@ -99,7 +104,7 @@ yes-no-short false = omega arith
 line-long : (key value : List ℕ) → length (key ++ (value ++ ascii "\n")) ≡ length key + length value + 1
 line-long key value = omega (arith, length-append key (value ++ ascii "\n"), length-append value (ascii "\n"))
 
-pub contents-short : (k : FrameContent) → length (contentLines k) ≤ 32
+pub contents-short : (k : FrameContent) → length (contentLines k) ≤ 33
 unfolding contentLines
 contents-short k =
     let a : List ℕ = ascii "kind=" ++ (kindText k ++ ascii "\n") in
@@ -140,11 +145,12 @@ detail-short (answer.AddressFieldTooShort start end) =
     omega (arith, length-append a b, number-short (ascii "start=") start (omega arith), number-short (ascii "end=") end (omega arith))
 detail-short (answer.FrameTooShort len) = omega (arith, number-short (ascii "length=") len (omega arith))
 detail-short answer.MissingPidField = omega arith
-detail-short answer.UnrecognisedSFieldType = omega arith
 detail-short answer.UnrecognisedUFieldType = omega arith
 detail-short answer.WrongSizeFrmrInfo = omega arith
 detail-short answer.TooManyRepeaters = omega arith
 detail-short answer.LeadingNullBytes = omega arith
+detail-short answer.FrameRejectInLongMode = omega arith
+detail-short answer.MissingControlOctet = omega arith
 
 refusal-short : (a : DecodeAnswer) → length (refusalText a) ≤ 512
 unfolding refusalText
@@ -152,12 +158,12 @@ refusal-short a =
     let n : List ℕ = ascii "answer=" ++ (decimal (numberOf a) ++ ascii "\n") in
     omega (arith, length-append n (detailText a), number-short (ascii "answer=") (numberOf a) (omega arith), detail-short a)
 
-pub decoded-short : (s : List ℕ) → Octets s → (c : Bool) → length (decodedText (decode s) c) ≤ 512
+pub decoded-short : (s : List ℕ) → Octets s → (c : Bool) → length (decodedText (decode Short s) c) ≤ 512
 unfolding decodedText
 decoded-short s o c =
-    either (λ (t : List ℕ). length t ≤ 512) (isAccepted (decode s .answer))
-    (λ e. frame-short (decode s) c (stations s o e) (inside s e .few))
-    (λ e. refusal-short (decode s .answer))
+    either (λ (t : List ℕ). length t ≤ 512) (isAccepted (decode Short s .answer))
+    (λ e. frame-short (decode Short s) c (stations Short s o e) (inside Short s e .few))
+    (λ e. refusal-short (decode Short s .answer))
 
 pub fifty-short : length (ascii "answer=" ++ (decimal 50 ++ ascii "\n")) ≤ 512
 fifty-short = omega (arith, number-short (ascii "answer=") 50 (omega arith))
@@ -166,4 +172,4 @@ fifty-short = omega (arith, number-short (ascii "answer=") 50 (omega arith))
 pub dump-short : (s : List ℕ) → Octets s → length (dumpText s) ≤ 512
 unfolding dumpText
 dump-short s o =
-    either (λ (t : List ℕ). length t ≤ 512) (ltb 4096 (length s)) (λ e. fifty-short) (λ e. decoded-short s o (canonical s))
+    either (λ (t : List ℕ). length t ≤ 512) (ltb 4096 (length s)) (λ e. fifty-short) (λ e. decoded-short s o (canonical Short s))

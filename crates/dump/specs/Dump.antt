@@ -1,11 +1,12 @@
--- What the dumper prints (document 01, Loader calls and dumper): key=value lines in a fixed order.
+-- What the dumper prints (document 01, Loader calls and dumper): key=value lines in a fixed order. It reads in the short mode.
 use Prim.Native.Nat.{ℕ}
 use Prim.Native.String.{String}
 use mathlib.Core.Bool.{Bool, cond}
 use mathlib.Core.List.{List, [], _++_}
 use lib.Dec.{ltb}
 use lib.ListN.{length, getD}
-use Rattle.content.specs.Spell.{hasInfo, front}
+use Rattle.content.specs.Spell.{hasPid, front}
+use Rattle.content.specs.declared.Mode.the-variants.{Short}
 use Rattle.content.specs.declared.FrameContent.{FrameContent}
 use Rattle.content.specs.declared.FrameContent.the-variants as kind
 use Rattle.decode.specs.Answer.{numberOf, isAccepted}
@@ -38,20 +39,24 @@ kindText (kind.Information k) = ascii "I"
 kindText (kind.ReceiveReady k) = ascii "RR"
 kindText (kind.ReceiveNotReady k) = ascii "RNR"
 kindText (kind.Reject k) = ascii "REJ"
+kindText (kind.SelectiveReject k) = ascii "SREJ"
 kindText (kind.SetAsynchronousBalancedMode k) = ascii "SABM"
+kindText (kind.SetAsynchronousBalancedModeExtended k) = ascii "SABME"
 kindText (kind.Disconnect k) = ascii "DISC"
 kindText (kind.DisconnectedMode k) = ascii "DM"
 kindText (kind.UnnumberedAcknowledge k) = ascii "UA"
 kindText (kind.FrameReject k) = ascii "FRMR"
 kindText (kind.UnnumberedInformation k) = ascii "UI"
+kindText (kind.ExchangeIdentification k) = ascii "XID"
+kindText (kind.Test k) = ascii "TEST"
 kindText kind.UnknownContent = ascii "-"
 
 -- control and PID as re-encoded: the first two octets of what the content spells
 abbrev pub controlText : FrameContent → List ℕ
-controlText k = hex (getD (front k) 0 0)
+controlText k = hex (getD (front Short k) 0 0)
 
 abbrev pub pidText : FrameContent → List ℕ
-pidText k = cond (hasInfo k) (hex (getD (front k) 1 0)) (ascii "-")
+pidText k = cond (hasPid k) (hex (getD (front Short k) 1 0)) (ascii "-")
 
 abbrev pub yesNo : Bool → List ℕ
 yesNo b = cond b (ascii "yes") (ascii "no")
@@ -80,11 +85,12 @@ detailText answer.NoEndToAddressField = []
 detailText (answer.AddressFieldTooShort start end) = line "start=" (decimal start) ++ line "end=" (decimal end)
 detailText (answer.FrameTooShort len) = line "length=" (decimal len)
 detailText answer.MissingPidField = []
-detailText answer.UnrecognisedSFieldType = []
 detailText answer.UnrecognisedUFieldType = []
 detailText answer.WrongSizeFrmrInfo = []
 detailText answer.TooManyRepeaters = []
 detailText answer.LeadingNullBytes = []
+detailText answer.FrameRejectInLongMode = []
+detailText answer.MissingControlOctet = []
 
 unfoldable pub refusalText : DecodeAnswer → List ℕ
 refusalText a = line "answer=" (decimal (numberOf a)) ++ detailText a
@@ -94,7 +100,7 @@ decodedText d c = cond (isAccepted (d .answer)) (frameText d c) (refusalText (d 
 
 -- the whole: over 4,096 octets, answer 50 alone
 unfoldable pub dumpText : List ℕ → List ℕ
-dumpText s = cond (ltb 4096 (length s)) (line "answer=" (decimal 50)) (decodedText (decode s) (canonical s))
+dumpText s = cond (ltb 4096 (length s)) (line "answer=" (decimal 50)) (decodedText (decode Short s) (canonical Short s))
 
 -- all of it where there is room, else 24
 unfoldable pub dumped : List ℕ → ℕ → Dumped

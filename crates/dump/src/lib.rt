@@ -1,4 +1,5 @@
 // What the dumper prints of an octet string, as octets in a lent buffer.
+use content::Mode;
 use decode::DecodeAnswer;
 use decode::Decoded;
 ghost use mathlib.Core.Path.{_≡_};
@@ -63,11 +64,12 @@ fn put_details(out: &mut [u8], at: usize, answer: DecodeAnswer) -> usize
         }
         DecodeAnswer::FrameTooShort { len } => lines::put_number_line(out, at, b"length=", len),
         DecodeAnswer::MissingPidField => at,
-        DecodeAnswer::UnrecognisedSFieldType => at,
         DecodeAnswer::UnrecognisedUFieldType => at,
         DecodeAnswer::WrongSizeFrmrInfo => at,
         DecodeAnswer::TooManyRepeaters => at,
         DecodeAnswer::LeadingNullBytes => at,
+        DecodeAnswer::FrameRejectInLongMode => at,
+        DecodeAnswer::MissingControlOctet => at,
     }
 }
 
@@ -98,8 +100,8 @@ fn put_dump(out: &mut [u8], input: &[u8]) -> usize
     if 4096 < input.len() {
         return lines::put_number_line(out, 0, b"answer=", 50);
     }
-    let decoded = reading::from_bytes(input);
-    let canonical = spelling::is_canonical(input);
+    let decoded = reading::from_bytes(Mode::Short, input);
+    let canonical = spelling::is_canonical(Mode::Short, input);
     put_decoded(out, decoded, canonical)
 }
 

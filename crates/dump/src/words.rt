@@ -1,5 +1,6 @@
 // Short words by value.
 use content::FrameContent;
+use content::Mode;
 use frame::Mark;
 ghost use mathlib.Core.Path.{_≡_};
 ghost use Prim.Native.Nat.{_<_};
@@ -88,9 +89,17 @@ pub(crate) fn kind(content: FrameContent) -> Word
             letters: *b"REJ\0\0\0\0\0",
             length: 3,
         },
+        FrameContent::SelectiveReject(_) => Word {
+            letters: *b"SREJ\0\0\0\0",
+            length: 4,
+        },
         FrameContent::SetAsynchronousBalancedMode(_) => Word {
             letters: *b"SABM\0\0\0\0",
             length: 4,
+        },
+        FrameContent::SetAsynchronousBalancedModeExtended(_) => Word {
+            letters: *b"SABME\0\0\0",
+            length: 5,
         },
         FrameContent::Disconnect(_) => Word {
             letters: *b"DISC\0\0\0\0",
@@ -112,6 +121,14 @@ pub(crate) fn kind(content: FrameContent) -> Word
             letters: *b"UI\0\0\0\0\0\0",
             length: 2,
         },
+        FrameContent::ExchangeIdentification(_) => Word {
+            letters: *b"XID\0\0\0\0\0",
+            length: 3,
+        },
+        FrameContent::Test(_) => Word {
+            letters: *b"TEST\0\0\0\0",
+            length: 4,
+        },
         FrameContent::UnknownContent => Word {
             letters: *b"-\0\0\0\0\0\0\0",
             length: 1,
@@ -123,7 +140,7 @@ pub(crate) fn kind(content: FrameContent) -> Word
 pub(crate) fn control(content: FrameContent) -> Word
     ensures { λ r. ⌜ r ≡ wordOf (controlText content) ⌝ }
 {
-    let front = content.front();
+    let front = content.front(Mode::Short);
     hex(front[0])
 }
 
@@ -131,8 +148,8 @@ pub(crate) fn control(content: FrameContent) -> Word
 pub(crate) fn pid(content: FrameContent) -> Word
     ensures { λ r. ⌜ r ≡ wordOf (pidText content) ⌝ }
 {
-    if content.has_info() {
-        let front = content.front();
+    if content.has_pid() {
+        let front = content.front(Mode::Short);
         return hex(front[1]);
     }
     Word {

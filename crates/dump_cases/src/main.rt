@@ -62,12 +62,12 @@ fn contents(list: &[u8]) {
     );
 }
 
-// P1 to P4 and P7 to P10, and more of the kind: the number, and the details of 3 and 4.
+// P1 to P4, P7 and P10, and more of the kind: the number, and the details of 3 and 4.
 fn refusals() {
     frames(
         b"\x00\x02\x00\x00\x02\x8E\x82\x0D\x8E\x82\xAA\x8E\x8A\x40\xE0\x84\x9E\xB0\x62\x64\x41\x01\x01\x0E\x8E\x82\xAA\x8E\x8A\x40\xE0\x84\x9E\xB0\x62\x64\x40\x67",
     );
-    contents(b"\x01\x03\x01\x00\x01\x0D\x01\x6F\x03\x87\x01\x02\x05\x87\x01\x02\x44\x00");
+    contents(b"\x01\x03\x01\x00\x01\x0B\x01\xFF\x03\x87\x01\x02\x05\x87\x01\x02\x44\x00");
 }
 
 // Leading nulls are refused by 10, which has no details, whatever follows: one octet without an end bit (00 02), a short field (01, and
@@ -89,6 +89,14 @@ fn repeaters() {
 fn kinds() {
     contents(
         b"\x02\x00\xF0\x05\xBA\xCF\x31\x32\x33\x01\x61\x01\x95\x01\x29\x01\x3F\x01\x43\x01\x0F\x01\x73\x04\x87\x0F\xEE\x44\x04\x97\x00\x00\x00\x02\x13\xCF",
+    );
+}
+
+// The kinds of document 02, M-109: SREJ (P8), with all its bits, with a tail; SABME (P9), with its bit 4, with a tail; XID with two octets
+// of info, and alone with its bit 4; TEST alone, and with a PID's octet as info and its bit 4.
+fn extended() {
+    contents(
+        b"\x01\x0D\x01\xFD\x02\x0D\xAA\x01\x6F\x01\x7F\x02\x6F\x00\x03\xAF\x82\x80\x01\xBF\x01\xE3\x02\xF3\xF0",
     );
 }
 
@@ -127,6 +135,7 @@ fn main() {
     nulls();
     repeaters();
     kinds();
+    extended();
     layer3();
     reserved();
     spellings();

@@ -39,12 +39,16 @@ content-length (kind.Information k) = refl
 content-length (kind.ReceiveReady k) = refl
 content-length (kind.ReceiveNotReady k) = refl
 content-length (kind.Reject k) = refl
+content-length (kind.SelectiveReject k) = refl
 content-length (kind.SetAsynchronousBalancedMode k) = refl
+content-length (kind.SetAsynchronousBalancedModeExtended k) = refl
 content-length (kind.Disconnect k) = refl
 content-length (kind.DisconnectedMode k) = refl
 content-length (kind.UnnumberedAcknowledge k) = refl
 content-length (kind.FrameReject k) = refl
 content-length (kind.UnnumberedInformation k) = refl
+content-length (kind.ExchangeIdentification k) = refl
+content-length (kind.Test k) = refl
 content-length kind.UnknownContent = refl
 
 -- two octets, then the content

@@ -30,6 +30,6 @@ pub pid-past : (case octet : ℕ) → Past case 15 → pidFrom case octet ≡ Un
 unfolding pidFrom
 pid-past case octet h = List·getD-eq-default (pids octet) (Unknown octet) (past case 15 h)
 
-pub content-past : (k : ℕ) (pid : ProtocolIdentifier) (f : FrameReject) → Past k 10 → contentWith k pid f ≡ UnknownContent
+pub content-past : (k : ℕ) (pid : ProtocolIdentifier) (f : FrameReject) → Past k 14 → contentWith k pid f ≡ UnknownContent
 unfolding contentWith
-content-past k pid f h = List·getD-eq-default (kinds pid f) UnknownContent (past k 10 h)
+content-past k pid f h = List·getD-eq-default (kinds pid f) UnknownContent (past k 14 h)

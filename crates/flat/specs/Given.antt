@@ -73,7 +73,7 @@ fieldsAt s at = record {
   «command_response» = responseFrom (octetAt s (at + 10));
 }
 
--- the kinds in the record's order, each with the fields that it has; 10 and more: `UnknownContent`
+-- the kinds in the record's order, each with the fields that it has; 14 and more: `UnknownContent`
 abbrev pub kinds : ProtocolIdentifier → FrameReject → List FrameContent
 kinds pid f =
     kind.Information (record {
@@ -85,12 +85,16 @@ kinds pid f =
     ∷ kind.ReceiveReady (record { «receive_sequence» = f .«receive_sequence»; «poll_or_final» = f .«final_bit» })
     ∷ kind.ReceiveNotReady (record { «receive_sequence» = f .«receive_sequence»; «poll_or_final» = f .«final_bit» })
     ∷ kind.Reject (record { «receive_sequence» = f .«receive_sequence»; «poll_or_final» = f .«final_bit» })
+    ∷ kind.SelectiveReject (record { «receive_sequence» = f .«receive_sequence»; «poll_or_final» = f .«final_bit» })
     ∷ kind.SetAsynchronousBalancedMode (record { poll = f .«final_bit» })
+    ∷ kind.SetAsynchronousBalancedModeExtended (record { poll = f .«final_bit» })
     ∷ kind.Disconnect (record { poll = f .«final_bit» })
     ∷ kind.DisconnectedMode (record { «final_bit» = f .«final_bit» })
     ∷ kind.UnnumberedAcknowledge (record { «final_bit» = f .«final_bit» })
     ∷ kind.FrameReject f
     ∷ kind.UnnumberedInformation (record { pid = pid; «poll_or_final» = f .«final_bit» })
+    ∷ kind.ExchangeIdentification (record { «poll_or_final» = f .«final_bit» })
+    ∷ kind.Test (record { «poll_or_final» = f .«final_bit» })
     ∷ []
 
 unfoldable pub contentWith : ℕ → ProtocolIdentifier → FrameReject → FrameContent

@@ -94,7 +94,7 @@ withPidFlat k pid on receive send = k ∷ pidCase pid ∷ pidOctet pid ∷ flag 
 
 abbrev pub rejectFlat : FrameReject → List ℕ
 rejectFlat k =
-    8 ∷ 0 ∷ 0 ∷ flag 0 (k .«final_bit») ∷ k .«receive_sequence» ∷ k .«send_sequence»
+    10 ∷ 0 ∷ 0 ∷ flag 0 (k .«final_bit») ∷ k .«receive_sequence» ∷ k .«send_sequence»
     ∷ flag 0 (k .z) ∷ flag 0 (k .y) ∷ flag 0 (k .x) ∷ flag 0 (k .w)
     ∷ responseFlat (k .«command_response») ∷ k .«rejected_control_field_raw» ∷ []
 
@@ -103,13 +103,17 @@ contentFlat (kind.Information k) = withPidFlat 0 (k .pid) (k .poll) (k .«receiv
 contentFlat (kind.ReceiveReady k) = bareFlat 1 (k .«poll_or_final») (k .«receive_sequence»)
 contentFlat (kind.ReceiveNotReady k) = bareFlat 2 (k .«poll_or_final») (k .«receive_sequence»)
 contentFlat (kind.Reject k) = bareFlat 3 (k .«poll_or_final») (k .«receive_sequence»)
-contentFlat (kind.SetAsynchronousBalancedMode k) = bareFlat 4 (k .poll) 0
-contentFlat (kind.Disconnect k) = bareFlat 5 (k .poll) 0
-contentFlat (kind.DisconnectedMode k) = bareFlat 6 (k .«final_bit») 0
-contentFlat (kind.UnnumberedAcknowledge k) = bareFlat 7 (k .«final_bit») 0
+contentFlat (kind.SelectiveReject k) = bareFlat 4 (k .«poll_or_final») (k .«receive_sequence»)
+contentFlat (kind.SetAsynchronousBalancedMode k) = bareFlat 5 (k .poll) 0
+contentFlat (kind.SetAsynchronousBalancedModeExtended k) = bareFlat 6 (k .poll) 0
+contentFlat (kind.Disconnect k) = bareFlat 7 (k .poll) 0
+contentFlat (kind.DisconnectedMode k) = bareFlat 8 (k .«final_bit») 0
+contentFlat (kind.UnnumberedAcknowledge k) = bareFlat 9 (k .«final_bit») 0
 contentFlat (kind.FrameReject k) = rejectFlat k
-contentFlat (kind.UnnumberedInformation k) = withPidFlat 9 (k .pid) (k .«poll_or_final») 0 0
-contentFlat kind.UnknownContent = bareFlat 10 false 0
+contentFlat (kind.UnnumberedInformation k) = withPidFlat 11 (k .pid) (k .«poll_or_final») 0 0
+contentFlat (kind.ExchangeIdentification k) = bareFlat 12 (k .«poll_or_final») 0
+contentFlat (kind.Test k) = bareFlat 13 (k .«poll_or_final») 0
+contentFlat kind.UnknownContent = bareFlat 14 false 0
 
 -- what follows the route, from octet 88 on: its count, the mark, the content
 abbrev pub restFlat : Ax25Frame → List ℕ

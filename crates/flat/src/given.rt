@@ -3,13 +3,17 @@ use address::Address;
 use content::CommandResponse;
 use content::Disconnect;
 use content::DisconnectedMode;
+use content::ExchangeIdentification;
 use content::FrameContent;
 use content::FrameReject;
 use content::Information;
 use content::ReceiveNotReady;
 use content::ReceiveReady;
 use content::Reject;
+use content::SelectiveReject;
 use content::SetAsynchronousBalancedMode;
+use content::SetAsynchronousBalancedModeExtended;
+use content::Test;
 use content::UnnumberedAcknowledge;
 use content::UnnumberedInformation;
 use frame::Ax25Frame;
@@ -163,15 +167,24 @@ fn content_with(kind: u8, pid: ProtocolIdentifier, fields: FrameReject) -> Frame
             receive_sequence,
             poll_or_final: on,
         }),
-        4 => FrameContent::SetAsynchronousBalancedMode(SetAsynchronousBalancedMode { poll: on }),
-        5 => FrameContent::Disconnect(Disconnect { poll: on }),
-        6 => FrameContent::DisconnectedMode(DisconnectedMode { final_bit: on }),
-        7 => FrameContent::UnnumberedAcknowledge(UnnumberedAcknowledge { final_bit: on }),
-        8 => FrameContent::FrameReject(fields),
-        9 => FrameContent::UnnumberedInformation(UnnumberedInformation {
+        4 => FrameContent::SelectiveReject(SelectiveReject {
+            receive_sequence,
+            poll_or_final: on,
+        }),
+        5 => FrameContent::SetAsynchronousBalancedMode(SetAsynchronousBalancedMode { poll: on }),
+        6 => FrameContent::SetAsynchronousBalancedModeExtended(SetAsynchronousBalancedModeExtended {
+            poll: on,
+        }),
+        7 => FrameContent::Disconnect(Disconnect { poll: on }),
+        8 => FrameContent::DisconnectedMode(DisconnectedMode { final_bit: on }),
+        9 => FrameContent::UnnumberedAcknowledge(UnnumberedAcknowledge { final_bit: on }),
+        10 => FrameContent::FrameReject(fields),
+        11 => FrameContent::UnnumberedInformation(UnnumberedInformation {
             pid,
             poll_or_final: on,
         }),
+        12 => FrameContent::ExchangeIdentification(ExchangeIdentification { poll_or_final: on }),
+        13 => FrameContent::Test(Test { poll_or_final: on }),
         _ => FrameContent::UnknownContent,
     }
 }

@@ -165,7 +165,7 @@ fn reject(k: FrameReject) -> [u8; 12]
 {
     let command_response = k.command_response;
     [
-        8,
+        10,
         0,
         0,
         k.final_bit as u8,
@@ -191,16 +191,20 @@ fn content_octets(content: FrameContent) -> [u8; 12]
         FrameContent::ReceiveReady(k) => bare(1, k.poll_or_final, k.receive_sequence),
         FrameContent::ReceiveNotReady(k) => bare(2, k.poll_or_final, k.receive_sequence),
         FrameContent::Reject(k) => bare(3, k.poll_or_final, k.receive_sequence),
-        FrameContent::SetAsynchronousBalancedMode(k) => bare(4, k.poll, 0),
-        FrameContent::Disconnect(k) => bare(5, k.poll, 0),
-        FrameContent::DisconnectedMode(k) => bare(6, k.final_bit, 0),
-        FrameContent::UnnumberedAcknowledge(k) => bare(7, k.final_bit, 0),
+        FrameContent::SelectiveReject(k) => bare(4, k.poll_or_final, k.receive_sequence),
+        FrameContent::SetAsynchronousBalancedMode(k) => bare(5, k.poll, 0),
+        FrameContent::SetAsynchronousBalancedModeExtended(k) => bare(6, k.poll, 0),
+        FrameContent::Disconnect(k) => bare(7, k.poll, 0),
+        FrameContent::DisconnectedMode(k) => bare(8, k.final_bit, 0),
+        FrameContent::UnnumberedAcknowledge(k) => bare(9, k.final_bit, 0),
         FrameContent::FrameReject(k) => reject(k),
         FrameContent::UnnumberedInformation(k) => {
             let pid = k.pid;
-            with_pid(9, pid, k.poll_or_final, 0, 0)
+            with_pid(11, pid, k.poll_or_final, 0, 0)
         }
-        FrameContent::UnknownContent => bare(10, false, 0),
+        FrameContent::ExchangeIdentification(k) => bare(12, k.poll_or_final, 0),
+        FrameContent::Test(k) => bare(13, k.poll_or_final, 0),
+        FrameContent::UnknownContent => bare(14, false, 0),
     }
 }
 

@@ -19,13 +19,14 @@ use Rattle.address.specs.Address.{encodable}
 use Rattle.address.specs.Group.{groupOf}
 use Rattle.address.proofs.Laws.{group-length}
 use Rattle.content.specs.Spell.{front}
-use Rattle.content.specs.Encode.{strayInfo, strayPid, answerOf, encodeOf, encoded}
+use Rattle.content.specs.Encode.{longFrmr, strayInfo, strayPid, answerOf, encodeOf, encoded}
+use Rattle.content.specs.declared.Mode.{Mode}
 use Rattle.content.specs.declared.EncodeAnswer.the-variants.{Written}
 use Rattle.content.proofs.Encode.{answer-written}
 use Rattle.frame.specs.Spell.{repeaterAt, groupsOf, destinationMark, sourceMark, addressField, spell}
 use Rattle.frame.specs.Write.{routeEncodable, frameEncodable, writeAnswer, Taken, octetsBy}
 use Rattle.frame.specs.declared.WriteAnswer.{WriteAnswer}
-use Rattle.frame.specs.declared.WriteAnswer.the-variants.{Accepted, RouteTooLong, NotEncodable, InfoNotAllowed, PidOutsideClass, NoRoom}
+use Rattle.frame.specs.declared.WriteAnswer.the-variants.{Accepted, RouteTooLong, NotEncodable, FrameRejectInLongMode, InfoNotAllowed, PidOutsideClass, NoRoom}
 use Rattle.frame.proofs.WriteAnswer.{the-type}
 use Rattle.frame.specs.declared.Mark.{Mark}
 use Rattle.frame.specs.declared.Mark.the-variants.{Command, Response, Absent}
@@ -75,10 +76,10 @@ pub field-length : (f : Ax25Frame) → length (addressField f) ≡ 14 + 7 * f .�
 unfolding addressField
 field-length f = simp (length-append, group-length, groups-length) (omega arith)
 
-pub spell-length : (f : Ax25Frame) (info : List ℕ)
-    → length (spell f info) ≡ 14 + 7 * f .«route_count» + length (front (f .content)) + length info
+pub spell-length : (m : Mode) (f : Ax25Frame) (info : List ℕ)
+    → length (spell m f info) ≡ 14 + 7 * f .«route_count» + length (front m (f .content)) + length info
 unfolding spell
-spell-length f info = simp (length-append, field-length) (omega arith)
+spell-length m f info = simp (length-append, field-length) (omega arith)
 
 -- exactly one of the two marks is set
 pub marks-differ : (m : Mark) → sourceMark m ≡ not (destinationMark m)
@@ -114,48 +115,52 @@ frame-each f e =
     (b .0, b .1, a .1)
 
 -- an accepted answer says that nothing was refused
-Says : Ax25Frame → List ℕ → ℕ → WriteAnswer → Type 0
-Says f info room Accepted = Taken f info room
-Says f info room RouteTooLong = Unit {0}
-Says f info room NotEncodable = Unit {0}
-Says f info room InfoNotAllowed = Unit {0}
-Says f info room PidOutsideClass = Unit {0}
-Says f info room NoRoom = Unit {0}
+Says : Mode → Ax25Frame → List ℕ → ℕ → WriteAnswer → Type 0
+Says m f info room Accepted = Taken m f info room
+Says m f info room RouteTooLong = Unit {0}
+Says m f info room NotEncodable = Unit {0}
+Says m f info room FrameRejectInLongMode = Unit {0}
+Says m f info room InfoNotAllowed = Unit {0}
+Says m f info room PidOutsideClass = Unit {0}
+Says m f info room NoRoom = Unit {0}
 
-says : (f : Ax25Frame) (info : List ℕ) (room : ℕ) → Says f info room (writeAnswer f info room)
+says : (m : Mode) (f : Ax25Frame) (info : List ℕ) (room : ℕ) → Says m f info room (writeAnswer m f info room)
 unfolding writeAnswer Says
-says f info room =
-    let P : WriteAnswer → Type 0 = Says f info room in
+says m f info room =
+    let P : WriteAnswer → Type 0 = Says m f info room in
     either P (ltb 8 (f .«route_count»)) (λ _. tt)
     (λ a. either P (not (frameEncodable f)) (λ _. tt)
-    (λ b. either P (strayInfo (f .content) (length info)) (λ _. tt)
+    (λ b. either P (longFrmr m (f .content)) (λ _. tt)
+    (λ k. either P (strayInfo (f .content) (length info)) (λ _. tt)
     (λ c. either P (strayPid (f .content)) (λ _. tt)
-    (λ d. either P (ltb room (length (spell f info))) (λ _. tt)
-    (λ e. record { count = ltb-false _ _ a; addresses = not-false _ b; info = c; pid = d; room = ltb-false _ _ e })))))
+    (λ d. either P (ltb room (length (spell m f info))) (λ _. tt)
+    (λ e. record { count = ltb-false _ _ a; addresses = not-false _ b; known = k; info = c; pid = d; room = ltb-false _ _ e }))))))
 
-pub accepted-taken : (f : Ax25Frame) (info : List ℕ) (room : ℕ) → writeAnswer f info room ≡ Accepted → Taken f info room
+pub accepted-taken : (m : Mode) (f : Ax25Frame) (info : List ℕ) (room : ℕ) → writeAnswer m f info room ≡ Accepted → Taken m f info room
 unfolding Says
-accepted-taken f info room e = subst (Says f info room) e (says f info room)
+accepted-taken m f info room e = subst (Says m f info room) e (says m f info room)
 
 -- what a match on the answer tells
 pub told-accepted : (a : WriteAnswer) → OneOf (0 ∷ []) (tagOf the-type a) → a ≡ Accepted
 told-accepted Accepted h = refl
 told-accepted RouteTooLong h = absurd (miss (0 ∷ []) 1 tt h)
 told-accepted NotEncodable h = absurd (miss (0 ∷ []) 2 tt h)
-told-accepted InfoNotAllowed h = absurd (miss (0 ∷ []) 3 tt h)
-told-accepted PidOutsideClass h = absurd (miss (0 ∷ []) 4 tt h)
-told-accepted NoRoom h = absurd (miss (0 ∷ []) 5 tt h)
+told-accepted FrameRejectInLongMode h = absurd (miss (0 ∷ []) 3 tt h)
+told-accepted InfoNotAllowed h = absurd (miss (0 ∷ []) 4 tt h)
+told-accepted PidOutsideClass h = absurd (miss (0 ∷ []) 5 tt h)
+told-accepted NoRoom h = absurd (miss (0 ∷ []) 6 tt h)
 
-pub told-refused : (a : WriteAnswer) (s : List ℕ) → OneOf (1 ∷ 2 ∷ 3 ∷ 4 ∷ 5 ∷ []) (tagOf the-type a) → octetsBy a s ≡ []
-told-refused Accepted s h = absurd (miss (1 ∷ 2 ∷ 3 ∷ 4 ∷ 5 ∷ []) 0 tt h)
+pub told-refused : (a : WriteAnswer) (s : List ℕ) → OneOf (1 ∷ 2 ∷ 3 ∷ 4 ∷ 5 ∷ 6 ∷ []) (tagOf the-type a) → octetsBy a s ≡ []
+told-refused Accepted s h = absurd (miss (1 ∷ 2 ∷ 3 ∷ 4 ∷ 5 ∷ 6 ∷ []) 0 tt h)
 told-refused RouteTooLong s h = refl
 told-refused NotEncodable s h = refl
+told-refused FrameRejectInLongMode s h = refl
 told-refused InfoNotAllowed s h = refl
 told-refused PidOutsideClass s h = refl
 told-refused NoRoom s h = refl
 
 -- the address field, then the content in the room that is left
-module _ (f : Ax25Frame) (info l : List ℕ) (t : Taken f info (length l)) where
+module _ (m : Mode) (f : Ax25Frame) (info l : List ℕ) (t : Taken m f info (length l)) where
   abbrev at : ℕ
   at = 14 + 7 * f .«route_count»
 
@@ -166,27 +171,27 @@ module _ (f : Ax25Frame) (info l : List ℕ) (t : Taken f info (length l)) where
   left = take (length after - at) (drop at after)
 
   pub field-room : at ≤ length l
-  field-room = omega (arith, spell-length f info, t .room)
+  field-room = omega (arith, spell-length m f info, t .room)
 
-  fits : at + (length (front (f .content)) + length info) ≤ length l
-  fits = omega (arith, spell-length f info, t .room)
+  fits : at + (length (front m (f .content)) + length info) ≤ length l
+  fits = omega (arith, spell-length m f info, t .room)
 
-  content-written : answerOf (f .content) (length info) (length left) ≡ Written
+  content-written : answerOf m (f .content) (length info) (length left) ≡ Written
   content-written =
       let n : length after ≡ length l = splice-length l 0 (addressField f) in
-      let m : length left ≡ length after - at = rw part-from (length-drop at after) in
-      answer-written (f .content) (length info) (length left) (t .info) (t .pid)
-      (le-ltb (length left) (length (front (f .content)) + length info) (omega (arith, fits)))
+      let r : length left ≡ length after - at = rw part-from (length-drop at after) in
+      answer-written m (f .content) (length info) (length left) (t .known) (t .info) (t .pid)
+      (le-ltb (length left) (length (front m (f .content)) + length info) (omega (arith, fits)))
 
-  pub content-length : encodeOf (f .content) (length info) (length left) .length ≡ length (front (f .content)) + length info
+  pub content-length : encodeOf m (f .content) (length info) (length left) .length ≡ length (front m (f .content)) + length info
   content-length = rw content-written
 
-  pub content-put : take at after ++ (splice left 0 (encoded (f .content) info (length left)) ++ drop (length after - at) (drop at after))
-      ≡ splice l 0 (spell f info)
+  pub content-put : take at after ++ (splice left 0 (encoded m (f .content) info (length left)) ++ drop (length after - at) (drop at after))
+      ≡ splice l 0 (spell m f info)
   unfolding spell
   content-put =
       let n : length after ≡ length l = splice-length l 0 (addressField f) in
       let z : 0 + at ≡ at = omega arith in
-      let both : splice after (0 + at) (front (f .content) ++ info) ≡ splice l 0 (addressField f ++ (front (f .content) ++ info)) =
-      splice-then l 0 at (addressField f) (front (f .content) ++ info) (field-length f) (rw (z, length-append) fits) in
-      rw content-written (splice-part after at (front (f .content) ++ info) (rw n field-room) ∙ rw z at both)
+      let both : splice after (0 + at) (front m (f .content) ++ info) ≡ splice l 0 (addressField f ++ (front m (f .content) ++ info)) =
+      splice-then l 0 at (addressField f) (front m (f .content) ++ info) (field-length f) (rw (z, length-append) fits) in
+      rw content-written (splice-part after at (front m (f .content) ++ info) (rw n field-room) ∙ rw z at both)

@@ -1,4 +1,4 @@
--- The frame record: the default frame, and the numbers of writing, document 01's and document 02's 25 (M-105).
+-- The frame record: the default frame, and the numbers of writing, document 01's and document 02's 11 (M-109) and 25 (M-105).
 use Prim.Native.Nat.{ℕ}
 use mathlib.Core.Bool.{false}
 use mathlib.Core.List.{List, [], _∷_}
@@ -39,6 +39,7 @@ abbrev pub writeNumber : WriteAnswer → ℕ
 writeNumber write.Accepted = 0
 writeNumber write.RouteTooLong = 21
 writeNumber write.NotEncodable = 22
+writeNumber write.FrameRejectInLongMode = 11
 writeNumber write.InfoNotAllowed = 23
 writeNumber write.PidOutsideClass = 25
 writeNumber write.NoRoom = 24

@@ -9,6 +9,7 @@ use Rattle.octets.specs.Octet.{Octets}
 use Rattle.address.specs.Address.{PlainAddress}
 use Rattle.address.specs.Group.{groupOf}
 use Rattle.content.specs.Spell.{hasInfo, front, PlainContent}
+use Rattle.content.specs.declared.Mode.{Mode}
 use Rattle.frame.specs.Frame.{noEntry}
 use Rattle.frame.specs.declared.Mark.{Mark}
 use Rattle.frame.specs.declared.Mark.the-variants.{Command, Response, Absent}
@@ -47,8 +48,8 @@ addressField f =
     ++ groupsOf (f .route) (f .«route_count») (f .«route_count»))
 
 -- the address field, then the content, nothing before or after
-unfoldable pub spell : Ax25Frame → List ℕ → List ℕ
-spell f info = addressField f ++ (front (f .content) ++ info)
+unfoldable pub spell : Mode → Ax25Frame → List ℕ → List ℕ
+spell m f info = addressField f ++ (front m (f .content) ++ info)
 
 -- whether the mark is there
 abbrev pub marked : Mark → Bool
@@ -73,11 +74,12 @@ withMark f = record {
 }
 
 -- a plain frame, with its info. Unused route places are no part of it
-pub record Plain (f : Ax25Frame) (info : List ℕ) : Type 0 where
+pub record Plain (m : Mode) (f : Ax25Frame) (info : List ℕ) : Type 0 where
   -- a mark of Command or Response
   pub mark : marked (f .«command_or_response») ≡ true
-  -- one of the ten kinds, `UnknownContent` excepted, with its sequence numbers below 8 and a plain protocol identifier
-  pub content : PlainContent (f .content)
+  -- one of the kinds, `UnknownContent` excepted and in the long mode FRMR, with its sequence numbers below 8 or, in the long mode, 128, and
+  -- a plain protocol identifier
+  pub content : PlainContent m (f .content)
   -- callsign characters below 128, SSIDs up to 15, reserved bits up to 3
   pub destination : PlainAddress (f .destination)
   pub source : PlainAddress (f .source)

@@ -4,6 +4,7 @@ use crate::Mark;
 use crate::RouteEntry;
 use crate::WriteAnswer;
 use crate::Written;
+use content::Mode;
 ghost use mathlib.Core.Path.{_≡_};
 ghost use mathlib.Core.Bool.{true};
 ghost use Prim.Native.Nat.{_+_, _*_, _≤_};
@@ -55,8 +56,8 @@ fn frame_encodable(frame: Ax25Frame) -> bool
     route_encodable(route, frame.route_count)
 }
 
-fn write_answer(frame: Ax25Frame, info: &[u8], room: usize) -> WriteAnswer
-    ensures { λ r. ⌜ r ≡ writeAnswer frame (now (info .entry)) room ⌝ }
+fn write_answer(mode: Mode, frame: Ax25Frame, info: &[u8], room: usize) -> WriteAnswer
+    ensures { λ r. ⌜ r ≡ writeAnswer mode frame (now (info .entry)) room ⌝ }
 {
     let count = frame.route_count;
     if 8 < count {
@@ -66,13 +67,16 @@ fn write_answer(frame: Ax25Frame, info: &[u8], room: usize) -> WriteAnswer
         return WriteAnswer::NotEncodable;
     }
     let content = frame.content;
+    if content.long_frmr(mode) {
+        return WriteAnswer::FrameRejectInLongMode;
+    }
     if content.stray_info(info.len()) {
         return WriteAnswer::InfoNotAllowed;
     }
     if content.stray_pid() {
         return WriteAnswer::PidOutsideClass;
     }
-    let head = 14 + 7 * count + content.front_len();
+    let head = 14 + 7 * count + content.front_len(mode);
     if room < head {
         return WriteAnswer::NoRoom;
     }
@@ -119,29 +123,29 @@ fn put_addresses(out: &mut [u8], frame: Ax25Frame)
 }
 
 // The frame and its info, once nothing is refused.
-fn put_frame(out: &mut [u8], frame: Ax25Frame, info: &[u8]) -> usize
-    requires { ⌜ Taken frame (now info) (length (now out)) ⌝ }
-    ensures { λ r. ⌜ r ≡ length (spell frame (now (info .entry))) ⌝ }
-    ensures { λ r. ⌜ now (out .exit) ≡ splice (now (out .entry)) 0 (spell frame (now (info .entry))) ⌝ }
+fn put_frame(mode: Mode, out: &mut [u8], frame: Ax25Frame, info: &[u8]) -> usize
+    requires { ⌜ Taken mode frame (now info) (length (now out)) ⌝ }
+    ensures { λ r. ⌜ r ≡ length (spell mode frame (now (info .entry))) ⌝ }
+    ensures { λ r. ⌜ now (out .exit) ≡ splice (now (out .entry)) 0 (spell mode frame (now (info .entry))) ⌝ }
 {
     put_addresses(out, frame);
     let at = 14 + 7 * frame.route_count;
     let content = frame.content;
-    let after = content.encode(info, &mut out[at..]);
+    let after = content.encode(mode, info, &mut out[at..]);
     at + after.length
 }
 
 impl Ax25Frame {
     // Encode the frame, with its info, as raw bytes for transmission.
-    pub fn to_bytes(self, info: &[u8], out: &mut [u8]) -> Written
-        ensures { λ r. ⌜ r ≡ written self (now (info .entry)) (length (now (out .entry))) ⌝ }
-        ensures { λ r. ⌜ now (out .exit) ≡ splice (now (out .entry)) 0 (octetsWritten self (now (info .entry)) (length (now (out .entry)))) ⌝ }
+    pub fn to_bytes(self, mode: Mode, info: &[u8], out: &mut [u8]) -> Written
+        ensures { λ r. ⌜ r ≡ written mode self (now (info .entry)) (length (now (out .entry))) ⌝ }
+        ensures { λ r. ⌜ now (out .exit) ≡ splice (now (out .entry)) 0 (octetsWritten mode self (now (info .entry)) (length (now (out .entry)))) ⌝ }
     {
-        let answer = write_answer(self, info, out.len());
+        let answer = write_answer(mode, self, info, out.len());
         let WriteAnswer::Accepted = answer else {
             return Written { answer, length: 0 };
         };
-        let length = put_frame(out, self, info);
+        let length = put_frame(mode, out, self, info);
         Written { answer, length }
     }
 }

@@ -16,9 +16,10 @@ use Rattle.address.specs.Group.{groupOf, markOf}
 use Rattle.address.specs.declared.Address.{Address}
 use Rattle.address.proofs.Laws.{group-length, read-written, mark-written}
 use Rattle.content.specs.Spell.{hasInfo, front}
+use Rattle.content.specs.declared.Mode.{Mode}
 use Rattle.parse.specs.Content.{contentOf}
 use Rattle.parse.specs.declared.ContentAnswer.the-variants.{Accepted}
-use Rattle.content_as_written.proofs.Laws.{content-back, content-some, front-two}
+use Rattle.content_as_written.proofs.Laws.{content-back, content-some}
 use Rattle.decode.specs.Read.{startOf, endOf, groupAt, parsedAt, entryAt, placeAt, routeAt, commandOf, frameAt, acceptedWith, withContent, decodeField, decode, infoIn}
 use Rattle.frame.specs.Spell.{repeaterAt, groupsOf, destinationMark, sourceMark, addressField, spell, marked, Plain, placeInUse, routeInUse, inUse}
 use Rattle.frame.specs.declared.Mark.{Mark}
@@ -70,7 +71,7 @@ mark-back Command h = refl
 mark-back Response h = refl
 mark-back Absent h = absurd (false≢true h)
 
-module _ (f : Ax25Frame) (i : List ℕ) (p : Plain f i) where
+module _ (mode : Mode) (f : Ax25Frame) (i : List ℕ) (p : Plain mode f i) where
   abbrev n : ℕ
   n = f .«route_count»
 
@@ -81,62 +82,62 @@ module _ (f : Ax25Frame) (i : List ℕ) (p : Plain f i) where
   src = groupOf (f .source) (sourceMark (f .«command_or_response»)) (eqb n 0)
 
   abbrev tail : List ℕ
-  tail = groupsOf (f .route) n n ++ (front (f .content) ++ i)
+  tail = groupsOf (f .route) n n ++ (front mode (f .content) ++ i)
 
   -- the parts one after the other, bracketed to the right
-  pub in-order : spell f i ≡ dest ++ (src ++ tail)
+  pub in-order : spell mode f i ≡ dest ++ (src ++ tail)
   unfolding spell addressField
   in-order = simp append-assoc
 
-  pub spelled-start : startOf (spell f i) ≡ 0
+  pub spelled-start : startOf (spell mode f i) ≡ 0
   spelled-start = rw in-order (start-here (f .destination) _ _ false (p .destination) (p .starts))
 
-  pub spelled-end : endOf (spell f i) ≡ 13 + 7 * n
+  pub spelled-end : endOf (spell mode f i) ≡ 13 + 7 * n
   spelled-end = rw (in-order, end-past, end-route) (omega arith)
 
-  pub after-dest : drop 7 (spell f i) ≡ src ++ tail
+  pub after-dest : drop 7 (spell mode f i) ≡ src ++ tail
   after-dest = rw in-order (drop-at dest (src ++ tail) 7 (group-length _ _ _))
 
-  after-src : drop 14 (spell f i) ≡ tail
-  after-src = sym (drop-drop 7 7 (spell f i)) ∙ rw after-dest (drop-at src tail 7 (group-length _ _ _))
+  after-src : drop 14 (spell mode f i) ≡ tail
+  after-src = sym (drop-drop 7 7 (spell mode f i)) ∙ rw after-dest (drop-at src tail 7 (group-length _ _ _))
 
-  pub after-field : drop (14 + 7 * n) (spell f i) ≡ front (f .content) ++ i
-  after-field = sym (drop-drop (7 * n) 14 (spell f i)) ∙ rw (after-src, groups-drop)
+  pub after-field : drop (14 + 7 * n) (spell mode f i) ≡ front mode (f .content) ++ i
+  after-field = sym (drop-drop (7 * n) 14 (spell mode f i)) ∙ rw (after-src, groups-drop)
 
-  dest-back : parsedAt (spell f i) 0 ≡ record { address = f .destination; «high_bit» = destinationMark (f .«command_or_response») }
+  dest-back : parsedAt (spell mode f i) 0 ≡ record { address = f .destination; «high_bit» = destinationMark (f .«command_or_response») }
   dest-back = rw in-order (parsed-front (f .destination) _ _ _ (p .destination))
 
-  src-back : parsedAt (spell f i) 7 ≡ record { address = f .source; «high_bit» = sourceMark (f .«command_or_response») }
-  src-back = parsed-drop (spell f i) 7 0 ∙ rw after-dest (parsed-front (f .source) _ _ _ (p .source))
+  src-back : parsedAt (spell mode f i) 7 ≡ record { address = f .source; «high_bit» = sourceMark (f .«command_or_response») }
+  src-back = parsed-drop (spell mode f i) 7 0 ∙ rw after-dest (parsed-front (f .source) _ _ _ (p .source))
 
-  place-back : (k : ℕ) → placeAt (spell f i) 14 n k ≡ placeInUse (f .route) n k
+  place-back : (k : ℕ) → placeAt (spell mode f i) 14 n k ≡ placeInUse (f .route) n k
   unfolding placeAt placeInUse
   place-back k =
       by (ltb k n)
-      (λ e. simp e (entry-drop (spell f i) 14 (7 * k) ∙ rw after-src (route-back _ _ _ k _ (ltb-true k n e) (p .repeaters k (ltb-true k n e)))))
+      (λ e. simp e (entry-drop (spell mode f i) 14 (7 * k) ∙ rw after-src (route-back _ _ _ k _ (ltb-true k n e) (p .repeaters k (ltb-true k n e)))))
       (λ e. simp e)
 
-  frame-back : frameAt (spell f i) 0 n (f .content) ≡ inUse f
+  frame-back : frameAt (spell mode f i) 0 n (f .content) ≡ inUse f
   unfolding frameAt inUse routeAt routeInUse
   frame-back = simp (dest-back, src-back, mark-back (f .«command_or_response») (p .mark), place-back)
 
-  accepts : contentOf (front (f .content) ++ i) ≡ Accepted (f .content)
-  accepts = content-back (f .content) i (p .content) (p .bare)
+  accepts : contentOf mode (front mode (f .content) ++ i) ≡ Accepted (f .content)
+  accepts = content-back mode (f .content) i (p .content) (p .bare)
 
-  pub decode-spell : decode (spell f i) ≡ acceptedWith (inUse f) (14 + 7 * n) (length (spell f i))
+  pub decode-spell : decode mode (spell mode f i) ≡ acceptedWith mode (inUse f) (14 + 7 * n) (length (spell mode f i))
   unfolding decode decodeField withContent
   decode-spell =
-      let l : length (spell f i) ≡ 14 + 7 * n + length (front (f .content) ++ i) = spell-length f i ∙ omega (arith, length-append (front (f .content)) i) in
-      let c : 0 < length (front (f .content) ++ i) = content-some _ _ accepts in
+      let l : length (spell mode f i) ≡ 14 + 7 * n + length (front mode (f .content) ++ i) = spell-length mode f i ∙ omega (arith, length-append (front mode (f .content)) i) in
+      let c : 0 < length (front mode (f .content) ++ i) = content-some mode _ _ accepts in
       let h : n ≤ 8 = p .count in
       let count : (14 + 7 * n - 0 - 14) / 7 ≡ n = omega arith in
       let after : 13 + 7 * n + 1 ≡ 14 + 7 * n = omega arith in
       rw (spelled-start, spelled-end, after)
       (simp (
-        ne-eqb 0 (length (spell f i)) (λ e. omega arith),
-        ne-eqb (13 + 7 * n) (length (spell f i)) (λ e. omega arith),
+        ne-eqb 0 (length (spell mode f i)) (λ e. omega arith),
+        ne-eqb (13 + 7 * n) (length (spell mode f i)) (λ e. omega arith),
         le-ltb (14 + 7 * n - 0) 14 (omega arith),
-        ne-eqb (14 + 7 * n) (length (spell f i)) (λ e. omega arith),
+        ne-eqb (14 + 7 * n) (length (spell mode f i)) (λ e. omega arith),
         count,
         le-ltb 8 n h,
         after-field,
@@ -144,30 +145,30 @@ module _ (f : Ax25Frame) (i : List ℕ) (p : Plain f i) where
         frame-back,
       ))
 
-  pub frame-spell : decode (spell f i) .frame ≡ inUse f
+  pub frame-spell : decode mode (spell mode f i) .frame ≡ inUse f
   unfolding acceptedWith
   frame-spell = ap (λ (d : Decoded). d .frame) decode-spell
 
-  pub info-spell : infoIn (spell f i) (decode (spell f i)) ≡ i
+  pub info-spell : infoIn (spell mode f i) (decode mode (spell mode f i)) ≡ i
   unfolding acceptedWith inUse
   info-spell =
       rw decode-spell
       (by (hasInfo (f .content))
       (λ e.
-      let two : length (front (f .content)) ≡ 2 = front-two (f .content) (p .content) e in
-      let rest : drop (14 + 7 * n + 2) (spell f i) ≡ i =
-      sym (drop-drop 2 (14 + 7 * n) (spell f i)) ∙ rw after-field (drop-at (front (f .content)) i 2 two) in
-      simp e (rw rest (take-all (length (spell f i) - (14 + 7 * n + 2)) i (omega (arith, spell-length f i)))))
+      let b : ℕ = length (front mode (f .content)) in
+      let rest : drop (14 + 7 * n + b) (spell mode f i) ≡ i =
+      sym (drop-drop b (14 + 7 * n) (spell mode f i)) ∙ rw after-field (drop-at (front mode (f .content)) i b refl) in
+      simp e (rw rest (take-all (length (spell mode f i) - (14 + 7 * n + b)) i (omega (arith, spell-length mode f i)))))
       (λ e. simp e (sym (p .bare e))))
 
 -- two plain frames that spell the same octets agree in all that is in use, and in info
-pub unique : (f g : Ax25Frame) (i j : List ℕ) → Plain f i → Plain g j → spell f i ≡ spell g j → (inUse f ≡ inUse g) × (i ≡ j)
-unique f g i j p q e =
-    let a : decode (spell f i) ≡ decode (spell g j) = ap decode e in
-    let b : infoIn (spell f i) (decode (spell f i)) ≡ infoIn (spell g j) (decode (spell g j)) = ap (λ (s : List ℕ). infoIn s (decode s)) e in
-    (sym (frame-spell f i p) ∙ ap (λ (d : Decoded). d .frame) a ∙ frame-spell g j q, sym (info-spell f i p) ∙ b ∙ info-spell g j q)
+pub unique : (mode : Mode) (f g : Ax25Frame) (i j : List ℕ) → Plain mode f i → Plain mode g j → spell mode f i ≡ spell mode g j → (inUse f ≡ inUse g) × (i ≡ j)
+unique mode f g i j p q e =
+    let a : decode mode (spell mode f i) ≡ decode mode (spell mode g j) = ap (decode mode) e in
+    let b : infoIn (spell mode f i) (decode mode (spell mode f i)) ≡ infoIn (spell mode g j) (decode mode (spell mode g j)) = ap (λ (s : List ℕ). infoIn s (decode mode s)) e in
+    (sym (frame-spell mode f i p) ∙ ap (λ (d : Decoded). d .frame) a ∙ frame-spell mode g j q, sym (info-spell mode f i p) ∙ b ∙ info-spell mode g j q)
 
 -- exactly one of the first two marks is set
-pub spelled-marks : (f : Ax25Frame) (i : List ℕ) (p : Plain f i) → markOf (groupAt (spell f i) 7) ≡ not (markOf (groupAt (spell f i) 0))
-spelled-marks f i p =
-    rw (after-dest f i p, in-order f i p, group-front, group-front (f .destination) _ _ _, mark-written, mark-written) (marks-differ (f .«command_or_response»))
+pub spelled-marks : (mode : Mode) (f : Ax25Frame) (i : List ℕ) (p : Plain mode f i) → markOf (groupAt (spell mode f i) 7) ≡ not (markOf (groupAt (spell mode f i) 0))
+spelled-marks mode f i p =
+    rw (after-dest mode f i p, in-order mode f i p, group-front, group-front (f .destination) _ _ _, mark-written, mark-written) (marks-differ (f .«command_or_response»))

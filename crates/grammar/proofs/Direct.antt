@@ -18,6 +18,7 @@ use Rattle.address.proofs.Laws.{mark-written, written-read, mark-last}
 use Rattle.content.specs.Spell.{hasInfo, front}
 use Rattle.content_as_written.specs.AsWritten.{asWritten, infoOf}
 use Rattle.content.specs.declared.FrameContent.{FrameContent}
+use Rattle.content.specs.declared.Mode.{Mode}
 use Rattle.content_as_written.proofs.Laws.{content-kept, content-exact, front-some}
 use Rattle.content_as_written.proofs.AsWritten.{as-written-spelled}
 use Rattle.decode.specs.Read.{endOf, groupAt, parsedAt, entryAt, placeAt, routeAt, commandOf, frameAt, acceptedWith, decode, infoIn}
@@ -36,9 +37,9 @@ always-marked Command = refl
 always-marked Response = refl
 always-marked Absent = refl
 
-module _ (f : Ax25Frame) (i : List ℕ) (p : Plain f i) where
+module _ (mode : Mode) (f : Ax25Frame) (i : List ℕ) (p : Plain mode f i) where
   abbrev s : List ℕ
-  s = spell f i
+  s = spell mode f i
 
   abbrev n : ℕ
   n = f .«route_count»
@@ -47,18 +48,18 @@ module _ (f : Ax25Frame) (i : List ℕ) (p : Plain f i) where
   spelled-marks : marked (commandOf (parsedAt s 0 .«high_bit») (parsedAt s 7 .«high_bit»)) ≡ true
   unfolding parsedAt
   spelled-marks =
-      let to : markOf (groupAt s 0) ≡ destinationMark (f .«command_or_response») = rw (in-order f i p, group-front) (mark-written _ _ _) in
-      let from : markOf (groupAt s 7) ≡ sourceMark (f .«command_or_response») = rw (after-dest f i p, group-front) (mark-written _ _ _) in
+      let to : markOf (groupAt s 0) ≡ destinationMark (f .«command_or_response») = rw (in-order mode f i p, group-front) (mark-written _ _ _) in
+      let from : markOf (groupAt s 7) ≡ sourceMark (f .«command_or_response») = rw (after-dest mode f i p, group-front) (mark-written _ _ _) in
       rw (to, from) (always-marked (f .«command_or_response»))
 
-  pub direct-spelled : direct s (decode s .frame .«route_count») ≡ true
+  pub direct-spelled : direct mode s (decode mode s .frame .«route_count») ≡ true
   unfolding direct inUse
   direct-spelled =
-      let l = spell-length f i in
+      let l = spell-length mode f i in
       let end : bit 0 (getD s (13 + 7 * n) 0) ≡ true =
-      rw (spelled-end f i p) at (first-passes (bit 0) s 0 (rw (spelled-end f i p) (omega (arith, front-some (f .content) (p .content))))) in
-      let tail : asWritten (drop (14 + 7 * n) s) ≡ true = rw (after-field f i p) (as-written-spelled (f .content) i (p .content) (p .bare)) in
-      rw (frame-spell f i p, end, spelled-marks, tail)
+      rw (spelled-end mode f i p) at (first-passes (bit 0) s 0 (rw (spelled-end mode f i p) (omega (arith, front-some mode (f .content) (p .content))))) in
+      let tail : asWritten mode (drop (14 + 7 * n) s) ≡ true = rw (after-field mode f i p) (as-written-spelled mode (f .content) i (p .content) (p .bare)) in
+      rw (frame-spell mode f i p, end, spelled-marks, tail)
 
 marks-back : (a b : Bool) → marked (commandOf a b) ≡ true → (destinationMark (commandOf a b) ≡ a) × (sourceMark (commandOf a b) ≡ b)
 marks-back true true e = absurd (false≢true e)
@@ -118,10 +119,10 @@ module _ (s : List ℕ) (o : Octets s) (n : ℕ) (end : endOf s ≡ 13 + 7 * n) 
       (ap (λ (x : List ℕ). take (7 * m) (drop 14 s) ++ x) (rw at (group-again (suc (suc m)) (omega arith) (eqb (suc m) n) (eqb·suc-suc (suc m) n))))
 
   -- the address field is spelled again as it was read, whatever follows it
-  pub spell-again : (k : FrameContent) (i : List ℕ) → marked (frameAt s 0 n k .«command_or_response») ≡ true
-      → spell (frameAt s 0 n k) i ≡ take (14 + 7 * n) s ++ (front k ++ i)
+  pub spell-again : (mode : Mode) (k : FrameContent) (i : List ℕ) → marked (frameAt s 0 n k .«command_or_response») ≡ true
+      → spell mode (frameAt s 0 n k) i ≡ take (14 + 7 * n) s ++ (front mode k ++ i)
   unfolding spell addressField frameAt
-  spell-again k i m =
+  spell-again mode k i m =
       let b = marks-back (parsedAt s 0 .«high_bit») (parsedAt s 7 .«high_bit») m in
       rw (
         b .0,
@@ -133,28 +134,29 @@ module _ (s : List ℕ) (o : Octets s) (n : ℕ) (end : endOf s ≡ 13 + 7 * n) 
       )
       refl
 
-module _ (s : List ℕ) (o : Octets s) (a : Accepts s (decode s)) where
-  -- info stands after control and PID
-  pub info-tail : infoIn s (decode s) ≡ infoOf (a .kind) (drop (endOf s + 1) s)
+module _ (mode : Mode) (s : List ℕ) (o : Octets s) (a : Accepts mode s (decode mode s)) where
+  -- info stands after the octets before it
+  pub info-tail : infoIn s (decode mode s) ≡ infoOf mode (a .kind) (drop (endOf s + 1) s)
   unfolding acceptedWith frameAt
   info-tail = rw (a .made)
       (by (hasInfo (a .kind))
-      (λ e. simp (e, drop-drop 2 (endOf s + 1) s)
-      (take-all (length s - (endOf s + 1 + 2)) (drop (endOf s + 1 + 2) s) (rw length-drop (omega arith))))
+      (λ e. let b : ℕ = length (front mode (a .kind)) in
+      simp (e, drop-drop b (endOf s + 1) s)
+      (take-all (length s - (endOf s + 1 + b)) (drop (endOf s + 1 + b) s) (rw length-drop (omega arith))))
       (λ e. simp e))
 
-  pub made-frame : decode s .frame ≡ frameAt s 0 (a .count) (a .kind)
+  pub made-frame : decode mode s .frame ≡ frameAt s 0 (a .count) (a .kind)
   unfolding acceptedWith
   made-frame = ap (λ (d : Decoded). d .frame) (a .made)
 
   -- of a kind with info, the octets before it and the info are all that follows the address field
-  pub info-kept : hasInfo (decode s .frame .content) ≡ true → front (decode s .frame .content) ++ infoIn s (decode s) ≡ drop (endOf s + 1) s
+  pub info-kept : hasInfo (decode mode s .frame .content) ≡ true → front mode (decode mode s .frame .content) ++ infoIn s (decode mode s) ≡ drop (endOf s + 1) s
   unfolding frameAt
   info-kept e =
-      let k : decode s .frame .content ≡ a .kind = ap (λ (f : Ax25Frame). f .content) made-frame in
-      rw (k, info-tail) (content-kept (drop (endOf s + 1) s) (octets-drop s (endOf s + 1) o) (a .kind) (a .read) (rw k at e))
+      let k : decode mode s .frame .content ≡ a .kind = ap (λ (f : Ax25Frame). f .content) made-frame in
+      rw (k, info-tail) (content-kept mode (drop (endOf s + 1) s) (octets-drop s (endOf s + 1) o) (a .kind) (a .read) (rw k at e))
 
-  pub direct-again : direct s (decode s .frame .«route_count») ≡ true → spell (decode s .frame) (infoIn s (decode s)) ≡ s
+  pub direct-again : direct mode s (decode mode s .frame .«route_count») ≡ true → spell mode (decode mode s .frame) (infoIn s (decode mode s)) ≡ s
   unfolding direct frameAt
   direct-again e =
       let n : ℕ = a .count in
@@ -170,11 +172,11 @@ module _ (s : List ℕ) (o : Octets s) (a : Accepts s (decode s)) where
       let end : endOf s ≡ 13 + 7 * n = omega arith in
       let at : endOf s + 1 ≡ 14 + 7 * n = omega arith in
       let c : List ℕ = drop (endOf s + 1) s in
-      let x = content-exact c (octets-drop s (endOf s + 1) o) (a .kind) (a .read) (rw at (t2 .1)) in
-      let tail : front (a .kind) ++ infoIn s (decode s) ≡ drop (14 + 7 * n) s =
-      ap (λ (y : List ℕ). front (a .kind) ++ y) info-tail ∙ x ∙ ap (λ (j : ℕ). drop j s) at in
+      let x = content-exact mode c (octets-drop s (endOf s + 1) o) (a .kind) (a .read) (rw at (t2 .1)) in
+      let tail : front mode (a .kind) ++ infoIn s (decode mode s) ≡ drop (14 + 7 * n) s =
+      ap (λ (y : List ℕ). front mode (a .kind) ++ y) info-tail ∙ x ∙ ap (λ (j : ℕ). drop j s) at in
       rw made-frame
-      (spell-again s o n end (a .end-in) (a .few) (a .kind) (infoIn s (decode s)) (t2 .0)
+      (spell-again s o n end (a .end-in) (a .few) mode (a .kind) (infoIn s (decode mode s)) (t2 .0)
       ∙ rw (tail, take-append-drop (14 + 7 * n) s) refl)
 
 -- the mark of a group, by its last octet in the input
@@ -183,9 +185,9 @@ unfolding parsedAt
 parsed-mark s at = mark-last (groupAt s at) ∙ ap markSet (getD-part 7 at s 6 0 (omega arith))
 
 -- the three tests, in their order
-pub direct-is : (s : List ℕ) (n : ℕ)
-    → direct s n
+pub direct-is : (mode : Mode) (s : List ℕ) (n : ℕ)
+    → direct mode s n
     ≡ (bit 0 (getD s (13 + 7 * n) 0)
-    && (marked (commandOf (markSet (getD s 6 0)) (markSet (getD s 13 0))) && asWritten (drop (14 + 7 * n) s)))
+    && (marked (commandOf (markSet (getD s 6 0)) (markSet (getD s 13 0))) && asWritten mode (drop (14 + 7 * n) s)))
 unfolding direct
-direct-is s n = rw (parsed-mark s 0, parsed-mark s 7) refl
+direct-is mode s n = rw (parsed-mark s 0, parsed-mark s 7) refl

@@ -14,7 +14,8 @@ use Rattle.octets.proofs.First.{first-passes, first-before, first-is}
 use Rattle.octets.proofs.Place.{getD-part}
 use Rattle.address.specs.Group.{addressOf, markOf, markSet}
 use Rattle.address.proofs.Laws.{address-kept, mark-last}
-use Rattle.content.specs.Spell.{hasInfo}
+use Rattle.content.specs.Spell.{hasInfo, front}
+use Rattle.content.specs.declared.Mode.{Mode}
 use Rattle.content_as_written.proofs.Laws.{content-some}
 use Rattle.frame.specs.Spell.{repeaterAt, past}
 use Rattle.frame.specs.declared.RouteEntry.{RouteEntry}
@@ -39,15 +40,15 @@ pub record Route (s : List ℕ) (d : Decoded) : Type 0 where
   pub end-in : endOf s < length s
   pub read : d .frame .route ≡ routeAt s 14 (d .frame .«route_count»)
 
-route-made : (s : List ℕ) (a : Accepts s (decode s)) → Route s (acceptedWith (frameAt s 0 (a .count) (a .kind)) (endOf s + 1) (length s))
+route-made : (mode : Mode) (s : List ℕ) (a : Accepts mode s (decode mode s)) → Route s (acceptedWith mode (frameAt s 0 (a .count) (a .kind)) (endOf s + 1) (length s))
 unfolding acceptedWith frameAt
-route-made s a =
+route-made mode s a =
     let counted = a .counted in
     let long = a .long in
     record { few = a .few; before = omega arith; end-in = a .end-in; read = refl }
 
-pub route : (s : List ℕ) → isAccepted (decode s .answer) ≡ true → Route s (decode s)
-route s e = let a = accepts s e in subst (λ (d : Decoded). Route s d) (sym (a .made)) (route-made s a)
+pub route : (mode : Mode) (s : List ℕ) → isAccepted (decode mode s .answer) ≡ true → Route s (decode mode s)
+route mode s e = let a = accepts mode s e in subst (λ (d : Decoded). Route s d) (sym (a .made)) (route-made mode s a)
 
 -- the repeater and the mark of a place, by its group
 pub place-read : (s : List ℕ) (at n i : ℕ) → i < n → n ≤ 8
@@ -140,12 +141,12 @@ remarked f i m = record {
 }
 
 -- what is read where the mark of one repeater is another, and every other bit the same
-module _ (s : List ℕ) (e : isAccepted (decode s .answer) ≡ true) (i v : ℕ) (h : i < decode s .frame .«route_count»)
+module _ (mode : Mode) (s : List ℕ) (e : isAccepted (decode mode s .answer) ≡ true) (i v : ℕ) (h : i < decode mode s .frame .«route_count»)
     (low : field 0 7 v ≡ field 0 7 (getD s (14 + 7 * i + 6) 0)) where
-  abbrev a : Accepts s (decode s)
-  a = accepts s e
+  abbrev a : Accepts mode s (decode mode s)
+  a = accepts mode s e
 
-  count-read : decode s .frame .«route_count» ≡ a .count
+  count-read : decode mode s .frame .«route_count» ≡ a .count
   unfolding acceptedWith frameAt
   count-read = ap (λ (d : Decoded). d .frame .«route_count») (a .made)
 
@@ -194,11 +195,11 @@ module _ (s : List ℕ) (e : isAccepted (decode s .answer) ≡ true) (i v : ℕ)
       )
       refl
 
-  read-marked : decode u ≡ acceptedWith (frameAt u 0 (a .count) (a .kind)) (endOf s + 1) (length s)
+  read-marked : decode mode u ≡ acceptedWith mode (frameAt u 0 (a .count) (a .kind)) (endOf s + 1) (length s)
   unfolding decode decodeField withContent
   read-marked =
       let long = a .long in
-      let some : 0 < length (drop (endOf s + 1) s) = content-some _ _ (a .read) in
+      let some : 0 < length (drop (endOf s + 1) s) = content-some mode _ _ (a .read) in
       let rest = length-drop (endOf s + 1) s in
       rw (same-start, same-end, same-content, length-set, a .counted)
       (simp (
@@ -211,32 +212,32 @@ module _ (s : List ℕ) (e : isAccepted (decode s .answer) ≡ true) (i v : ℕ)
       ) (rw length-set refl))
 
   -- the same answer, the same place of info, the same frame but for that mark
-  pub decode-marked : decode u ≡ record {
-    answer = decode s .answer;
-    frame = remarked (decode s .frame) i (markSet v);
-    «info_start» = decode s .«info_start»;
-    «info_len» = decode s .«info_len»;
+  pub decode-marked : decode mode u ≡ record {
+    answer = decode mode s .answer;
+    frame = remarked (decode mode s .frame) i (markSet v);
+    «info_start» = decode mode s .«info_start»;
+    «info_len» = decode mode s .«info_len»;
   }
   unfolding acceptedWith frameAt
   decode-marked = read-marked ∙ rw (frame-marked, a .made) refl
 
   -- the direct look passes where it passed
-  pub direct-marked : direct u (decode s .frame .«route_count») ≡ direct s (decode s .frame .«route_count»)
+  pub direct-marked : direct mode u (decode mode s .frame .«route_count») ≡ direct mode s (decode mode s .frame .«route_count»)
   direct-marked =
       rw count-read
-      (direct-is u (a .count)
+      (direct-is mode u (a .count)
       ∙ rw (
         getD-set-other s p 6 v 0 (λ e. omega (arith, e)),
         getD-set-other s p 13 v 0 (λ e. omega (arith, e)),
         same-low (13 + 7 * a .count),
         drop-set-lt (14 + 7 * a .count) s p v (omega (arith, inner)),
       )
-      (sym (direct-is s (a .count))))
+      (sym (direct-is mode s (a .count))))
 
   -- the same info octets
-  pub info-marked : infoIn u (decode s) ≡ infoIn s (decode s)
+  pub info-marked : infoIn u (decode mode s) ≡ infoIn s (decode mode s)
   unfolding acceptedWith frameAt
   info-marked = rw (a .made)
       (by (hasInfo (a .kind))
-      (λ e. simp e (rw (drop-set-lt (endOf s + 1 + 2) s p v (omega (arith, p-in .0))) refl))
+      (λ e. simp e (rw (drop-set-lt (endOf s + 1 + length (front mode (a .kind))) s p v (omega (arith, p-in .0))) refl))
       (λ e. simp e))

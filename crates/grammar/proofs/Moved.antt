@@ -11,15 +11,16 @@ use lib.Seq.{drop-drop}
 use Rattle.octets.specs.Octet.{bit}
 use Rattle.octets.proofs.Choice.{by, either, equal}
 use Rattle.octets.proofs.First.{first-le, first-all}
-use Rattle.content.specs.Spell.{hasInfo}
+use Rattle.content.specs.Spell.{hasInfo, front}
 use Rattle.content.specs.declared.FrameContent.{FrameContent}
+use Rattle.content.specs.declared.Mode.{Mode}
 use Rattle.parse.specs.Content.{contentOf}
 use Rattle.parse.specs.declared.ContentAnswer.{ContentAnswer}
 use Rattle.parse.specs.declared.ContentAnswer.the-variants as content
 use Rattle.parse.proofs.Read.{zero-length}
 use Rattle.decode.specs.Answer.{Report, reportOf, numberOf}
 use Rattle.decode.specs.Numbers.{noStart, leadingNull, noEnd, shortField, noContent, manyRepeaters, reported}
-use Rattle.parse.specs.Numbers.{lacksPid, strangeS, strangeU, wrongFrmr}
+use Rattle.parse.specs.Numbers.{lacksControl, lacksPid, strangeU, frmrInLong, wrongFrmr}
 use Rattle.decode.specs.Read.{nonzero, startOf, endOf, parsedAt, placeAt, routeAt, frameAt, refusedWith, acceptedWith, withContent, repeatersOf, decodeField, decode}
 use Rattle.decode.specs.declared.DecodeAnswer.{DecodeAnswer}
 use Rattle.decode.specs.declared.DecodeAnswer.the-variants as read
@@ -27,7 +28,7 @@ use Rattle.grammar.specs.Moved.{movedAnswer, movedInfo, moved}
 use Rattle.grammar.proofs.Back.{parsed-drop, entry-drop}
 use Rattle.grammar.proofs.Numbers.{leads, decode-report, decode-rows}
 
-module _ (s : List ℕ) (k : ℕ) where
+module _ (mode : Mode) (s : List ℕ) (k : ℕ) where
   abbrev t : List ℕ
   t = drop k s
 
@@ -44,36 +45,37 @@ module _ (s : List ℕ) (k : ℕ) where
       simp (z, parsed-drop s k 7, place-drop n)
 
   info-drop : (at : ℕ) (c : FrameContent)
-      → (cond (hasInfo c) (k + at + 2) 0 ≡ movedInfo k (cond (hasInfo c) (at + 2) 0))
-      × (cond (hasInfo c) (length s - (k + at + 2)) 0 ≡ cond (hasInfo c) (length t - (at + 2)) 0)
-  info-drop at c =
+      → 0 < at → (cond (hasInfo c) (k + at + length (front mode c)) 0 ≡ movedInfo k (cond (hasInfo c) (at + length (front mode c)) 0))
+      × (cond (hasInfo c) (length s - (k + at + length (front mode c))) 0 ≡ cond (hasInfo c) (length t - (at + length (front mode c))) 0)
+  info-drop at c h =
       by (hasInfo c)
-      (λ e. rw (e, ne-eqb (at + 2) 0 (λ z. omega (arith, z)), length-drop) (omega arith, omega arith))
+      (λ e. rw (e, ne-eqb (at + length (front mode c)) 0 (λ z. omega (arith, z)), length-drop) (omega arith, omega arith))
       (λ e. rw e (refl, refl))
 
-  accepted-drop : (n at : ℕ) (c : FrameContent)
-      → acceptedWith (frameAt s k n c) (k + at) (length s) ≡ moved k (length s) (acceptedWith (frameAt t 0 n c) at (length t))
+  accepted-drop : (n at : ℕ) (c : FrameContent) → 0 < at
+      → acceptedWith mode (frameAt s k n c) (k + at) (length s) ≡ moved k (length s) (acceptedWith mode (frameAt t 0 n c) at (length t))
   unfolding acceptedWith
-  accepted-drop n at c =
-      let i = info-drop at (frameAt t 0 n c .content) in
+  accepted-drop n at c h =
+      let i = info-drop at (frameAt t 0 n c .content) h in
       rw (frame-drop n c) (rw (i .0, i .1) refl)
 
   pub refused-drop : (a : DecodeAnswer) → refusedWith (movedAnswer k (length s) a) ≡ moved k (length s) (refusedWith a)
   unfolding refusedWith
   refused-drop a = refl
 
-  content-drop : (n at : ℕ) (a : ContentAnswer) → (a ≡ content.ContentZeroLength → ⊥)
-      → withContent s k n (k + at) a ≡ moved k (length s) (withContent t 0 n at a)
+  content-drop : (n at : ℕ) (a : ContentAnswer) → 0 < at → (a ≡ content.ContentZeroLength → ⊥)
+      → withContent mode s k n (k + at) a ≡ moved k (length s) (withContent mode t 0 n at a)
   unfolding withContent
-  content-drop n at (content.Accepted c) z = accepted-drop n at c
-  content-drop n at content.ContentZeroLength z = absurd (z refl)
-  content-drop n at content.MissingPidField z = refused-drop _
-  content-drop n at content.UnrecognisedSFieldType z = refused-drop _
-  content-drop n at content.UnrecognisedUFieldType z = refused-drop _
-  content-drop n at content.WrongSizeFrmrInfo z = refused-drop _
+  content-drop n at (content.Accepted c) h z = accepted-drop n at c h
+  content-drop n at content.ContentZeroLength h z = absurd (z refl)
+  content-drop n at content.MissingPidField h z = refused-drop _
+  content-drop n at content.UnrecognisedUFieldType h z = refused-drop _
+  content-drop n at content.WrongSizeFrmrInfo h z = refused-drop _
+  content-drop n at content.FrameRejectInLongMode h z = refused-drop _
+  content-drop n at content.MissingControlOctet h z = refused-drop _
 
   -- an address field that starts at k is read as the one at the start of what follows k octets
-  pub field-drop : (end : ℕ) → k + end < length s → decodeField s k (k + end) ≡ moved k (length s) (decodeField t 0 end)
+  pub field-drop : (end : ℕ) → k + end < length s → decodeField mode s k (k + end) ≡ moved k (length s) (decodeField mode t 0 end)
   unfolding decodeField
   field-drop end h =
       let l : length t ≡ length s - k = length-drop k s in
@@ -91,27 +93,27 @@ module _ (s : List ℕ) (k : ℕ) where
       (λ b. by (ltb 8 (repeatersOf 0 end)) (λ c. rw (a, b, c) (refused-drop read.TooManyRepeaters))
       (λ c.
       let rest = length-drop (end + 1) t in
-      rw (a, b, c) (content-drop (repeatersOf 0 end) (end + 1) (contentOf (drop (end + 1) t))
-      (λ z. omega (arith, zero-length (drop (end + 1) t) z, eqb-false (end + 1) (length t) b)))))))
+      rw (a, b, c) (content-drop (repeatersOf 0 end) (end + 1) (contentOf mode (drop (end + 1) t)) (omega arith)
+      (λ z. omega (arith, zero-length mode (drop (end + 1) t) z, eqb-false (end + 1) (length t) b)))))))
 
 -- where no null stands before the start there is no 10, and the address field starts there
-pub decode-at-start : (s : List ℕ) → (eqb (startOf s) (length s) ≡ false → startOf s ≡ 0)
-    → decode s
+pub decode-at-start : (mode : Mode) (s : List ℕ) → (eqb (startOf s) (length s) ≡ false → startOf s ≡ 0)
+    → decode mode s
     ≡ cond (eqb (startOf s) (length s)) (refusedWith read.OnlyNullBytes)
-    (cond (eqb (endOf s) (length s)) (refusedWith read.NoEndToAddressField) (decodeField s (startOf s) (endOf s)))
+    (cond (eqb (endOf s) (length s)) (refusedWith read.NoEndToAddressField) (decodeField mode s (startOf s) (endOf s)))
 unfolding decode
-decode-at-start s h = by (eqb (startOf s) (length s)) (λ e. rw e refl) (λ e. rw (e, h e) refl)
+decode-at-start mode s h = by (eqb (startOf s) (length s)) (λ e. rw e refl) (λ e. rw (e, h e) refl)
 
 -- so it is where 10 is not given
-pub ten-past : (s : List ℕ) → (numberOf (decode s .answer) ≡ 10 → ⊥) → eqb (startOf s) (length s) ≡ false → startOf s ≡ 0
-ten-past s n e =
+pub ten-past : (mode : Mode) (s : List ℕ) → (numberOf (decode mode s .answer) ≡ 10 → ⊥) → eqb (startOf s) (length s) ≡ false → startOf s ≡ 0
+ten-past mode s n e =
     by (ltb 0 (startOf s))
-    (λ z. absurd (n (decode-rows s ∙ rw (sym (first-all nonzero s) ∙ e, sym (leads s e) ∙ z) refl)))
+    (λ z. absurd (n (decode-rows mode s ∙ rw (sym (first-all nonzero s) ∙ e, sym (leads s e) ∙ z) refl)))
     (λ z. omega (arith, ltb-false 0 (startOf s) z))
 
 -- and 10 is not given where octets start with the first
-pub never-ten : (s : List ℕ) → startOf s ≡ 0 → eqb (numberOf (decode s .answer)) 10 ≡ false
-never-ten s h = rw (decode-rows s)
+pub never-ten : (mode : Mode) (s : List ℕ) → startOf s ≡ 0 → eqb (numberOf (decode mode s .answer)) 10 ≡ false
+never-ten mode s h = rw (decode-rows mode s)
     (let P : ℕ → Type 0 = λ n. eqb n 10 ≡ false in
     let c : List ℕ = drop (endOf s + 1) s in
     either P (noStart s) (λ _. refl)
@@ -121,10 +123,11 @@ never-ten s h = rw (decode-rows s)
     (λ _. either P (shortField s) (λ _. refl)
     (λ _. either P (noContent s) (λ _. refl)
     (λ _. either P (manyRepeaters s) (λ _. refl)
-    (λ _. either P (lacksPid c) (λ _. refl)
-    (λ _. either P (strangeS c) (λ _. refl)
+    (λ _. either P (lacksControl mode c) (λ _. refl)
+    (λ _. either P (lacksPid mode c) (λ _. refl)
     (λ _. either P (strangeU c) (λ _. refl)
-    (λ _. either P (wrongFrmr c) (λ _. refl) (λ _. refl)))))))))))
+    (λ _. either P (frmrInLong mode c) (λ _. refl)
+    (λ _. either P (wrongFrmr mode c) (λ _. refl) (λ _. refl))))))))))))
 
 -- an answer that is moved keeps its number
 pub moved-number : (k len : ℕ) (a : DecodeAnswer) → numberOf (movedAnswer k len a) ≡ numberOf a
@@ -134,16 +137,17 @@ moved-number k len read.NoEndToAddressField = refl
 moved-number k len (read.AddressFieldTooShort start end) = refl
 moved-number k len (read.FrameTooShort rest) = refl
 moved-number k len read.MissingPidField = refl
-moved-number k len read.UnrecognisedSFieldType = refl
 moved-number k len read.UnrecognisedUFieldType = refl
 moved-number k len read.WrongSizeFrmrInfo = refl
 moved-number k len read.TooManyRepeaters = refl
 moved-number k len read.LeadingNullBytes = refl
+moved-number k len read.FrameRejectInLongMode = refl
+moved-number k len read.MissingControlOctet = refl
 
 -- the details of a refusal: the start is 0, and the end stands in the octets
-pub report-inside : (s : List ℕ) → (reportOf (decode s .answer) .start ≡ 0) × (reportOf (decode s .answer) .end ≤ length s)
+pub report-inside : (mode : Mode) (s : List ℕ) → (reportOf (decode mode s .answer) .start ≡ 0) × (reportOf (decode mode s .answer) .end ≤ length s)
 unfolding reported
-report-inside s = rw (decode-report s)
+report-inside mode s = rw (decode-report mode s)
     (let P : Report → Type 0 = λ r. (r .start ≡ 0) × (r .end ≤ length s) in
     either P (noStart s) (λ _. (refl, omega arith))
     (λ _. either P (leadingNull s) (λ _. (refl, omega arith))

@@ -11,9 +11,10 @@ use Rattle.octets.proofs.Octet.{octets-drop}
 use Rattle.address.specs.Group.{addressOf, markSet}
 use Rattle.content.specs.Spell.{hasInfo, front}
 use Rattle.content.specs.declared.FrameContent.{FrameContent}
+use Rattle.content.specs.declared.Mode.{Mode}
 use Rattle.parse.specs.Content.{contentOf}
 use Rattle.parse.specs.declared.ContentAnswer.the-variants.{Accepted}
-use Rattle.content_as_written.proofs.Laws.{content-plain, content-fits, front-two}
+use Rattle.content_as_written.proofs.Laws.{content-fits}
 use Rattle.decode.specs.Answer.{isAccepted}
 use Rattle.decode.specs.Read.{endOf, groupAt, parsedAt, commandOf, frameAt, acceptedWith, decode, infoIn}
 use Rattle.decode.specs.declared.Decoded.{Decoded}
@@ -21,26 +22,23 @@ use Rattle.decode.proofs.Accepts.{Accepts, accepts}
 use Rattle.grammar.specs.Kept.{keptOf}
 use Rattle.grammar.proofs.Direct.{parsed-mark}
 
-pub record Parts (s : List ℕ) (d : Decoded) : Type 0 where
+pub record Parts (mode : Mode) (s : List ℕ) (d : Decoded) : Type 0 where
   pub destination : d .frame .destination ≡ addressOf (groupAt s 0)
   pub source : d .frame .source ≡ addressOf (groupAt s 7)
   pub mark : d .frame .«command_or_response» ≡ commandOf (markSet (getD s 6 0)) (markSet (getD s 13 0))
-  pub content : contentOf (drop (endOf s + 1) s) ≡ Accepted (d .frame .content)
+  pub content : contentOf mode (drop (endOf s + 1) s) ≡ Accepted (d .frame .content)
   -- of the content this many octets, which stand in the input: those before the info, then the info
-  pub kept : endOf s + 1 + keptOf (d .frame .content) (length s - (endOf s + 1)) ≤ length s
-  pub before : length (front (d .frame .content)) ≤ keptOf (d .frame .content) (length s - (endOf s + 1))
-  pub carried : d .«info_len» ≡ keptOf (d .frame .content) (length s - (endOf s + 1)) - length (front (d .frame .content))
-  pub info : infoIn s d ≡ take (d .«info_len») (drop (endOf s + 1 + length (front (d .frame .content))) s)
+  pub kept : endOf s + 1 + keptOf mode (d .frame .content) (length s - (endOf s + 1)) ≤ length s
+  pub before : length (front mode (d .frame .content)) ≤ keptOf mode (d .frame .content) (length s - (endOf s + 1))
+  pub carried : d .«info_len» ≡ keptOf mode (d .frame .content) (length s - (endOf s + 1)) - length (front mode (d .frame .content))
+  pub info : infoIn s d ≡ take (d .«info_len») (drop (endOf s + 1 + length (front mode (d .frame .content))) s)
 
-module _ (s : List ℕ) (o : Octets s) (a : Accepts s (decode s)) where
+module _ (mode : Mode) (s : List ℕ) (o : Octets s) (a : Accepts mode s (decode mode s)) where
   abbrev k : FrameContent
   k = a .kind
 
   abbrev d : Decoded
-  d = acceptedWith (frameAt s 0 (a .count) k) (endOf s + 1) (length s)
-
-  two : hasInfo k ≡ true → length (front k) ≡ 2
-  two = front-two k (content-plain _ (octets-drop s (endOf s + 1) o) k (a .read))
+  d = acceptedWith mode (frameAt s 0 (a .count) k) (endOf s + 1) (length s)
 
   room : length (drop (endOf s + 1) s) ≡ length s - (endOf s + 1)
   room = length-drop (endOf s + 1) s
@@ -49,10 +47,10 @@ module _ (s : List ℕ) (o : Octets s) (a : Accepts s (decode s)) where
       ≡ commandOf (markSet (getD s 6 0)) (markSet (getD s 13 0))
   marks = rw (parsed-mark s 0, parsed-mark s 7) refl
 
-  made : Parts s d
+  made : Parts mode s d
   unfolding acceptedWith frameAt parsedAt
   made =
-      let fits = content-fits _ k (a .read) in
+      let fits = content-fits mode _ k (a .read) in
       let r = room in
       let n = a .end-in in
       record {
@@ -62,9 +60,9 @@ module _ (s : List ℕ) (o : Octets s) (a : Accepts s (decode s)) where
         content = a .read;
         kept = by (hasInfo k) (λ e. simp e (omega arith)) (λ e. simp e (omega arith));
         before = by (hasInfo k) (λ e. simp e (omega arith)) (λ e. simp e (omega arith));
-        carried = by (hasInfo k) (λ e. simp (e, two e) (omega arith)) (λ e. simp e (omega arith));
-        info = by (hasInfo k) (λ e. simp (e, two e)) (λ e. simp e);
+        carried = by (hasInfo k) (λ e. simp e (omega arith)) (λ e. simp e (omega arith));
+        info = by (hasInfo k) (λ e. simp e) (λ e. simp e);
       }
 
-pub parts : (s : List ℕ) → Octets s → isAccepted (decode s .answer) ≡ true → Parts s (decode s)
-parts s o e = let a = accepts s e in subst (λ (d : Decoded). Parts s d) (sym (a .made)) (made s o a)
+pub parts : (mode : Mode) (s : List ℕ) → Octets s → isAccepted (decode mode s .answer) ≡ true → Parts mode s (decode mode s)
+parts mode s o e = let a = accepts mode s e in subst (λ (d : Decoded). Parts mode s d) (sym (a .made)) (made mode s o a)

@@ -17,8 +17,8 @@ use Rattle.address.specs.Address.{PlainAddress}
 use Rattle.address.proofs.Laws.{read-plain, no-call-plain, group-character}
 use Rattle.content.specs.Spell.{hasInfo, front, PlainContent}
 use Rattle.content.specs.declared.FrameContent.{FrameContent}
-use Rattle.content_as_written.proofs.Laws.{content-plain, content-fits, content-some, front-two}
-use Rattle.parse.proofs.Read.{content-room}
+use Rattle.content.specs.declared.Mode.{Mode}
+use Rattle.content_as_written.proofs.Laws.{content-plain, content-fits, content-some}
 use Rattle.frame.specs.Frame.{noEntry}
 use Rattle.decode.specs.Answer.{isAccepted}
 use Rattle.decode.specs.Read.{nonzero, endOf, groupAt, parsedAt, entryAt, placeAt, routeAt, repeatersOf, frameAt, acceptedWith, decode, infoIn}
@@ -69,9 +69,9 @@ unfolding routeAt
 route-eight s at n = refl
 
 -- what is known of an accepted decode
-pub record Read (s : List ℕ) (d : Decoded) : Type 0 where
-  pub plain : Plain (withMark (d .frame)) (infoIn s d)
-  pub fits : length (spell (withMark (d .frame)) (infoIn s d)) ≤ length s
+pub record Read (mode : Mode) (s : List ℕ) (d : Decoded) : Type 0 where
+  pub plain : Plain mode (withMark (d .frame)) (infoIn s d)
+  pub fits : length (spell mode (withMark (d .frame)) (infoIn s d)) ≤ length s
   pub kept : inUse (d .frame) ≡ d .frame
 
 module _ (s : List ℕ) (o : Octets s) (n : ℕ) (first : nonzero (getD s 0 0) ≡ true) (end-in : endOf s < length s)
@@ -86,11 +86,11 @@ module _ (s : List ℕ) (o : Octets s) (n : ℕ) (first : nonzero (getD s 0 0) �
       let some : 0 < b = omega (arith, eqb-false b 0 (not-true (eqb b 0) first)) in
       group-character g (octets-take s 7 o) (rw at (first-before (bit 0) s 0 0 (omega arith))) (rw at some)
 
-  module _ (k : FrameContent) (h : PlainContent k) (l : length (front k) ≤ length (drop (endOf s + 1) s)) where
+  module _ (mode : Mode) (k : FrameContent) (h : PlainContent mode k) (l : length (front mode k) ≤ length (drop (endOf s + 1) s)) where
     abbrev d : Decoded
-    d = acceptedWith (frameAt s 0 n k) (endOf s + 1) (length s)
+    d = acceptedWith mode (frameAt s 0 n k) (endOf s + 1) (length s)
 
-    d-plain : Plain (withMark (d .frame)) (infoIn s d)
+    d-plain : Plain mode (withMark (d .frame)) (infoIn s d)
     unfolding acceptedWith frameAt withMark
     d-plain = record {
       mark = made-marked (d .frame .«command_or_response»);
@@ -105,31 +105,31 @@ module _ (s : List ℕ) (o : Octets s) (n : ℕ) (first : nonzero (getD s 0 0) �
       octets = octets-take (drop (d .«info_start») s) (d .«info_len») (octets-drop s (d .«info_start») o);
     }
 
-    d-fits : length (spell (withMark (d .frame)) (infoIn s d)) ≤ length s
+    d-fits : length (spell mode (withMark (d .frame)) (infoIn s d)) ≤ length s
     unfolding acceptedWith frameAt withMark
     d-fits =
         let m : 14 + 7 * n ≤ endOf s + 1 = omega arith in
-        let r : length (front k) ≤ length s - (endOf s + 1) = rw length-drop at l in
+        let r : length (front mode k) ≤ length s - (endOf s + 1) = rw length-drop at l in
         rw spell-length
         (by (hasInfo k)
-        (λ e. let two : length (front k) ≡ 2 = front-two k h e in
-        simp e (omega (arith, length-take (length s - (endOf s + 1 + 2)) (drop (endOf s + 1 + 2) s))))
+        (λ e. let b : ℕ = length (front mode k) in
+        simp e (omega (arith, length-take (length s - (endOf s + 1 + b)) (drop (endOf s + 1 + b) s))))
         (λ e. simp e (omega arith)))
 
     d-kept : inUse (d .frame) ≡ d .frame
     unfolding acceptedWith frameAt inUse
     d-kept = simp route-kept
 
-    made : Read s d
+    made : Read mode s d
     made = record { plain = d-plain; fits = d-fits; kept = d-kept }
 
-pub read : (s : List ℕ) → Octets s → isAccepted (decode s .answer) ≡ true → Read s (decode s)
-read s o e =
-    let a = accepts s e in
+pub read : (mode : Mode) (s : List ℕ) → Octets s → isAccepted (decode mode s .answer) ≡ true → Read mode s (decode mode s)
+read mode s o e =
+    let a = accepts mode s e in
     let after : List ℕ = drop (endOf s + 1) s in
-    let at = made s o (a .count) (a .first) (a .end-in) (a .long) (a .counted) (a .few) (a .kind)
-    (content-plain after (octets-drop s (endOf s + 1) o) (a .kind) (a .read)) (content-fits after (a .kind) (a .read)) in
-    subst (λ (d : Decoded). Read s d) (sym (a .made)) at
+    let at = made s o (a .count) (a .first) (a .end-in) (a .long) (a .counted) (a .few) mode (a .kind)
+    (content-plain mode after (octets-drop s (endOf s + 1) o) (a .kind) (a .read)) (content-fits mode after (a .kind) (a .read)) in
+    subst (λ (d : Decoded). Read mode s d) (sym (a .made)) at
 
 -- the octets of an accepted input that the check looks at stand in it, and so does the info
 pub record Inside (s : List ℕ) (d : Decoded) : Type 0 where
@@ -137,10 +137,10 @@ pub record Inside (s : List ℕ) (d : Decoded) : Type 0 where
   pub groups : 14 + 7 * d .frame .«route_count» < length s
   pub info : d .«info_start» + d .«info_len» ≤ length s
 
-inside-made : (s : List ℕ) (a : Accepts s (decode s)) → Inside s (acceptedWith (frameAt s 0 (a .count) (a .kind)) (endOf s + 1) (length s))
+inside-made : (mode : Mode) (s : List ℕ) (a : Accepts mode s (decode mode s)) → Inside s (acceptedWith mode (frameAt s 0 (a .count) (a .kind)) (endOf s + 1) (length s))
 unfolding acceptedWith frameAt
-inside-made s a =
-    let some : 0 < length (drop (endOf s + 1) s) = content-some _ _ (a .read) in
+inside-made mode s a =
+    let some : 0 < length (drop (endOf s + 1) s) = content-some mode _ _ (a .read) in
     let l = length-drop (endOf s + 1) s in
     let counted = a .counted in
     let long = a .long in
@@ -148,12 +148,12 @@ inside-made s a =
       few = a .few;
       groups = omega arith;
       info = by (hasInfo (a .kind))
-          (λ e. simp e (omega (arith, content-room _ _ (a .read) e)))
+          (λ e. simp e (omega (arith, content-fits mode _ _ (a .read))))
           (λ e. simp e (omega arith));
     }
 
-pub inside : (s : List ℕ) → isAccepted (decode s .answer) ≡ true → Inside s (decode s)
-inside s e = let a = accepts s e in subst (λ (d : Decoded). Inside s d) (sym (a .made)) (inside-made s a)
+pub inside : (mode : Mode) (s : List ℕ) → isAccepted (decode mode s .answer) ≡ true → Inside s (decode mode s)
+inside mode s e = let a = accepts mode s e in subst (λ (d : Decoded). Inside s d) (sym (a .made)) (inside-made mode s a)
 
 pub info-length : (s : List ℕ) (d : Decoded) → Inside s d → length (infoIn s d) ≡ d .«info_len»
 info-length s d i = length-take-le (d .«info_len») (drop (d .«info_start») s) (rw length-drop (omega (arith, i .info)))
@@ -164,8 +164,8 @@ pub record Stations (f : Ax25Frame) : Type 0 where
   pub source : PlainAddress (f .source)
   pub repeaters : (i : ℕ) → i < f .«route_count» → PlainAddress (repeaterAt (f .route) i .repeater)
 
-pub stations : (s : List ℕ) → Octets s → isAccepted (decode s .answer) ≡ true → Stations (decode s .frame)
+pub stations : (mode : Mode) (s : List ℕ) → Octets s → isAccepted (decode mode s .answer) ≡ true → Stations (decode mode s .frame)
 unfolding withMark
-stations s o e =
-    let p = read s o e .plain in
+stations mode s o e =
+    let p = read mode s o e .plain in
     record { destination = p .destination; source = p .source; repeaters = p .repeaters }

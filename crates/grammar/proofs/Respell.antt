@@ -12,7 +12,8 @@ use Rattle.octets.proofs.Choice.{by}
 use Rattle.address.specs.Address.{PlainAddress}
 use Rattle.content.specs.Spell.{hasInfo}
 use Rattle.content.specs.Encode.{strayInfo}
-use Rattle.content.proofs.Encode.{plain-pid}
+use Rattle.content.proofs.Encode.{plain-pid, plain-frmr}
+use Rattle.content.specs.declared.Mode.{Mode}
 use Rattle.decode.specs.Answer.{isAccepted}
 use Rattle.decode.specs.Read.{endOf, acceptedWith, decode, infoIn}
 use Rattle.frame.specs.Write.{routeEncodable, frameEncodable, writeAnswer, octetsWritten, written}
@@ -38,9 +39,9 @@ source-same Command = refl
 source-same Response = refl
 source-same Absent = refl
 
-pub mark-spell : (f : Ax25Frame) (i : List ℕ) → spell (withMark f) i ≡ spell f i
+pub mark-spell : (mode : Mode) (f : Ax25Frame) (i : List ℕ) → spell mode (withMark f) i ≡ spell mode f i
 unfolding spell addressField withMark
-mark-spell f i = simp (destination-same, source-same)
+mark-spell mode f i = simp (destination-same, source-same)
 
 pub use-at : (route : List RouteEntry) (n k : ℕ) → k < n → n ≤ 8 → repeaterAt (routeInUse route n) k ≡ repeaterAt route k
 unfolding routeInUse placeInUse
@@ -59,18 +60,18 @@ unfolding groupsOf
 groups-use route total n zero h l = refl
 groups-use route total n (suc k) h l = rw (groups-use route total n k (omega arith) l, use-at route n k h l)
 
-pub use-spell : (f : Ax25Frame) (i : List ℕ) → f .«route_count» ≤ 8 → spell (inUse f) i ≡ spell f i
+pub use-spell : (mode : Mode) (f : Ax25Frame) (i : List ℕ) → f .«route_count» ≤ 8 → spell mode (inUse f) i ≡ spell mode f i
 unfolding spell addressField inUse
-use-spell f i h = simp (groups-use (f .route) (f .«route_count») (f .«route_count») (f .«route_count») (omega arith) h)
+use-spell mode f i h = simp (groups-use (f .route) (f .«route_count») (f .«route_count») (f .«route_count») (omega arith) h)
 
 -- what is in use of a frame with a mark
 pub use-mark : (f : Ax25Frame) → inUse f ≡ f → inUse (withMark f) ≡ withMark f
 unfolding inUse withMark
 use-mark f e = ap withMark e
 
-pub accepted-spell : (f : Ax25Frame) (i : List ℕ) → Plain f i → isAccepted (decode (spell f i) .answer) ≡ true
+pub accepted-spell : (mode : Mode) (f : Ax25Frame) (i : List ℕ) → Plain mode f i → isAccepted (decode mode (spell mode f i) .answer) ≡ true
 unfolding acceptedWith
-accepted-spell f i p = ap (λ (d : Decoded). isAccepted (d .answer)) (decode-spell f i p)
+accepted-spell mode f i p = ap (λ (d : Decoded). isAccepted (d .answer)) (decode-spell mode f i p)
 
 -- of a plain frame writing refuses nothing but too little room
 plain-route : (route : List RouteEntry) (n : ℕ) → ((i : ℕ) → i < n → PlainAddress (repeaterAt route i .repeater)) → routeEncodable route n ≡ true
@@ -78,42 +79,48 @@ unfolding routeEncodable
 plain-route route zero f = refl
 plain-route route (suc n) f = rw (plain-route route n (λ i h. f i (omega arith)), f n (omega arith) .writable)
 
-plain-addresses : (f : Ax25Frame) (i : List ℕ) → Plain f i → frameEncodable f ≡ true
+plain-addresses : (mode : Mode) (f : Ax25Frame) (i : List ℕ) → Plain mode f i → frameEncodable f ≡ true
 unfolding frameEncodable
-plain-addresses f i p = rw (p .destination .writable, p .source .writable, plain-route (f .route) (f .«route_count») (p .repeaters))
+plain-addresses mode f i p = rw (p .destination .writable, p .source .writable, plain-route (f .route) (f .«route_count») (p .repeaters))
 
-plain-info : (f : Ax25Frame) (i : List ℕ) → Plain f i → strayInfo (f .content) (length i) ≡ false
-plain-info f i p = by (hasInfo (f .content)) (λ e. rw e) (λ e. rw (e, p .bare e))
+plain-info : (mode : Mode) (f : Ax25Frame) (i : List ℕ) → Plain mode f i → strayInfo (f .content) (length i) ≡ false
+plain-info mode f i p = by (hasInfo (f .content)) (λ e. rw e) (λ e. rw (e, p .bare e))
 
-plain-written : (f : Ax25Frame) (i : List ℕ) (room : ℕ) → Plain f i → writeAnswer f i room ≡ cond (ltb room (length (spell f i))) NoRoom Accepted
+plain-written : (mode : Mode) (f : Ax25Frame) (i : List ℕ) (room : ℕ) → Plain mode f i → writeAnswer mode f i room ≡ cond (ltb room (length (spell mode f i))) NoRoom Accepted
 unfolding writeAnswer
-plain-written f i room p =
-    simp (le-ltb 8 (f .«route_count») (p .count), plain-addresses f i p, plain-info f i p, plain-pid (f .content) (p .content))
+plain-written mode f i room p =
+    simp (
+      le-ltb 8 (f .«route_count») (p .count),
+      plain-addresses mode f i p,
+      plain-frmr mode (f .content) (p .content),
+      plain-info mode f i p,
+      plain-pid mode (f .content) (p .content),
+    )
 
-mark-written : (f : Ax25Frame) (i : List ℕ) (room : ℕ) → writeAnswer (withMark f) i room ≡ writeAnswer f i room
+mark-written : (mode : Mode) (f : Ax25Frame) (i : List ℕ) (room : ℕ) → writeAnswer mode (withMark f) i room ≡ writeAnswer mode f i room
 unfolding writeAnswer frameEncodable withMark
-mark-written f i room = rw (mark-spell f i)
+mark-written mode f i room = rw (mark-spell mode f i)
 
 -- and of what was decoded
-pub decoded-written : (s : List ℕ) (room : ℕ) → Octets s → isAccepted (decode s .answer) ≡ true
-    → writeAnswer (decode s .frame) (infoIn s (decode s)) room
-    ≡ cond (ltb room (length (spell (decode s .frame) (infoIn s (decode s))))) NoRoom Accepted
-decoded-written s room o e =
-    let f : Ax25Frame = decode s .frame in
-    let i : List ℕ = infoIn s (decode s) in
-    sym (mark-written f i room) ∙ plain-written (withMark f) i room (read s o e .plain) ∙ rw mark-spell refl
+pub decoded-written : (mode : Mode) (s : List ℕ) (room : ℕ) → Octets s → isAccepted (decode mode s .answer) ≡ true
+    → writeAnswer mode (decode mode s .frame) (infoIn s (decode mode s)) room
+    ≡ cond (ltb room (length (spell mode (decode mode s .frame) (infoIn s (decode mode s))))) NoRoom Accepted
+decoded-written mode s room o e =
+    let f : Ax25Frame = decode mode s .frame in
+    let i : List ℕ = infoIn s (decode mode s) in
+    sym (mark-written mode f i room) ∙ plain-written mode (withMark f) i room (read mode s o e .plain) ∙ rw (mark-spell mode) refl
 
 -- of a kind with info, what was decoded spells every octet after the address field again
-pub content-spell : (s : List ℕ) → Octets s → isAccepted (decode s .answer) ≡ true → hasInfo (decode s .frame .content) ≡ true
-    → drop (14 + 7 * decode s .frame .«route_count») (spell (decode s .frame) (infoIn s (decode s))) ≡ drop (endOf s + 1) s
+pub content-spell : (mode : Mode) (s : List ℕ) → Octets s → isAccepted (decode mode s .answer) ≡ true → hasInfo (decode mode s .frame .content) ≡ true
+    → drop (14 + 7 * decode mode s .frame .«route_count») (spell mode (decode mode s .frame) (infoIn s (decode mode s))) ≡ drop (endOf s + 1) s
 unfolding withMark
-content-spell s o e h =
-    let i : List ℕ = infoIn s (decode s) in
-    rw (← mark-spell (decode s .frame) i)
-    (after-field (withMark (decode s .frame)) i (read s o e .plain) ∙ info-kept s o (accepts s e) h)
+content-spell mode s o e h =
+    let i : List ℕ = infoIn s (decode mode s) in
+    rw (← mark-spell mode (decode mode s .frame) i)
+    (after-field mode (withMark (decode mode s .frame)) i (read mode s o e .plain) ∙ info-kept mode s o (accepts mode s e) h)
 
 -- writing's answer and length go with these
-pub written-is : (f : Ax25Frame) (i : List ℕ) (room : ℕ)
-    → written f i room ≡ record { answer = writeAnswer f i room; length = length (octetsWritten f i room) }
+pub written-is : (mode : Mode) (f : Ax25Frame) (i : List ℕ) (room : ℕ)
+    → written mode f i room ≡ record { answer = writeAnswer mode f i room; length = length (octetsWritten mode f i room) }
 unfolding written
-written-is f i room = refl
+written-is mode f i room = refl

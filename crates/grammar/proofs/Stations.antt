@@ -7,6 +7,7 @@ use native.Mathlib.Omega.{arith}
 use lib.ListN.{length, getD}
 use Rattle.octets.specs.Octet.{Octets, field}
 use Rattle.octets.proofs.Place.{getD-part}
+use Rattle.content.specs.declared.Mode.{Mode}
 use Rattle.address.proofs.Laws.{reserved-last}
 use Rattle.address.specs.declared.Address.{Address}
 use Rattle.decode.specs.Answer.{isAccepted}
@@ -27,9 +28,9 @@ at-group : (s : List ℕ) (at : ℕ) → parsedAt s at .address .reserved ≡ fi
 unfolding parsedAt
 at-group s at = reserved-last (groupAt s at) ∙ ap (field 5 2) (getD-part 7 at s 6 0 (omega arith))
 
-module _ (s : List ℕ) (a : Accepts s (decode s)) where
+module _ (mode : Mode) (s : List ℕ) (a : Accepts mode s (decode mode s)) where
   abbrev d : Decoded
-  d = acceptedWith (frameAt s 0 (a .count) (a .kind)) (endOf s + 1) (length s)
+  d = acceptedWith mode (frameAt s 0 (a .count) (a .kind)) (endOf s + 1) (length s)
 
   station-made : (j : ℕ) → j < a .count + 2 → stationAt (d .frame) j ≡ parsedAt s (7 * j) .address
   unfolding acceptedWith frameAt
@@ -44,8 +45,8 @@ module _ (s : List ℕ) (a : Accepts s (decode s)) where
   reserved-made j h = sym (ap (λ (x : Address). x .reserved) (station-made j h) ∙ at-group s (7 * j))
 
 -- those of an accepted input are the frame's
-pub reserved-read : (s : List ℕ) → isAccepted (decode s .answer) ≡ true → Reserves s (decode s .frame)
-reserved-read s e = let a = accepts s e in subst (λ (d : Decoded). Reserves s (d .frame)) (sym (a .made)) (reserved-made s a)
+pub reserved-read : (mode : Mode) (s : List ℕ) → isAccepted (decode mode s .answer) ≡ true → Reserves s (decode mode s .frame)
+reserved-read mode s e = let a = accepts mode s e in subst (λ (d : Decoded). Reserves s (d .frame)) (sym (a .made)) (reserved-made mode s a)
 
 use-station : (f : Ax25Frame) (j : ℕ) → j < f .«route_count» + 2 → f .«route_count» ≤ 8 → stationAt (inUse f) j ≡ stationAt f j
 unfolding inUse
@@ -54,11 +55,11 @@ use-station f (suc zero) h l = refl
 use-station f (suc (suc i)) h l = ap (λ (x : RouteEntry). x .repeater) (use-at (f .route) (f .«route_count») i (omega arith) l)
 
 -- those of a plain frame are in what it spells
-pub reserved-spelled : (f : Ax25Frame) (i : List ℕ) → Plain f i → Reserves (spell f i) f
+pub reserved-spelled : (mode : Mode) (f : Ax25Frame) (i : List ℕ) → Plain mode f i → Reserves (spell mode f i) f
 unfolding inUse
-reserved-spelled f i p j h =
-    let r = reserved-read (spell f i) (accepted-spell f i p) in
-    (rw (frame-spell f i p) at r) j h ∙ ap (λ (x : Address). x .reserved) (use-station f j h (p .count))
+reserved-spelled mode f i p j h =
+    let r = reserved-read mode (spell mode f i) (accepted-spell mode f i p) in
+    (rw (frame-spell mode f i p) at r) j h ∙ ap (λ (x : Address). x .reserved) (use-station f j h (p .count))
 
 mark-station : (f : Ax25Frame) (j : ℕ) → stationAt (withMark f) j ≡ stationAt f j
 unfolding withMark
@@ -67,13 +68,13 @@ mark-station f (suc zero) = refl
 mark-station f (suc (suc i)) = refl
 
 -- so what is read and spelled again has those that it had
-pub reserved-again : (s : List ℕ) → Octets s → isAccepted (decode s .answer) ≡ true
-    → (j : ℕ) → j < decode s .frame .«route_count» + 2 → reservedAt (spell (decode s .frame) (infoIn s (decode s))) j ≡ reservedAt s j
+pub reserved-again : (mode : Mode) (s : List ℕ) → Octets s → isAccepted (decode mode s .answer) ≡ true
+    → (j : ℕ) → j < decode mode s .frame .«route_count» + 2 → reservedAt (spell mode (decode mode s .frame) (infoIn s (decode mode s))) j ≡ reservedAt s j
 unfolding withMark
-reserved-again s o e j h =
-    let f : Ax25Frame = decode s .frame in
-    let i : List ℕ = infoIn s (decode s) in
-    rw (← mark-spell f i)
-    (reserved-spelled (withMark f) i (read s o e .plain) j h
+reserved-again mode s o e j h =
+    let f : Ax25Frame = decode mode s .frame in
+    let i : List ℕ = infoIn s (decode mode s) in
+    rw (← mark-spell mode f i)
+    (reserved-spelled mode (withMark f) i (read mode s o e .plain) j h
     ∙ ap (λ (x : Address). x .reserved) (mark-station f j)
-    ∙ sym (reserved-read s e j h))
+    ∙ sym (reserved-read mode s e j h))

@@ -14,11 +14,12 @@ movedAnswer k len read.NoEndToAddressField = read.NoEndToAddressField
 movedAnswer k len (read.AddressFieldTooShort start end) = read.AddressFieldTooShort (k + start) (k + end)
 movedAnswer k len (read.FrameTooShort rest) = read.FrameTooShort len
 movedAnswer k len read.MissingPidField = read.MissingPidField
-movedAnswer k len read.UnrecognisedSFieldType = read.UnrecognisedSFieldType
 movedAnswer k len read.UnrecognisedUFieldType = read.UnrecognisedUFieldType
 movedAnswer k len read.WrongSizeFrmrInfo = read.WrongSizeFrmrInfo
 movedAnswer k len read.TooManyRepeaters = read.TooManyRepeaters
 movedAnswer k len read.LeadingNullBytes = read.LeadingNullBytes
+movedAnswer k len read.FrameRejectInLongMode = read.FrameRejectInLongMode
+movedAnswer k len read.MissingControlOctet = read.MissingControlOctet
 
 -- where info starts; 0, where none can start, says that there is none
 abbrev pub movedInfo : ℕ → ℕ → ℕ

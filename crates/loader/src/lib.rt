@@ -1,4 +1,5 @@
-// The calls that C links. A slice is a pointer and a length there; include/ax25.h says what the caller owes.
+// The calls that C links, all in the short mode. A slice is a pointer and a length there; include/ax25.h says what the caller owes.
+use content::Mode;
 use kiss_state::Stream;
 use kiss_stream::Packet;
 ghost use mathlib.Core.Path.{_≡_};
@@ -20,9 +21,9 @@ ghost use Rattle.kiss_stream.specs.Feed.{feedOf};
 // The decode number.
 #[no_mangle]
 pub extern "C" fn ax25_decode(input: &[u8]) -> u32
-    ensures { λ r. ⌜ r ≡ reportOf (decode (now (input .entry)) .answer) .number ⌝ }
+    ensures { λ r. ⌜ r ≡ reportOf (decode Mode.Short (now (input .entry)) .answer) .number ⌝ }
 {
-    let outline = decode::outline_of(input);
+    let outline = decode::outline_of(Mode::Short, input);
     let answer = outline.answer;
     answer.number()
 }
@@ -30,35 +31,39 @@ pub extern "C" fn ax25_decode(input: &[u8]) -> u32
 // The decode number of a capture that was taken while leading nulls were skipped: that of what follows them.
 #[no_mangle]
 pub extern "C" fn ax25_decode_old_capture(input: &[u8]) -> u32
-    ensures { λ r. ⌜ r ≡ reportOf (decodeOld (now (input .entry)) .answer) .number ⌝ }
+    ensures { λ r. ⌜ r ≡ reportOf (decodeOld Mode.Short (now (input .entry)) .answer) .number ⌝ }
 {
-    let answer = old_captures::answer_of(input);
+    let answer = old_captures::answer_of(Mode::Short, input);
     answer.number()
 }
 
 // 1 where the input is canonical, else 0.
 #[no_mangle]
 pub extern "C" fn ax25_canonical(input: &[u8]) -> u32
-    ensures { λ r. ⌜ r ≡ cond (canonical (now (input .entry))) 1 0 ⌝ }
+    ensures { λ r. ⌜ r ≡ cond (canonical Mode.Short (now (input .entry))) 1 0 ⌝ }
 {
-    if spelling::is_canonical(input) { 1 } else { 0 }
+    if spelling::is_canonical(Mode::Short, input) {
+        1
+    } else {
+        0
+    }
 }
 
 // How many octets re-encoding gives; 0 where the input is refused.
 #[no_mangle]
 pub extern "C" fn ax25_reencoded_length(input: &[u8]) -> usize
-    ensures { λ r. ⌜ r ≡ length (due (now (input .entry))) ⌝ }
+    ensures { λ r. ⌜ r ≡ length (due Mode.Short (now (input .entry))) ⌝ }
 {
-    respelling::reencoded_length(input)
+    respelling::reencoded_length(Mode::Short, input)
 }
 
 // The input re-encoded at the start of the output: the decode number, or 24, or 0. A refusal leaves the output alone.
 #[no_mangle]
 pub extern "C" fn ax25_reencode(input: &[u8], output: &mut [u8]) -> u32
-    ensures { λ r. ⌜ r ≡ reencodeReport (reencode (now (input .entry)) (length (now (output .entry))) .answer) .number ⌝ }
-    ensures { λ r. ⌜ now (output .exit) ≡ splice (now (output .entry)) 0 (reencoded (now (input .entry)) (length (now (output .entry)))) ⌝ }
+    ensures { λ r. ⌜ r ≡ reencodeReport (reencode Mode.Short (now (input .entry)) (length (now (output .entry))) .answer) .number ⌝ }
+    ensures { λ r. ⌜ now (output .exit) ≡ splice (now (output .entry)) 0 (reencoded Mode.Short (now (input .entry)) (length (now (output .entry)))) ⌝ }
 {
-    let done = respelling::reencode(input, output);
+    let done = respelling::reencode(Mode::Short, input, output);
     let answer = done.answer;
     answer.number()
 }

@@ -1,5 +1,6 @@
 // Captures that were taken before a leading null was refused: the nulls before a frame are skipped, and the rest is read as the decoder
 // reads it. Nothing else in the box reads so.
+use content::Mode;
 use decode::DecodeAnswer;
 use decode::Decoded;
 ghost use mathlib.Core.Path.{_≡_};
@@ -37,21 +38,21 @@ fn moved_info(at: usize, nulls: usize) -> usize
 }
 
 // The answer alone.
-pub fn answer_of(capture: &[u8]) -> DecodeAnswer
-    ensures { λ r. ⌜ r ≡ decodeOld (now (capture .entry)) .answer ⌝ }
+pub fn answer_of(mode: Mode, capture: &[u8]) -> DecodeAnswer
+    ensures { λ r. ⌜ r ≡ decodeOld mode (now (capture .entry)) .answer ⌝ }
 {
     let nulls = search::find(capture, 0xFF);
-    let outline = decode::outline_of(&capture[nulls..]);
+    let outline = decode::outline_of(mode, &capture[nulls..]);
     let answer = outline.answer;
     moved_answer(answer, nulls, capture.len())
 }
 
 // The frame after the nulls, and where its info stands in the capture.
-pub fn from_bytes(capture: &[u8]) -> Decoded
-    ensures { λ r. ⌜ r ≡ decodeOld (now (capture .entry)) ⌝ }
+pub fn from_bytes(mode: Mode, capture: &[u8]) -> Decoded
+    ensures { λ r. ⌜ r ≡ decodeOld mode (now (capture .entry)) ⌝ }
 {
     let nulls = search::find(capture, 0xFF);
-    let decoded = reading::from_bytes(&capture[nulls..]);
+    let decoded = reading::from_bytes(mode, &capture[nulls..]);
     let answer = decoded.answer;
     let moved = moved_answer(answer, nulls, capture.len());
     let info_start = moved_info(decoded.info_start, nulls);

@@ -6,7 +6,7 @@ use lib.Dec.{eqb, ltb}
 use lib.ListN.{length}
 use Rattle.octets.specs.Splice.{splice}
 use Rattle.parse.specs.declared.ContentAnswer.{ContentAnswer}
-use Rattle.parse.specs.declared.ContentAnswer.the-variants.{Accepted, ContentZeroLength, MissingPidField, UnrecognisedSFieldType, UnrecognisedUFieldType, WrongSizeFrmrInfo}
+use Rattle.parse.specs.declared.ContentAnswer.the-variants.{Accepted, ContentZeroLength, MissingPidField, UnrecognisedUFieldType, WrongSizeFrmrInfo, FrameRejectInLongMode, MissingControlOctet}
 use Rattle.frame.specs.declared.Ax25Frame.{Ax25Frame}
 use Rattle.hops.specs.Hops.{hopSet, hopsUsed, duePlace}
 use Rattle.flat.specs.Laid.{contentFlat}
@@ -32,9 +32,10 @@ abbrev pub readFlat : ContentAnswer → List ℕ
 readFlat (Accepted k) = contentFlat k
 readFlat ContentZeroLength = []
 readFlat MissingPidField = []
-readFlat UnrecognisedSFieldType = []
 readFlat UnrecognisedUFieldType = []
 readFlat WrongSizeFrmrInfo = []
+readFlat FrameRejectInLongMode = []
+readFlat MissingControlOctet = []
 
 -- the hops of a frame: hop set, hops used, due place
 abbrev pub hopsOf : Ax25Frame → List ℕ

@@ -1,6 +1,7 @@
 // Calls on flat octets, for the program that runs the Rust beside the port and for nothing else. The crate
 // `flat` has the layout of a flat address, content and frame. A call that is lent too little answers 24 and touches nothing; no other
-// refusal touches lent octets.
+// refusal touches lent octets. A mode is a number: 0 is the short one, any other the long one.
+use content::Mode;
 use decode::Decoded;
 use frame::Ax25Frame;
 use parse::ContentAnswer;
@@ -17,7 +18,10 @@ ghost use Rattle.old_captures.specs.Old.{decodeOld};
 ghost use Rattle.frame.specs.Write.{written, octetsWritten};
 ghost use Rattle.parse.specs.Content.{contentOf};
 ghost use Rattle.parse.specs.Content.{numberOf as contentNumber};
+ghost use Rattle.content.specs.Mode.{modeOf};
 ghost use Rattle.content.specs.Encode.{encodeNumber, encodeOf, encoded};
+ghost use Rattle.spelling.specs.Canonical.{canonical};
+ghost use Rattle.respelling.specs.Reencode.{reencode, reencoded, reportOf as reencodeReport};
 ghost use Rattle.hops.specs.Station.{sameStation};
 ghost use Rattle.octets.specs.Splice.{splice};
 ghost use Rattle.flat.specs.Laid.{addressFlat, flatOf};
@@ -68,36 +72,88 @@ fn put_decoded(decoded: Decoded, flat: &mut [u8], places: &mut [usize]) -> u32
 
 // Decodes.
 #[no_mangle]
-pub extern "C" fn probe_decode(input: &[u8], flat: &mut [u8], places: &mut [usize]) -> u32
-    ensures { λ r. ⌜ r ≡ answers (lacks (now (flat .entry)) 102 || lacks (now (places .entry)) 5) (numberOf (decode (now (input .entry)) .answer)) ⌝ }
-    ensures { λ r. ⌜ now (flat .exit) ≡ leavesBy (lacks (now (flat .entry)) 102 || lacks (now (places .entry)) 5) (numberOf (decode (now (input .entry)) .answer)) (now (flat .entry)) (flatOf (decode (now (input .entry)) .frame)) ⌝ }
-    ensures { λ r. ⌜ now (places .exit) ≡ leaves (lacks (now (flat .entry)) 102 || lacks (now (places .entry)) 5) (now (places .entry)) (placesOf (decode (now (input .entry)))) ⌝ }
+pub extern "C" fn probe_decode(
+    mode: u32,
+    input: &[u8],
+    flat: &mut [u8],
+    places: &mut [usize],
+) -> u32
+    ensures { λ r. ⌜ r ≡ answers (lacks (now (flat .entry)) 102 || lacks (now (places .entry)) 5) (numberOf (decode (modeOf mode) (now (input .entry)) .answer)) ⌝ }
+    ensures { λ r. ⌜ now (flat .exit) ≡ leavesBy (lacks (now (flat .entry)) 102 || lacks (now (places .entry)) 5) (numberOf (decode (modeOf mode) (now (input .entry)) .answer)) (now (flat .entry)) (flatOf (decode (modeOf mode) (now (input .entry)) .frame)) ⌝ }
+    ensures { λ r. ⌜ now (places .exit) ≡ leaves (lacks (now (flat .entry)) 102 || lacks (now (places .entry)) 5) (now (places .entry)) (placesOf (decode (modeOf mode) (now (input .entry)))) ⌝ }
 {
-    put_decoded(reading::from_bytes(input), flat, places)
+    put_decoded(
+        reading::from_bytes(Mode::of_number(mode), input),
+        flat,
+        places,
+    )
 }
 
 // Decodes an old capture.
 #[no_mangle]
-pub extern "C" fn probe_decode_old(input: &[u8], flat: &mut [u8], places: &mut [usize]) -> u32
-    ensures { λ r. ⌜ r ≡ answers (lacks (now (flat .entry)) 102 || lacks (now (places .entry)) 5) (numberOf (decodeOld (now (input .entry)) .answer)) ⌝ }
-    ensures { λ r. ⌜ now (flat .exit) ≡ leavesBy (lacks (now (flat .entry)) 102 || lacks (now (places .entry)) 5) (numberOf (decodeOld (now (input .entry)) .answer)) (now (flat .entry)) (flatOf (decodeOld (now (input .entry)) .frame)) ⌝ }
-    ensures { λ r. ⌜ now (places .exit) ≡ leaves (lacks (now (flat .entry)) 102 || lacks (now (places .entry)) 5) (now (places .entry)) (placesOf (decodeOld (now (input .entry)))) ⌝ }
+pub extern "C" fn probe_decode_old(
+    mode: u32,
+    input: &[u8],
+    flat: &mut [u8],
+    places: &mut [usize],
+) -> u32
+    ensures { λ r. ⌜ r ≡ answers (lacks (now (flat .entry)) 102 || lacks (now (places .entry)) 5) (numberOf (decodeOld (modeOf mode) (now (input .entry)) .answer)) ⌝ }
+    ensures { λ r. ⌜ now (flat .exit) ≡ leavesBy (lacks (now (flat .entry)) 102 || lacks (now (places .entry)) 5) (numberOf (decodeOld (modeOf mode) (now (input .entry)) .answer)) (now (flat .entry)) (flatOf (decodeOld (modeOf mode) (now (input .entry)) .frame)) ⌝ }
+    ensures { λ r. ⌜ now (places .exit) ≡ leaves (lacks (now (flat .entry)) 102 || lacks (now (places .entry)) 5) (now (places .entry)) (placesOf (decodeOld (modeOf mode) (now (input .entry)))) ⌝ }
 {
-    put_decoded(old_captures::from_bytes(input), flat, places)
+    put_decoded(
+        old_captures::from_bytes(Mode::of_number(mode), input),
+        flat,
+        places,
+    )
+}
+
+// 1 where the input is canonical, else 0.
+#[no_mangle]
+pub extern "C" fn probe_canonical(mode: u32, input: &[u8]) -> u32
+    ensures { λ r. ⌜ r ≡ cond (canonical (modeOf mode) (now (input .entry))) 1 0 ⌝ }
+{
+    if spelling::is_canonical(Mode::of_number(mode), input) {
+        1
+    } else {
+        0
+    }
+}
+
+// Re-encodes: the number, the octets, and their count.
+#[no_mangle]
+pub extern "C" fn probe_reencode(mode: u32, input: &[u8], out: &mut [u8], len: &mut [usize]) -> u32
+    ensures { λ r. ⌜ r ≡ answers (lacks (now (len .entry)) 1) (reencodeReport (reencode (modeOf mode) (now (input .entry)) (length (now (out .entry))) .answer) .number) ⌝ }
+    ensures { λ r. ⌜ now (out .exit) ≡ leaves (lacks (now (len .entry)) 1) (now (out .entry)) (reencoded (modeOf mode) (now (input .entry)) (length (now (out .entry)))) ⌝ }
+    ensures { λ r. ⌜ now (len .exit) ≡ leaves (lacks (now (len .entry)) 1) (now (len .entry)) (reencode (modeOf mode) (now (input .entry)) (length (now (out .entry))) .length ∷ []) ⌝ }
+{
+    if len.len() < 1 {
+        return NO_ROOM;
+    }
+    let done = respelling::reencode(Mode::of_number(mode), input, out);
+    let answer = done.answer;
+    len[0] = done.length;
+    answer.number()
 }
 
 // Writes the frame of a flat record: the number, the octets, and their count.
 #[no_mangle]
-pub extern "C" fn probe_encode(flat: &[u8], info: &[u8], out: &mut [u8], len: &mut [usize]) -> u32
-    ensures { λ r. ⌜ r ≡ answers (lacks (now (len .entry)) 1) (writeNumber (written (frameFrom (now (flat .entry))) (now (info .entry)) (length (now (out .entry))) .answer)) ⌝ }
-    ensures { λ r. ⌜ now (out .exit) ≡ leaves (lacks (now (len .entry)) 1) (now (out .entry)) (octetsWritten (frameFrom (now (flat .entry))) (now (info .entry)) (length (now (out .entry)))) ⌝ }
-    ensures { λ r. ⌜ now (len .exit) ≡ leaves (lacks (now (len .entry)) 1) (now (len .entry)) (written (frameFrom (now (flat .entry))) (now (info .entry)) (length (now (out .entry))) .length ∷ []) ⌝ }
+pub extern "C" fn probe_encode(
+    mode: u32,
+    flat: &[u8],
+    info: &[u8],
+    out: &mut [u8],
+    len: &mut [usize],
+) -> u32
+    ensures { λ r. ⌜ r ≡ answers (lacks (now (len .entry)) 1) (writeNumber (written (modeOf mode) (frameFrom (now (flat .entry))) (now (info .entry)) (length (now (out .entry))) .answer)) ⌝ }
+    ensures { λ r. ⌜ now (out .exit) ≡ leaves (lacks (now (len .entry)) 1) (now (out .entry)) (octetsWritten (modeOf mode) (frameFrom (now (flat .entry))) (now (info .entry)) (length (now (out .entry)))) ⌝ }
+    ensures { λ r. ⌜ now (len .exit) ≡ leaves (lacks (now (len .entry)) 1) (now (len .entry)) (written (modeOf mode) (frameFrom (now (flat .entry))) (now (info .entry)) (length (now (out .entry))) .length ∷ []) ⌝ }
 {
     if len.len() < 1 {
         return NO_ROOM;
     }
     let frame = flat::given::frame_from(flat);
-    let written = frame.to_bytes(info, out);
+    let written = frame.to_bytes(Mode::of_number(mode), info, out);
     let answer = written.answer;
     len[0] = written.length;
     answer.number()
@@ -206,14 +262,14 @@ pub extern "C" fn probe_default(flat: &mut [u8]) -> u32
 
 // Content alone: the number, and the content that was read.
 #[no_mangle]
-pub extern "C" fn probe_content(input: &[u8], flat: &mut [u8]) -> u32
-    ensures { λ r. ⌜ r ≡ answers (lacks (now (flat .entry)) 12) (contentNumber (contentOf (now (input .entry)))) ⌝ }
-    ensures { λ r. ⌜ now (flat .exit) ≡ leaves (lacks (now (flat .entry)) 12) (now (flat .entry)) (readFlat (contentOf (now (input .entry)))) ⌝ }
+pub extern "C" fn probe_content(mode: u32, input: &[u8], flat: &mut [u8]) -> u32
+    ensures { λ r. ⌜ r ≡ answers (lacks (now (flat .entry)) 12) (contentNumber (contentOf (modeOf mode) (now (input .entry)))) ⌝ }
+    ensures { λ r. ⌜ now (flat .exit) ≡ leaves (lacks (now (flat .entry)) 12) (now (flat .entry)) (readFlat (contentOf (modeOf mode) (now (input .entry)))) ⌝ }
 {
     if flat.len() < CONTENT {
         return NO_ROOM;
     }
-    let answer = parse::parse_content(input);
+    let answer = parse::parse_content(Mode::of_number(mode), input);
     put_read(flat, answer);
     answer.number()
 }
@@ -225,29 +281,31 @@ fn put_read(out: &mut [u8], answer: ContentAnswer)
         ContentAnswer::Accepted(content) => flat::laid::put_content(out, content),
         ContentAnswer::ContentZeroLength => (),
         ContentAnswer::MissingPidField => (),
-        ContentAnswer::UnrecognisedSFieldType => (),
         ContentAnswer::UnrecognisedUFieldType => (),
         ContentAnswer::WrongSizeFrmrInfo => (),
+        ContentAnswer::FrameRejectInLongMode => (),
+        ContentAnswer::MissingControlOctet => (),
     }
 }
 
 // Writes flat content alone: the number, the octets, and their count.
 #[no_mangle]
 pub extern "C" fn probe_content_encode(
+    mode: u32,
     content: &[u8],
     info: &[u8],
     out: &mut [u8],
     len: &mut [usize],
 ) -> u32
-    ensures { λ r. ⌜ r ≡ answers (lacks (now (len .entry)) 1) (encodeNumber (encodeOf (contentAt (now (content .entry)) 0) (length (now (info .entry))) (length (now (out .entry))) .answer)) ⌝ }
-    ensures { λ r. ⌜ now (out .exit) ≡ leaves (lacks (now (len .entry)) 1) (now (out .entry)) (encoded (contentAt (now (content .entry)) 0) (now (info .entry)) (length (now (out .entry)))) ⌝ }
-    ensures { λ r. ⌜ now (len .exit) ≡ leaves (lacks (now (len .entry)) 1) (now (len .entry)) (encodeOf (contentAt (now (content .entry)) 0) (length (now (info .entry))) (length (now (out .entry))) .length ∷ []) ⌝ }
+    ensures { λ r. ⌜ r ≡ answers (lacks (now (len .entry)) 1) (encodeNumber (encodeOf (modeOf mode) (contentAt (now (content .entry)) 0) (length (now (info .entry))) (length (now (out .entry))) .answer)) ⌝ }
+    ensures { λ r. ⌜ now (out .exit) ≡ leaves (lacks (now (len .entry)) 1) (now (out .entry)) (encoded (modeOf mode) (contentAt (now (content .entry)) 0) (now (info .entry)) (length (now (out .entry)))) ⌝ }
+    ensures { λ r. ⌜ now (len .exit) ≡ leaves (lacks (now (len .entry)) 1) (now (len .entry)) (encodeOf (modeOf mode) (contentAt (now (content .entry)) 0) (length (now (info .entry))) (length (now (out .entry))) .length ∷ []) ⌝ }
 {
     if len.len() < 1 {
         return NO_ROOM;
     }
     let given = flat::given::content_from(content);
-    let written = given.encode(info, out);
+    let written = given.encode(Mode::of_number(mode), info, out);
     let answer = written.answer;
     len[0] = written.length;
     answer.number()

@@ -18,11 +18,12 @@ fn details(answer: DecodeAnswer) -> [usize; 3]
         DecodeAnswer::AddressFieldTooShort { start, end } => [start, end, 0],
         DecodeAnswer::FrameTooShort { len } => [0, 0, len],
         DecodeAnswer::MissingPidField => [0, 0, 0],
-        DecodeAnswer::UnrecognisedSFieldType => [0, 0, 0],
         DecodeAnswer::UnrecognisedUFieldType => [0, 0, 0],
         DecodeAnswer::WrongSizeFrmrInfo => [0, 0, 0],
         DecodeAnswer::TooManyRepeaters => [0, 0, 0],
         DecodeAnswer::LeadingNullBytes => [0, 0, 0],
+        DecodeAnswer::FrameRejectInLongMode => [0, 0, 0],
+        DecodeAnswer::MissingControlOctet => [0, 0, 0],
     }
 }
 

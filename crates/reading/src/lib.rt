@@ -1,6 +1,7 @@
 // Reading a frame whole: from its outline to its content and its addresses.
 use address::group::ParsedAddress;
 use content::FrameContent;
+use content::Mode;
 use decode::DecodeAnswer;
 use decode::Decoded;
 use decode::Outline;
@@ -13,8 +14,7 @@ ghost use mathlib.Core.Bool.{true};
 ghost use Prim.Native.Nat.{_+_, _*_, _≤_};
 ghost use lib.ListN.{length, drop};
 ghost use Rattle.parse.specs.Content.{contentOf};
-ghost use Rattle.content.specs.Spell.{hasInfo};
-ghost use Rattle.content.specs.declared.FrameContent.the-variants.{UnknownContent};
+ghost use Rattle.content.specs.Spell.{hasInfo, front};
 ghost use Rattle.decode.specs.Outline.{holds, decodeBy};
 ghost use Rattle.decode.specs.Read.{parsedAt, routeAt, commandOf, frameAt, refusedWith, acceptedWith, withContent, decode};
 
@@ -97,12 +97,13 @@ fn parse_frame(bytes: &[u8], count: usize, content: FrameContent) -> Ax25Frame
     }
 }
 
-// A frame of a kind that carries a PID: info follows the PID.
-fn with_info(frame: Ax25Frame, control: usize, len: usize) -> Decoded
-    requires { ⌜ (hasInfo (frame .content) ≡ true) × (control + 2 ≤ len) ⌝ }
-    ensures { λ r. ⌜ r ≡ acceptedWith frame control len ⌝ }
+// A frame of a kind that has info: it follows the octets before it.
+fn with_info(mode: Mode, frame: Ax25Frame, control: usize, len: usize) -> Decoded
+    requires { ⌜ (hasInfo (frame .content) ≡ true) × (control + length (front mode (frame .content)) ≤ len) ⌝ }
+    ensures { λ r. ⌜ r ≡ acceptedWith mode frame control len ⌝ }
 {
-    let info_start = control + 2;
+    let content = frame.content;
+    let info_start = control + content.front_len(mode);
     Decoded {
         answer: DecodeAnswer::Accepted,
         frame,
@@ -111,37 +112,49 @@ fn with_info(frame: Ax25Frame, control: usize, len: usize) -> Decoded
     }
 }
 
-// I and UI carry a PID. No other kind that is read has info.
-fn accepted(frame: Ax25Frame, control: usize, len: usize) -> Decoded
-    requires { ⌜ (hasInfo (frame .content) ≡ true → control + 2 ≤ len) × (frame .content ≡ UnknownContent → ⊥) ⌝ }
-    ensures { λ r. ⌜ r ≡ acceptedWith frame control len ⌝ }
+// A frame of a kind without a PID: XID and TEST have info.
+fn without_pid(mode: Mode, frame: Ax25Frame, control: usize, len: usize) -> Decoded
+    requires { ⌜ control + length (front mode (frame .content)) ≤ len ⌝ }
+    ensures { λ r. ⌜ r ≡ acceptedWith mode frame control len ⌝ }
+{
+    let content = frame.content;
+    if content.has_info() {
+        return with_info(mode, frame, control, len);
+    }
+    Decoded {
+        answer: DecodeAnswer::Accepted,
+        frame,
+        info_start: 0,
+        info_len: 0,
+    }
+}
+
+// I and UI carry a PID.
+fn accepted(mode: Mode, frame: Ax25Frame, control: usize, len: usize) -> Decoded
+    requires { ⌜ control + length (front mode (frame .content)) ≤ len ⌝ }
+    ensures { λ r. ⌜ r ≡ acceptedWith mode frame control len ⌝ }
 {
     let content = frame.content;
     let FrameContent::Information(_) = content else {
         let FrameContent::UnnumberedInformation(_) = content else {
-            return Decoded {
-                answer: DecodeAnswer::Accepted,
-                frame,
-                info_start: 0,
-                info_len: 0,
-            };
+            return without_pid(mode, frame, control, len);
         };
-        return with_info(frame, control, len);
+        return with_info(mode, frame, control, len);
     };
-    with_info(frame, control, len)
+    with_info(mode, frame, control, len)
 }
 
 // The content, from the control octet on, and the frame around it.
-fn decode_content(bytes: &[u8], count: usize, control: usize) -> Decoded
+fn decode_content(mode: Mode, bytes: &[u8], count: usize, control: usize) -> Decoded
     requires { ⌜ (count ≤ 8) × (14 + 7 * count ≤ length (now bytes)) × (control ≤ length (now bytes)) ⌝ }
-    ensures { λ r. ⌜ r ≡ withContent (now (bytes .entry)) 0 count control (contentOf (drop control (now (bytes .entry)))) ⌝ }
+    ensures { λ r. ⌜ r ≡ withContent mode (now (bytes .entry)) 0 count control (contentOf mode (drop control (now (bytes .entry)))) ⌝ }
 {
-    let answer = parse::parse_content(&bytes[control..]);
+    let answer = parse::parse_content(mode, &bytes[control..]);
     let ContentAnswer::Accepted(content) = answer else {
         return refused(decode::refusal(answer.number()));
     };
     let frame = parse_frame(bytes, count, content);
-    accepted(frame, control, bytes.len())
+    accepted(mode, frame, control, bytes.len())
 }
 
 // Whether `len` octets hold an address field up to `end` with so many repeaters.
@@ -158,8 +171,8 @@ fn holds(len: usize, end: usize, count: usize) -> bool
 }
 
 // The frame that an outline tells of. An outline of other octets, which tells of more than these hold, is refused with 4.
-pub fn from_outline(bytes: &[u8], outline: Outline) -> Decoded
-    ensures { λ r. ⌜ r ≡ decodeBy (now (bytes .entry)) outline ⌝ }
+pub fn from_outline(mode: Mode, bytes: &[u8], outline: Outline) -> Decoded
+    ensures { λ r. ⌜ r ≡ decodeBy mode (now (bytes .entry)) outline ⌝ }
 {
     let answer = outline.answer;
     let DecodeAnswer::Accepted = answer else {
@@ -168,12 +181,12 @@ pub fn from_outline(bytes: &[u8], outline: Outline) -> Decoded
     if !holds(bytes.len(), outline.end, outline.route_count) {
         return refused(DecodeAnswer::FrameTooShort { len: bytes.len() });
     }
-    decode_content(bytes, outline.route_count, outline.end + 1)
+    decode_content(mode, bytes, outline.route_count, outline.end + 1)
 }
 
 // Parse raw bytes into an Ax25Frame if possible.
-pub fn from_bytes(bytes: &[u8]) -> Decoded
-    ensures { λ r. ⌜ r ≡ decode (now (bytes .entry)) ⌝ }
+pub fn from_bytes(mode: Mode, bytes: &[u8]) -> Decoded
+    ensures { λ r. ⌜ r ≡ decode mode (now (bytes .entry)) ⌝ }
 {
-    from_outline(bytes, decode::outline_of(bytes))
+    from_outline(mode, bytes, decode::outline_of(mode, bytes))
 }

@@ -13,6 +13,7 @@ use Rattle.octets.specs.All.{all}
 use Rattle.octets.specs.Octet.{field, flag}
 use Rattle.octets.proofs.Choice.{by}
 use Rattle.octets.proofs.Octet.{octet-same}
+use Rattle.content.specs.declared.Mode.the-variants.{Short}
 use Rattle.address.specs.Address.{low, encodable}
 use Rattle.address.proofs.Laws.{encodable-is}
 use Rattle.address.specs.Group.{markSet}
@@ -46,19 +47,19 @@ or-mark b h = octet-same (λ n. bitOr n 0x80) orMark tt b h
 
 -- of an accepted input: its groups stand in it; the marks that the loop meets are its hop set; the group at the due place is the
 -- repeater's
-module _ (s : List ℕ) (e : isAccepted (decode s .answer) ≡ true) where
+module _ (s : List ℕ) (e : isAccepted (decode Short s .answer) ≡ true) where
   abbrev n : ℕ
-  n = decode s .frame .«route_count»
+  n = decode Short s .frame .«route_count»
 
   pub groups-inside : (n ≤ 8) × (14 + 7 * n ≤ length s)
-  groups-inside = let r = route s e in (r .few, omega (arith, r .before, r .end-in))
+  groups-inside = let r = route Short s e in (r .few, omega (arith, r .before, r .end-in))
 
-  pub set-read : setOf (marks (routeAt s 14 n) n) ≡ hopSet (decode s .frame)
-  set-read = rw (← route s e .read) (hop-set-is (decode s .frame))
+  pub set-read : setOf (marks (routeAt s 14 n) n) ≡ hopSet (decode Short s .frame)
+  set-read = rw (← route Short s e .read) (hop-set-is (decode Short s .frame))
 
-  pub due-read : duePlace (decode s .frame) < n
-      → repeaterAt (decode s .frame .route) (duePlace (decode s .frame)) .repeater ≡ parsedAt s (14 + 7 * duePlace (decode s .frame)) .address
-  due-read h = let r = route s e in rw (r .read) (place-read s 14 n (duePlace (decode s .frame)) h (r .few) .0)
+  pub due-read : duePlace (decode Short s .frame) < n
+      → repeaterAt (decode Short s .frame .route) (duePlace (decode Short s .frame)) .repeater ≡ parsedAt s (14 + 7 * duePlace (decode Short s .frame)) .address
+  due-read h = let r = route Short s e in rw (r .read) (place-read s 14 n (duePlace (decode Short s .frame)) h (r .few) .0)
 
 -- how the due place answers
 pub due-none : (own : Address) (f : Ax25Frame) → duePlace f ≡ f .«route_count» → dueAnswer own f ≡ RouteUsedUp
@@ -82,11 +83,11 @@ pub relay-stranger : (own : Address) (s : List ℕ) → encodable own ≡ false 
 unfolding relayAnswer
 relay-stranger own s h = simp h
 
-pub relay-refused : (own : Address) (s : List ℕ) → encodable own ≡ true → isAccepted (decode s .answer) ≡ false → relayAnswer own s ≡ Refused (decode s .answer)
+pub relay-refused : (own : Address) (s : List ℕ) → encodable own ≡ true → isAccepted (decode Short s .answer) ≡ false → relayAnswer own s ≡ Refused (decode Short s .answer)
 unfolding relayAnswer
 relay-refused own s h e = simp (h, e)
 
-pub relay-accepted : (own : Address) (s : List ℕ) → encodable own ≡ true → isAccepted (decode s .answer) ≡ true → relayAnswer own s ≡ dueAnswer own (decode s .frame)
+pub relay-accepted : (own : Address) (s : List ℕ) → encodable own ≡ true → isAccepted (decode Short s .answer) ≡ true → relayAnswer own s ≡ dueAnswer own (decode Short s .frame)
 unfolding relayAnswer
 relay-accepted own s h e = simp (h, e)
 

@@ -5,6 +5,7 @@ use mathlib.Core.List.{List, [], _∷_}
 use lib.Dec.{eqb, ltb}
 use lib.ListN.{length, getD, set}
 use Rattle.octets.specs.Octet.{field, flag}
+use Rattle.content.specs.declared.Mode.the-variants.{Short}
 use Rattle.address.specs.Address.{withOnes, encodable}
 use Rattle.address.specs.declared.Address.{Address}
 use Rattle.frame.specs.Spell.{repeaterAt}
@@ -42,13 +43,13 @@ dueAnswer own f = cond (usedUp f) RouteUsedUp (cond (broken f) BrokenMarks (cond
 unfoldable pub relayAnswer : Address → List ℕ → RelayAnswer
 relayAnswer own s =
     cond (encodable own)
-    (cond (isAccepted (decode s .answer)) (dueAnswer own (decode s .frame)) (Refused (decode s .answer)))
+    (cond (isAccepted (decode Short s .answer)) (dueAnswer own (decode Short s .frame)) (Refused (decode Short s .answer)))
     NotEncodable
 
 -- where the mark of the due place stands: in the seventh octet of its group, which follows destination, source and the repeaters
 -- before it (document 01, rules 2 and 3)
 abbrev pub dueMark : List ℕ → ℕ
-dueMark s = 14 + 7 * duePlace (decode s .frame) + 6
+dueMark s = 14 + 7 * duePlace (decode Short s .frame) + 6
 
 -- an octet or-ed with 80 hex: bit 7 set, the other bits as they were
 abbrev pub orMark : ℕ → ℕ

@@ -2,6 +2,7 @@
 // group of the repeater that is due: the outline tells where the groups stand, and the hop set is read off the octets.
 use address::Address;
 use address::group;
+use content::Mode;
 use decode::DecodeAnswer;
 ghost use mathlib.Core.Path.{_≡_};
 ghost use mathlib.Core.Bool.{true};
@@ -80,9 +81,9 @@ fn set_mark(bytes: &mut [u8], last: usize)
 
 // A frame that decodes, with so many repeaters.
 fn relay_due(own: Address, bytes: &mut [u8], count: usize) -> RelayAnswer
-    requires { ⌜ (isAccepted (decode (now bytes) .answer) ≡ true) × (count ≡ decode (now bytes) .frame .«route_count») ⌝ }
-    ensures { λ r. ⌜ r ≡ dueAnswer own (decode (now (bytes .entry)) .frame) ⌝ }
-    ensures { λ r. ⌜ now (bytes .exit) ≡ leftBy (dueAnswer own (decode (now (bytes .entry)) .frame)) (now (bytes .entry)) ⌝ }
+    requires { ⌜ (isAccepted (decode Mode.Short (now bytes) .answer) ≡ true) × (count ≡ decode Mode.Short (now bytes) .frame .«route_count») ⌝ }
+    ensures { λ r. ⌜ r ≡ dueAnswer own (decode Mode.Short (now (bytes .entry)) .frame) ⌝ }
+    ensures { λ r. ⌜ now (bytes .exit) ≡ leftBy (dueAnswer own (decode Mode.Short (now (bytes .entry)) .frame)) (now (bytes .entry)) ⌝ }
 {
     let set = hop_set_at(bytes, 14, count);
     let due = hops::first_clear(set) as usize;
@@ -108,7 +109,7 @@ pub fn relay(own: Address, bytes: &mut [u8]) -> RelayAnswer
     if !own.is_encodable() {
         return RelayAnswer::NotEncodable;
     }
-    let outline = decode::outline_of(bytes);
+    let outline = decode::outline_of(Mode::Short, bytes);
     let answer = outline.answer;
     let DecodeAnswer::Accepted = answer else {
         return RelayAnswer::Refused(answer);

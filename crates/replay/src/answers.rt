@@ -6,6 +6,9 @@ use crate::words::show_number;
 use address::Address;
 use address::group;
 
+// The list is of the short mode, the Rust's.
+const SHORT: u32 = 0;
+
 // Room and the three octets after it, within the buffers here.
 fn shown(room: usize) -> usize {
     if 512 < room {
@@ -27,8 +30,8 @@ fn show_written(answer: u32, length: usize, lent: &[u8]) {
 // A decoder, by its letter: the one for frames, or the one for old captures.
 fn decode_by(letter: u8, input: &[u8], flat: &mut [u8], places: &mut [usize]) -> u32 {
     match letter {
-        b'D' => probe::probe_decode(input, flat, places),
-        _ => probe::probe_decode_old(input, flat, places),
+        b'D' => probe::probe_decode(SHORT, input, flat, places),
+        _ => probe::probe_decode_old(SHORT, input, flat, places),
     }
 }
 
@@ -56,8 +59,8 @@ fn reencode(input: &[u8]) {
 // A call that writes, by its letter: a frame, content, or an address as text.
 fn write_by(letter: u8, given: &[u8], info: &[u8], out: &mut [u8], length: &mut [usize]) -> u32 {
     match letter {
-        b'W' => probe::probe_encode(given, info, out, length),
-        b'E' => probe::probe_content_encode(given, info, out, length),
+        b'W' => probe::probe_encode(SHORT, given, info, out, length),
+        b'E' => probe::probe_content_encode(SHORT, given, info, out, length),
         _ => probe::probe_print(given, out, length),
     }
 }
@@ -79,7 +82,7 @@ fn write(letter: u8, given: &[u8], info: &[u8], room: usize) {
 // A call that leaves a record, content or an address, by its letter.
 fn leave_by(letter: u8, one: &[u8], other: &[u8], ssid: u8, out: &mut [u8]) -> u32 {
     match letter {
-        b'K' => probe::probe_content(one, out),
+        b'K' => probe::probe_content(SHORT, one, out),
         b'T' => probe::probe_from_str(one, out),
         b'P' => probe::probe_from_parts(one, ssid, out),
         b'A' => probe::probe_again(one, out),

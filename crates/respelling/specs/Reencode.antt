@@ -4,6 +4,7 @@ use mathlib.Core.Bool.{cond}
 use mathlib.Core.List.{List, []}
 use lib.Dec.{ltb}
 use lib.ListN.{length}
+use Rattle.content.specs.declared.Mode.{Mode}
 use Rattle.decode.specs.Answer.{Report, number, isAccepted}
 use Rattle.decode.specs.Answer as decoding
 use Rattle.decode.specs.Read.{decode}
@@ -13,19 +14,19 @@ use Rattle.respelling.specs.declared.ReencodeAnswer.the-variants.{Writte
 use Rattle.respelling.specs.declared.Reencoded.{Reencoded}
 
 -- the octets that are due: those of an accepted input, and none of a refused one
-unfoldable pub due : List ℕ → List ℕ
-due s = cond (isAccepted (decode s .answer)) (again s) []
+unfoldable pub due : Mode → List ℕ → List ℕ
+due m s = cond (isAccepted (decode m s .answer)) (again m s) []
 
-unfoldable pub reencodeAnswer : List ℕ → ℕ → ReencodeAnswer
-reencodeAnswer s room =
-    cond (isAccepted (decode s .answer)) (cond (ltb room (length (due s))) NoRoom Written) (Refused (decode s .answer))
+unfoldable pub reencodeAnswer : Mode → List ℕ → ℕ → ReencodeAnswer
+reencodeAnswer m s room =
+    cond (isAccepted (decode m s .answer)) (cond (ltb room (length (due m s))) NoRoom Written) (Refused (decode m s .answer))
 
 -- the octets that are written: all that are due where there is room, else none
-unfoldable pub reencoded : List ℕ → ℕ → List ℕ
-reencoded s room = cond (ltb room (length (due s))) [] (due s)
+unfoldable pub reencoded : Mode → List ℕ → ℕ → List ℕ
+reencoded m s room = cond (ltb room (length (due m s))) [] (due m s)
 
-unfoldable pub reencode : List ℕ → ℕ → Reencoded
-reencode s room = record { answer = reencodeAnswer s room; length = length (reencoded s room) }
+unfoldable pub reencode : Mode → List ℕ → ℕ → Reencoded
+reencode m s room = record { answer = reencodeAnswer m s room; length = length (reencoded m s room) }
 
 -- decoding's number and details for a refused input, else 24 or 0 (document 01, Numbers)
 abbrev pub reportOf : ReencodeAnswer → Report

@@ -1,6 +1,7 @@
 // Re-encoding: what a frame decoded and written again would be, from the input's octets straight into the output's. No frame is built.
 use address::group;
 use content::FrameContent;
+use content::Mode;
 use decode::DecodeAnswer;
 use decode::Outline;
 use parse::ContentAnswer;
@@ -41,11 +42,11 @@ impl ReencodeAnswer {
 }
 
 // The content of an accepted input, whose control octet is at `control`.
-fn content_at(bytes: &[u8], control: usize) -> FrameContent
-    requires { ⌜ (isAccepted (decode (now bytes) .answer) ≡ true) × (control ≡ endOf (now bytes) + 1) ⌝ }
-    ensures { λ r. ⌜ r ≡ decode (now (bytes .entry)) .frame .content ⌝ }
+fn content_at(mode: Mode, bytes: &[u8], control: usize) -> FrameContent
+    requires { ⌜ (isAccepted (decode mode (now bytes) .answer) ≡ true) × (control ≡ endOf (now bytes) + 1) ⌝ }
+    ensures { λ r. ⌜ r ≡ decode mode (now (bytes .entry)) .frame .content ⌝ }
 {
-    let answer = parse::parse_content(&bytes[control..]);
+    let answer = parse::parse_content(mode, &bytes[control..]);
     // Never met: the content of an accepted input is accepted.
     let ContentAnswer::Accepted(content) = answer else {
         return FrameContent::UnknownContent;
@@ -54,27 +55,27 @@ fn content_at(bytes: &[u8], control: usize) -> FrameContent
 }
 
 // How many of the `rest` octets after the address field are kept.
-fn kept_of(content: FrameContent, rest: usize) -> usize
-    ensures { λ r. ⌜ r ≡ keptOf content rest ⌝ }
+fn kept_of(mode: Mode, content: FrameContent, rest: usize) -> usize
+    ensures { λ r. ⌜ r ≡ keptOf mode content rest ⌝ }
 {
     if content.has_info() {
         return rest;
     }
-    content.front_len()
+    content.front_len(mode)
 }
 
 // How many octets re-encoding gives; 0 where the input is refused.
-pub fn reencoded_length(bytes: &[u8]) -> usize
-    ensures { λ r. ⌜ r ≡ length (due (now (bytes .entry))) ⌝ }
+pub fn reencoded_length(mode: Mode, bytes: &[u8]) -> usize
+    ensures { λ r. ⌜ r ≡ length (due mode (now (bytes .entry))) ⌝ }
 {
-    let outline = decode::outline_of(bytes);
+    let outline = decode::outline_of(mode, bytes);
     let answer = outline.answer;
     let DecodeAnswer::Accepted = answer else {
         return 0;
     };
     let control = outline.end + 1;
-    let content = content_at(bytes, control);
-    14 + 7 * outline.route_count + kept_of(content, bytes.len() - control)
+    let content = content_at(mode, bytes, control);
+    14 + 7 * outline.route_count + kept_of(mode, content, bytes.len() - control)
 }
 
 // The mark of the destination, by the marks that were read; that of the source is the other.
@@ -99,9 +100,9 @@ fn put_route(out: &mut [u8], bytes: &[u8], count: usize)
 }
 
 // The address field of an accepted input: destination, source, repeaters.
-fn put_addresses(out: &mut [u8], bytes: &[u8], count: usize)
-    requires { ⌜ (isAccepted (decode (now bytes) .answer) ≡ true) × (count ≡ decode (now bytes) .frame .«route_count») × (14 + 7 * count ≤ length (now out)) ⌝ }
-    ensures { λ r. ⌜ now (out .exit) ≡ splice (now (out .entry)) 0 (addressField (decode (now (bytes .entry)) .frame)) ⌝ }
+fn put_addresses(mode: Mode, out: &mut [u8], bytes: &[u8], count: usize)
+    requires { ⌜ (isAccepted (decode mode (now bytes) .answer) ≡ true) × (count ≡ decode mode (now bytes) .frame .«route_count») × (14 + 7 * count ≤ length (now out)) ⌝ }
+    ensures { λ r. ⌜ now (out .exit) ≡ splice (now (out .entry)) 0 (addressField (decode mode (now (bytes .entry)) .frame)) ⌝ }
 {
     let to = group::mark_set(bytes[6]);
     let from = group::mark_set(bytes[13]);
@@ -112,25 +113,32 @@ fn put_addresses(out: &mut [u8], bytes: &[u8], count: usize)
 }
 
 // The whole of an accepted input with this outline and content, once there is room.
-fn put_due(out: &mut [u8], bytes: &[u8], outline: Outline, content: FrameContent, kept: usize)
-    requires { ⌜ (isAccepted (decode (now bytes) .answer) ≡ true) × (outline ≡ outlineOf (now bytes)) × (content ≡ decode (now bytes) .frame .content) × (kept ≡ keptOf content (length (now bytes) - (endOf (now bytes) + 1))) × (length (due (now bytes)) ≤ length (now out)) ⌝ }
-    ensures { λ r. ⌜ now (out .exit) ≡ splice (now (out .entry)) 0 (due (now (bytes .entry))) ⌝ }
+fn put_due(
+    mode: Mode,
+    out: &mut [u8],
+    bytes: &[u8],
+    outline: Outline,
+    content: FrameContent,
+    kept: usize,
+)
+    requires { ⌜ (isAccepted (decode mode (now bytes) .answer) ≡ true) × (outline ≡ outlineOf mode (now bytes)) × (content ≡ decode mode (now bytes) .frame .content) × (kept ≡ keptOf mode content (length (now bytes) - (endOf (now bytes) + 1))) × (length (due mode (now bytes)) ≤ length (now out)) ⌝ }
+    ensures { λ r. ⌜ now (out .exit) ≡ splice (now (out .entry)) 0 (due mode (now (bytes .entry))) ⌝ }
 {
     let count = outline.route_count;
-    put_addresses(out, bytes, count);
+    put_addresses(mode, out, bytes, count);
     let control = outline.end + 1;
-    let start = control + content.front_len();
+    let start = control + content.front_len(mode);
     let end = control + kept;
     let at = 14 + 7 * count;
-    content.encode(&bytes[start..end], &mut out[at..]);
+    content.encode(mode, &bytes[start..end], &mut out[at..]);
 }
 
 // The frame decoded and written again. Not for forwarding: what re-encoding changes is listed in README.md.
-pub fn reencode(bytes: &[u8], out: &mut [u8]) -> Reencoded
-    ensures { λ r. ⌜ r ≡ reencode (now (bytes .entry)) (length (now (out .entry))) ⌝ }
-    ensures { λ r. ⌜ now (out .exit) ≡ splice (now (out .entry)) 0 (reencoded (now (bytes .entry)) (length (now (out .entry)))) ⌝ }
+pub fn reencode(mode: Mode, bytes: &[u8], out: &mut [u8]) -> Reencoded
+    ensures { λ r. ⌜ r ≡ reencode mode (now (bytes .entry)) (length (now (out .entry))) ⌝ }
+    ensures { λ r. ⌜ now (out .exit) ≡ splice (now (out .entry)) 0 (reencoded mode (now (bytes .entry)) (length (now (out .entry)))) ⌝ }
 {
-    let outline = decode::outline_of(bytes);
+    let outline = decode::outline_of(mode, bytes);
     let answer = outline.answer;
     let DecodeAnswer::Accepted = answer else {
         return Reencoded {
@@ -139,8 +147,8 @@ pub fn reencode(bytes: &[u8], out: &mut [u8]) -> Reencoded
         };
     };
     let control = outline.end + 1;
-    let content = content_at(bytes, control);
-    let kept = kept_of(content, bytes.len() - control);
+    let content = content_at(mode, bytes, control);
+    let kept = kept_of(mode, content, bytes.len() - control);
     let length = 14 + 7 * outline.route_count + kept;
     if out.len() < length {
         return Reencoded {
@@ -148,7 +156,7 @@ pub fn reencode(bytes: &[u8], out: &mut [u8]) -> Reencoded
             length: 0,
         };
     }
-    put_due(out, bytes, outline, content, kept);
+    put_due(mode, out, bytes, outline, content, kept);
     Reencoded {
         answer: ReencodeAnswer::Written,
         length,

@@ -1,4 +1,5 @@
 // One spelling: the canonical check.
+use content::Mode;
 use decode::DecodeAnswer;
 ghost use mathlib.Core.Path.{_≡_};
 ghost use Prim.Native.Nat.{_+_, _*_, _≤_, _<_};
@@ -16,9 +17,9 @@ fn is_marked(to: bool, from: bool) -> bool
 }
 
 // A direct look at an input that decodes with this count.
-fn is_direct(bytes: &[u8], count: usize) -> bool
+fn is_direct(mode: Mode, bytes: &[u8], count: usize) -> bool
     requires { ⌜ (count ≤ 8) × (14 + 7 * count < length (now bytes)) ⌝ }
-    ensures { λ r. ⌜ r ≡ direct (now (bytes .entry)) count ⌝ }
+    ensures { λ r. ⌜ r ≡ direct mode (now (bytes .entry)) count ⌝ }
 {
     let end = 13 + 7 * count;
     let low = bytes[end] & 0x01;
@@ -31,17 +32,17 @@ fn is_direct(bytes: &[u8], count: usize) -> bool
         return false;
     }
     let control = 14 + 7 * count;
-    content_as_written::is_as_written(&bytes[control..])
+    content_as_written::is_as_written(mode, &bytes[control..])
 }
 
 // Whether the octets are the one spelling of a frame.
-pub fn is_canonical(bytes: &[u8]) -> bool
-    ensures { λ r. ⌜ r ≡ canonical (now (bytes .entry)) ⌝ }
+pub fn is_canonical(mode: Mode, bytes: &[u8]) -> bool
+    ensures { λ r. ⌜ r ≡ canonical mode (now (bytes .entry)) ⌝ }
 {
-    let outline = decode::outline_of(bytes);
+    let outline = decode::outline_of(mode, bytes);
     let answer = outline.answer;
     let DecodeAnswer::Accepted = answer else {
         return false;
     };
-    is_direct(bytes, outline.route_count)
+    is_direct(mode, bytes, outline.route_count)
 }

@@ -16,8 +16,8 @@ use Rattle.decode.proofs.outline_field.Tie as tie
 -- past the tests the content decides
 past : (c : tie.After-content-answer) →
     let a = c .before .before .before .before .before .args in
-    decodeField (a .bytes .now) 0 (a .end)
-    ≡ withContent (a .bytes .now) 0 ((a .end + 1 - 14) / 7) (a .end + 1) (contentOf (drop (a .end + 1) (a .bytes .now)))
+    decodeField (a .mode) (a .bytes .now) 0 (a .end)
+    ≡ withContent (a .mode) (a .bytes .now) 0 ((a .end + 1 - 14) / 7) (a .end + 1) (contentOf (a .mode) (drop (a .end + 1) (a .bytes .now)))
 unfolding decodeField
 past c =
     let b = c .before in
@@ -63,13 +63,13 @@ returns-4 c =
     let r = c .before .before in
     let e = r .content-answer .ensures in
     let h = rw e at (told-refused (r .content-answer .result) (c .before .match .keys2)) in
-    c .refused-outline4 .ensures ∙ rw (e, past r) (outline-refused _ _ h ∙ ap (outlineBy _) (refused-content _ _ _ _ _ h))
+    c .refused-outline4 .ensures ∙ rw (e, past r) (outline-refused _ _ h ∙ ap (outlineBy _) (refused-content _ _ _ _ _ _ h))
 
 returns-5 : tie.Need-returns-5
 returns-5 c =
     let r = c .before .before in
     let e = r .content-answer .ensures in
-    rw (c .enum-told .given .1, past r) (accepted-content _ _ _ _ _ _ (rw (← e, c .enum-told .given .1) refl))
+    rw (c .enum-told .given .1, past r) (accepted-content _ _ _ _ _ _ _ (rw (← e, c .enum-told .given .1) refl))
 
 pub outline-field-spec : {M : Type 1} → statement M
 outline-field-spec =

@@ -30,7 +30,7 @@ returns : tie.Need-returns
 returns c =
     let n = c .before in
     let i = n .before in
-    c .refused-outline .ensures ∙ rw (n .null-answer .ensures) (null-outline _ (sym (i .before .starts .ensures) ∙ not-true _ (i .if1 .taken)))
+    c .refused-outline .ensures ∙ rw (n .null-answer .ensures) (null-outline _ _ (sym (i .before .starts .ensures) ∙ not-true _ (i .if1 .taken)))
 
 find-requires : tie.Need-find-requires
 find-requires c κs = search needs
@@ -42,7 +42,7 @@ returns-2 : tie.Need-returns-2
 unfolding refusedWith
 returns-2 c =
     let f = c .before .before in
-    c .refused-outline2 .ensures ∙ rw (first-decode _ (first (f .before)), ← end f, eq-eqb _ _ (c .before .if2 .taken)) refl
+    c .refused-outline2 .ensures ∙ rw (first-decode _ _ (first (f .before)), ← end f, eq-eqb _ _ (c .before .if2 .taken)) refl
 
 outline-field-requires : tie.Need-outline-field-requires
 outline-field-requires c κs = omega (arith, c .before .find .ensures .1, c .if2 .left)
@@ -50,7 +50,7 @@ outline-field-requires c κs = omega (arith, c .before .find .ensures .1, c .if2
 returns-3 : tie.Need-returns-3
 returns-3 c =
     let f = c .before .before in
-    c .outline-field .ensures ∙ rw (first-decode _ (first (f .before)), ← end f, ne-eqb _ _ (c .before .if2 .left)) refl
+    c .outline-field .ensures ∙ rw (first-decode _ _ (first (f .before)), ← end f, ne-eqb _ _ (c .before .if2 .left)) refl
 
 pub outline-of-spec : {M : Type 1} → statement M
 outline-of-spec =

@@ -20,16 +20,20 @@ returns-5 : tie.Need-returns-5
 returns-5 c = simp (c .match .keys5)
 
 returns-6 : tie.Need-returns-6
-returns-6 c =
+returns-6 c = simp (c .match .keys6)
+
+returns-7 : tie.Need-returns-7
+returns-7 c =
     let n : ℕ = c .before .args .number in
     let rest = c .match .rest in
     simp (
-      ne-eqb n 0 (rest .0 .0 .0 .0 .1),
-      ne-eqb n 5 (rest .0 .0 .0 .1),
-      ne-eqb n 6 (rest .0 .0 .1),
-      ne-eqb n 7 (rest .0 .1),
-      ne-eqb n 8 (rest .1),
+      ne-eqb n 0 (rest .0 .0 .0 .0 .0 .1),
+      ne-eqb n 5 (rest .0 .0 .0 .0 .1),
+      ne-eqb n 7 (rest .0 .0 .0 .1),
+      ne-eqb n 8 (rest .0 .0 .1),
+      ne-eqb n 11 (rest .0 .1),
+      ne-eqb n 12 (rest .1),
     )
 
 pub refusal-spec : {M : Type 1} → statement M
-refusal-spec = tie.close (tie.spec returns returns-2 returns-3 returns-4 returns-5 returns-6)
+refusal-spec = tie.close (tie.spec returns returns-2 returns-3 returns-4 returns-5 returns-6 returns-7)

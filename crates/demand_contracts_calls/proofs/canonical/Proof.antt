@@ -17,7 +17,7 @@ ax25-canonical-requires : tie.Need-ax25-canonical-requires
 ax25-canonical-requires c κs = search needs
 
 returns : tie.Need-returns
-returns c = rw (c .ax25-canonical .ensures) (flag _ (one-spelling _ (λ k. c .before .shared-slice-known .given k .fits) .exact))
+returns c = rw (c .ax25-canonical .ensures) (flag _ (one-spelling _ _ (λ k. c .before .shared-slice-known .given k .fits) .exact))
 
 pub canonical-spec : {M : Type 1} → statement M
 canonical-spec = tie.close (tie.spec ax25-canonical-requires returns)

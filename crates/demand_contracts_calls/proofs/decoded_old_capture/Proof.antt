@@ -14,7 +14,7 @@ ax25-decode-old-capture-requires c κs = search needs
 returns : tie.Need-returns
 returns c =
     let e = c .ax25-decode-old-capture .ensures in
-    let o = old-capture _ in
+    let o = old-capture _ _ in
     let n : Decoded → ℕ = λ d. numberOf (d .answer) in
     (e ∙ ap n (o .before), (λ h. e ∙ ap n (o .same h), λ h. o .never (sym e ∙ h)))
 

@@ -1,5 +1,6 @@
 -- The call's number and buffer are the definition's, of which the demands are proved.
 use mathlib.Core.Path.{_≡_, refl, ap, _∙_}
+use Rattle.content.specs.declared.Mode.the-variants.{Short}
 use Rattle.respelling.specs.Reencode.{reportOf}
 use Rattle.respelling.specs.declared.Reencoded.{Reencoded}
 use Rattle.demands.proofs.Numbers.{decoding}
@@ -25,12 +26,12 @@ returns c =
     let a = k .before .args in
     let s = a .input .now in
     let out = a .output .now in (
-      λ e. let x = respelled-refused s out e in (rw (w .ensures .0 ∙ number (x .0)) (decoding s _ .0 refl), w .ensures .1 ∙ x .1),
+      λ e. let x = respelled-refused Short s out e in (rw (w .ensures .0 ∙ number (x .0)) (decoding Short s _ .0 refl), w .ensures .1 ∙ x .1),
       (
-        λ e h. let x = respelled-short s out e h in (w .ensures .0 ∙ number (x .0), w .ensures .1 ∙ x .1),
+        λ e h. let x = respelled-short Short s out e h in (w .ensures .0 ∙ number (x .0), w .ensures .1 ∙ x .1),
         (
-          λ e h. let x = respelled-into s out e h in (w .ensures .0 ∙ number (x .0), w .ensures .1 ∙ x .1),
-          λ e. one-spelling s (λ j. k .shared-slice-known .given j .fits) .respelled e,
+          λ e h. let x = respelled-into Short s out e h in (w .ensures .0 ∙ number (x .0), w .ensures .1 ∙ x .1),
+          λ e. one-spelling Short s (λ j. k .shared-slice-known .given j .fits) .respelled e,
         ),
       ),
     )

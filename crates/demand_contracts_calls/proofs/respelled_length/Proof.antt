@@ -10,7 +10,7 @@ ax25-reencoded-length-requires : tie.Need-ax25-reencoded-length-requires
 ax25-reencoded-length-requires c κs = search needs
 
 returns : tie.Need-returns
-returns c = rw (c .ax25-reencoded-length .ensures) ((λ e. ap length (due-refused _ e)), (λ e. ap length (due-again _ e)))
+returns c = rw (c .ax25-reencoded-length .ensures) ((λ e. ap length (due-refused _ _ e)), (λ e. ap length (due-again _ _ e)))
 
 pub respelled-length-spec : {M : Type 1} → statement M
 respelled-length-spec = tie.close (tie.spec ax25-reencoded-length-requires returns)

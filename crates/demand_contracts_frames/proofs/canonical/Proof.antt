@@ -8,7 +8,7 @@ is-canonical-requires : tie.Need-is-canonical-requires
 is-canonical-requires c κs = search needs
 
 returns : tie.Need-returns
-returns c = rw (c .is-canonical .ensures) (one-spelling _ (λ k. c .before .shared-slice-known .given k .fits) .exact)
+returns c = rw (c .is-canonical .ensures) (one-spelling _ _ (λ k. c .before .shared-slice-known .given k .fits) .exact)
 
 pub canonical-spec : {M : Type 1} → statement M
 canonical-spec = tie.close (tie.spec is-canonical-requires returns)

@@ -25,7 +25,7 @@ returns c =
     let read-other = c .from-bytes2 .ensures in
     let k = c .before .before .before .before in (
       rw (read, check-other, read-other)
-          (λ yes. nothing-unseen _ _ (λ j. k .before .shared-slice-known .given j .fits) (λ j. k .shared-slice-known2 .given j .fits) (sym check ∙ yes)),
+          (λ yes. nothing-unseen _ _ _ (λ j. k .before .shared-slice-known .given j .fits) (λ j. k .shared-slice-known2 .given j .fits) (sym check ∙ yes)),
       (check, read, check-other, read-other),
     )
 

@@ -12,7 +12,7 @@ from-bytes-requires : tie.Need-from-bytes-requires
 from-bytes-requires c κs = search needs
 
 returns : tie.Need-returns
-returns c = rw (c .from-bytes .ensures) (decoding _ _ .0 refl, (decode-report _, ((λ e. refused-parts _ e), ((λ u. decoded-known _ u), ((λ e. reserved-read _ e), refl)))))
+returns c = rw (c .from-bytes .ensures) (decoding _ _ _ .0 refl, (decode-report _ _, ((λ e. refused-parts _ _ e), ((λ u. decoded-known _ _ u), ((λ e. reserved-read _ _ e), refl)))))
 
 pub decoded-spec : {M : Type 1} → statement M
 decoded-spec = tie.close (tie.spec from-bytes-requires returns)

@@ -9,7 +9,7 @@ from-bytes-requires : tie.Need-from-bytes-requires
 from-bytes-requires c κs = search needs
 
 returns : tie.Need-returns
-returns c = subst (OldCapture _) (sym (c .from-bytes .ensures)) (old-capture _)
+returns c = subst (OldCapture _ _) (sym (c .from-bytes .ensures)) (old-capture _ _)
 
 pub old-capture-spec : {M : Type 1} → statement M
 old-capture-spec = tie.close (tie.spec from-bytes-requires returns)

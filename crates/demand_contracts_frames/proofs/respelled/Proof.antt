@@ -23,14 +23,15 @@ returns c =
     let w = c .before .before .reencode in
     let k = c .before .before .before .before .before in
     let a = k .before .args in
+    let m = a .mode in
     let s = a .bytes .now in
     let out = a .out .now in (
-      λ e. let x = respelled-refused s out e in given (w .ensures .0 ∙ x .0) (w .ensures .1 ∙ x .1),
+      λ e. let x = respelled-refused m s out e in given (w .ensures .0 ∙ x .0) (w .ensures .1 ∙ x .1),
       (
-        λ e h. let x = respelled-short s out e h in given (w .ensures .0 ∙ x .0) (w .ensures .1 ∙ x .1),
+        λ e h. let x = respelled-short m s out e h in given (w .ensures .0 ∙ x .0) (w .ensures .1 ∙ x .1),
         (
-          λ e h. let x = respelled-into s out e h in given (w .ensures .0 ∙ x .0) (w .ensures .1 ∙ x .1),
-          λ e. one-spelling s (λ j. k .shared-slice-known .given j .fits) .respelled e,
+          λ e h. let x = respelled-into m s out e h in given (w .ensures .0 ∙ x .0) (w .ensures .1 ∙ x .1),
+          λ e. one-spelling m s (λ j. k .shared-slice-known .given j .fits) .respelled e,
         ),
       ),
     )

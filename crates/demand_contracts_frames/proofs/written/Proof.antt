@@ -19,14 +19,14 @@ returns c =
     let w = c .before .before .to-bytes in
     let a = c .before .before .before .before .before .before .args in
     let room = length (a .out .now) in
-    let e = ap (λ (x : Written). x .answer) (w .ensures .0 ∙ written-is (a .frame) (a .info .now) room) in (
-      rw e (writing (a .frame) (a .info .now) room _ .0 refl),
+    let e = ap (λ (x : Written). x .answer) (w .ensures .0 ∙ written-is (a .mode) (a .frame) (a .info .now) room) in (
+      rw e (writing (a .mode) (a .frame) (a .info .now) room _ .0 refl),
       (
         λ n.
-            let r = refused-write (a .frame) (a .info .now) room (λ q. n (rw e q)) in
+            let r = refused-write (a .mode) (a .frame) (a .info .now) room (λ q. n (rw e q)) in
             (ap (λ (x : Written). x .length) (w .ensures .0) ∙ r .0, w .ensures .1 ∙ r .1 (a .out .now)),
         λ n.
-            let r = accepted-write (a .frame) (a .info .now) (a .out .now) (rw e at n) in
+            let r = accepted-write (a .mode) (a .frame) (a .info .now) (a .out .now) (rw e at n) in
             (ap (λ (x : Written). x .length) (w .ensures .0) ∙ r .0, w .ensures .1 ∙ r .1),
       ),
     )

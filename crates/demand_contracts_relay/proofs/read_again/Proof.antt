@@ -1,5 +1,6 @@
 -- What is decoded is what was relayed.
 use mathlib.Core.Path.{refl, ap}
+use Rattle.content.specs.declared.Mode.the-variants.{Short}
 use Rattle.decode.specs.Read.{decode}
 use Rattle.demands.proofs.Relay.{refused-relay, relayed-is}
 use borrow.Author.Needs.{needs}
@@ -23,7 +24,7 @@ returns c =
     let s = a .frame .now in
     rw (c .from-bytes .ensures, left) (
       (λ z. let t = relayed-is (a .own) s z (λ j. k .slice-known .given j .fits) in (t .answer, t .frame, t .info)),
-      ((λ n. ap decode (refused-relay (a .own) s n)), (refl, refl)),
+      ((λ n. ap (decode Short) (refused-relay (a .own) s n)), (refl, refl)),
     )
 
 pub read-again-spec : {M : Type 1} → statement M

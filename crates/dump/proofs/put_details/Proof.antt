@@ -68,6 +68,9 @@ enum-told-8 c = search needs
 enum-told-9 : tie.Need-enum-told-9
 enum-told-9 c = search needs
 
+enum-told-10 : tie.Need-enum-told-10
+enum-told-10 c = search needs
+
 returns : tie.Need-returns
 returns c = rw (c .enum-told .given .1) (put-none _ _)
 
@@ -114,6 +117,9 @@ returns-10 c = rw (c .enum-told8 .given .1) (put-none _ _)
 returns-11 : tie.Need-returns-11
 returns-11 c = rw (c .enum-told9 .given .1) (put-none _ _)
 
+returns-12 : tie.Need-returns-12
+returns-12 c = rw (c .enum-told10 .given .1) (put-none _ _)
+
 pub put-details-spec : {M : Type 1} → statement M
 put-details-spec =
     tie.close
@@ -135,6 +141,7 @@ put-details-spec =
     enum-told-7
     enum-told-8
     enum-told-9
+    enum-told-10
     returns
     returns-2
     returns-3
@@ -147,4 +154,5 @@ put-details-spec =
     returns-8
     returns-9
     returns-10
-    returns-11)
+    returns-11
+    returns-12)

@@ -4,6 +4,7 @@ use native.Mathlib.Omega.{arith}
 use mathlib.Core.List.{List}
 use borrow.Author.Tests.{lt-ltb, le-ltb}
 use lib.ListN.{length}
+use Rattle.content.specs.declared.Mode.the-variants.{Short}
 use Rattle.decode.specs.Read.{decode}
 use Rattle.grammar.proofs.Plain.{inside}
 use Rattle.spelling.specs.Canonical.{canonical}
@@ -18,7 +19,7 @@ over : (s : List ℕ) → 4096 < length s → dumpText s ≡ line "answer=" (dec
 unfolding dumpText
 over s h = rw (lt-ltb 4096 (length s) h) refl
 
-within : (s : List ℕ) → length s ≤ 4096 → dumpText s ≡ decodedText (decode s) (canonical s)
+within : (s : List ℕ) → length s ≤ 4096 → dumpText s ≡ decodedText (decode Short s) (canonical Short s)
 unfolding dumpText
 within s h = rw (le-ltb 4096 (length s) h) refl
 
@@ -49,7 +50,7 @@ put-decoded-requires c κs =
     let p = c .before .before .before .before .before .before .pre in
     let g = c .before .before .before .before .before .before .args in
     rw (c .before .before .from-bytes .ensures)
-    ((λ e. inside (g .input .now) e .few), omega (arith, decoded-short (g .input .now) (λ k. shared-slice-known .given k .fits) (c .before .is-canonical .result), p))
+    ((λ e. inside Short (g .input .now) e .few), omega (arith, decoded-short (g .input .now) (λ k. shared-slice-known .given k .fits) (c .before .is-canonical .result), p))
 
 same-length-2 : tie.Need-same-length-2
 same-length-2 c = search needs

@@ -14,8 +14,8 @@ nulls : (c : tie.After-find) → c .find .result ≡ startOf (c .before .before 
 nulls c = c .find .ensures .0 ∙ start-masked _ (λ k. c .before .shared-slice-known .given k .fits)
 
 answered : (c : tie.After-outline-of) →
-    let s = c .before .before .before .before .args .capture .now in
-    c .outline-of .result .answer ≡ decode (drop (startOf s) s) .answer
+    let a = c .before .before .before .before .args in
+    c .outline-of .result .answer ≡ decode (a .mode) (drop (startOf (a .capture .now)) (a .capture .now)) .answer
 answered c = ap (λ (o : Outline). o .answer) (c .outline-of .ensures) ∙ rw (part-from, nulls (c .before .before)) refl
 
 find-requires : tie.Need-find-requires
@@ -34,12 +34,12 @@ outline-of-requires : tie.Need-outline-of-requires
 outline-of-requires c κs = search needs
 
 moved-answer-requires : tie.Need-moved-answer-requires
-moved-answer-requires c κs = rw (answered c, nulls (c .before .before)) (places-inside _)
+moved-answer-requires c κs = rw (answered c, nulls (c .before .before)) (places-inside _ _)
 
 returns : tie.Need-returns
 returns c =
     let o = c .before in
-    c .moved-answer .ensures ∙ rw (answered o, nulls (o .before .before)) (old-answer _)
+    c .moved-answer .ensures ∙ rw (answered o, nulls (o .before .before)) (old-answer _ _)
 
 pub answer-of-spec : {M : Type 1} → statement M
 answer-of-spec =

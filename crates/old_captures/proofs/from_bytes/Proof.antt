@@ -14,8 +14,8 @@ nulls : (c : tie.After-find) → c .find .result ≡ startOf (c .before .before 
 nulls c = c .find .ensures .0 ∙ start-masked _ (λ k. c .before .shared-slice-known .given k .fits)
 
 decoded : (c : tie.After-from-bytes) →
-    let s = c .before .before .before .before .args .capture .now in
-    c .from-bytes .result ≡ decode (drop (startOf s) s)
+    let a = c .before .before .before .before .args in
+    c .from-bytes .result ≡ decode (a .mode) (drop (startOf (a .capture .now)) (a .capture .now))
 decoded c = c .from-bytes .ensures ∙ rw (part-from, nulls (c .before .before)) refl
 
 find-requires : tie.Need-find-requires
@@ -34,19 +34,19 @@ from-bytes-requires : tie.Need-from-bytes-requires
 from-bytes-requires c κs = search needs
 
 moved-answer-requires : tie.Need-moved-answer-requires
-moved-answer-requires c κs = rw (decoded c, nulls (c .before .before)) (places-inside _)
+moved-answer-requires c κs = rw (decoded c, nulls (c .before .before)) (places-inside _ _)
 
 moved-info-requires : tie.Need-moved-info-requires
 moved-info-requires c κs =
     let d = c .before in
     let k = d .before .before .before .before in
-    rw (decoded d, nulls (d .before .before)) (omega (arith, info-inside (k .args .capture .now)))
+    rw (decoded d, nulls (d .before .before)) (omega (arith, info-inside (k .args .mode) (k .args .capture .now)))
 
 returns : tie.Need-returns
 returns c =
     let i = c .before in
     let d = i .before .before in
-    rw (i .before .moved-answer .ensures, i .moved-info .ensures, decoded d, nulls (d .before .before)) (old-whole _)
+    rw (i .before .moved-answer .ensures, i .moved-info .ensures, decoded d, nulls (d .before .before)) (old-whole _ _)
 
 pub from-bytes-spec : {M : Type 1} → statement M
 from-bytes-spec =

@@ -6,7 +6,6 @@ use lib.ListN.{getD}
 use Rattle.octets.specs.Octet.{field}
 use Rattle.octets.proofs.Bits.{low-mask}
 use Rattle.parse.specs.Content.{contentOf}
-use Rattle.parse.proofs.Numbers.{pid-i}
 use borrow.Author.Needs.{needs}
 use Rattle.parse.proofs.number_of.Statement.{statement}
 use Rattle.parse.proofs.number_of.Tie as tie
@@ -18,14 +17,14 @@ returns c = simp (eq-eqb _ _ (c .if1 .taken))
 shared-slice-read-c : tie.Need-shared-slice-read-c
 shared-slice-read-c c = search needs
 
-pid-number-requires : tie.Need-pid-number-requires
-pid-number-requires c κs = search needs
+i-number-requires : tie.Need-i-number-requires
+i-number-requires c κs = search needs
 
 returns-2 : tie.Need-returns-2
 unfolding contentOf
 returns-2 c =
     let n : ℕ = getD (c .before .before .before .before .before .args .bytes .now) 0 0 in
-    simp (ne-eqb _ _ (c .before .before .before .if1 .left), sym (low-mask n 1) ∙ c .before .if2 .taken, c .pid-number .ensures, pid-i)
+    simp (ne-eqb _ _ (c .before .before .before .if1 .left), sym (low-mask n 1) ∙ c .before .if2 .taken, c .i-number .ensures)
 
 s-number-requires : tie.Need-s-number-requires
 s-number-requires c κs = search needs
@@ -61,7 +60,7 @@ number-of-spec =
     (tie.spec
     returns
     shared-slice-read-c
-    pid-number-requires
+    i-number-requires
     returns-2
     s-number-requires
     returns-3

@@ -1,30 +1,34 @@
--- `parse_i_frame` gives the PID of the second octet and the fields of the first, once there are two.
+-- By the mode.
+use mathlib.Core.Path.{refl}
 use borrow.Author.Needs.{needs}
-use borrow.Author.Tests.{lt-ltb, le-ltb}
-use Rattle.parse.specs.Content.{iOf}
-use Rattle.content.proofs.Masks.{receive-mask, send-mask, poll-mask}
 use Rattle.parse.proofs.parse_i_frame.Statement.{statement}
 use Rattle.parse.proofs.parse_i_frame.Tie as tie
 
+enum-told : tie.Need-enum-told
+enum-told c = search needs
+
+parse-short-i-frame-requires : tie.Need-parse-short-i-frame-requires
+parse-short-i-frame-requires c κs = search needs
+
+enum-told-2 : tie.Need-enum-told-2
+enum-told-2 c = search needs
+
+parse-long-i-frame-requires : tie.Need-parse-long-i-frame-requires
+parse-long-i-frame-requires c κs = search needs
+
 returns : tie.Need-returns
-unfolding iOf
-returns c = simp (lt-ltb _ _ (c .if1 .taken))
-
-shared-slice-read-c : tie.Need-shared-slice-read-c
-shared-slice-read-c c = search needs
-
-shared-slice-read-from-byte : tie.Need-shared-slice-read-from-byte
-shared-slice-read-from-byte c = search needs
-
-from-byte-requires : tie.Need-from-byte-requires
-from-byte-requires c κs = search needs
+returns c = rw (c .parse-short-i-frame .ensures, c .before .enum-told .given .1) refl
 
 returns-2 : tie.Need-returns-2
-unfolding iOf
-returns-2 c =
-    simp (le-ltb _ _ (c .before .before .before .if1 .left), c .from-byte .ensures, receive-mask, send-mask, poll-mask)
+returns-2 c = rw (c .parse-long-i-frame .ensures, c .before .enum-told2 .given .1) refl
 
 pub parse-i-frame-spec : {M : Type 1} → statement M
 parse-i-frame-spec =
     tie.close
-    (tie.spec returns shared-slice-read-c shared-slice-read-from-byte from-byte-requires returns-2)
+    (tie.spec
+    enum-told
+    parse-short-i-frame-requires
+    enum-told-2
+    parse-long-i-frame-requires
+    returns
+    returns-2)

@@ -1,35 +1,28 @@
--- By the low four bits.
-use mathlib.Core.Path.{sym, _∙_}
-use Prim.Native.Nat.{ℕ}
-use borrow.Author.Tests.{ne-eqb}
-use Rattle.content.specs.Control.{sKind}
-use Rattle.content.proofs.Masks.{s-mask}
+-- By the mode, and in the long one by the length.
+use mathlib.Core.Path.{refl, sym}
 use Rattle.parse.specs.Content.{sOf}
+use Rattle.parse.proofs.Numbers.{long-s}
+use borrow.Author.Needs.{needs}
 use Rattle.parse.proofs.s_number.Statement.{statement}
 use Rattle.parse.proofs.s_number.Tie as tie
 
+enum-told : tie.Need-enum-told
+enum-told c = search needs
+
+enum-told-2 : tie.Need-enum-told-2
+enum-told-2 c = search needs
+
+control-number-requires : tie.Need-control-number-requires
+control-number-requires c κs = search needs
+
 returns : tie.Need-returns
 unfolding sOf
-returns c = simp (sym (s-mask (c .before .args .c)) ∙ c .match .keys1)
+returns c = rw (c .enum-told .given .1) refl
 
 returns-2 : tie.Need-returns-2
-unfolding sOf
-returns-2 c = simp (sym (s-mask (c .before .args .c)) ∙ c .match .keys2)
-
-returns-3 : tie.Need-returns-3
-unfolding sOf
-returns-3 c = simp (sym (s-mask (c .before .args .c)) ∙ c .match .keys3)
-
-returns-4 : tie.Need-returns-4
-unfolding sOf
-returns-4 c =
-    let n : ℕ = c .before .args .c in
-    let rest = c .match .rest in
-    simp (
-      ne-eqb (sKind n) 0x01 (λ e. rest .0 .0 .1 (s-mask n ∙ e)),
-      ne-eqb (sKind n) 0x05 (λ e. rest .0 .1 (s-mask n ∙ e)),
-      ne-eqb (sKind n) 0x09 (λ e. rest .1 (s-mask n ∙ e)),
-    )
+returns-2 c =
+    rw (c .control-number .ensures, c .before .enum-told2 .given .1) (sym (long-s (c .before .before .before .before .args .bytes .now)))
 
 pub s-number-spec : {M : Type 1} → statement M
-s-number-spec = tie.close (tie.spec returns returns-2 returns-3 returns-4)
+s-number-spec =
+    tie.close (tie.spec enum-told enum-told-2 control-number-requires returns returns-2)

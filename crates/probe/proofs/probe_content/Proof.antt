@@ -8,6 +8,9 @@ use Rattle.probe.proofs.probe_content.Tie as tie
 returns : tie.Need-returns
 returns c = rw (lt-ltb _ _ (c .if1 .taken)) (refl, refl)
 
+of-number-requires : tie.Need-of-number-requires
+of-number-requires c κs = search needs
+
 parse-content-requires : tie.Need-parse-content-requires
 parse-content-requires c κs = search needs
 
@@ -24,9 +27,9 @@ returns-2 : tie.Need-returns-2
 returns-2 c =
     let p = c .before .before .before in
     let d = p .before .before in
-    rw (le-ltb _ _ (d .before .if1 .left)) (
-      rw (c .number .ensures, d .parse-content .ensures) refl,
-      p .put-read .ensures ∙ rw (d .parse-content .ensures) refl,
+    rw (le-ltb _ _ (d .before .before .if1 .left)) (
+      rw (c .number .ensures, d .parse-content .ensures, d .before .of-number .ensures) refl,
+      p .put-read .ensures ∙ rw (d .parse-content .ensures, d .before .of-number .ensures) refl,
     )
 
 pub probe-content-spec : {M : Type 1} → statement M
@@ -34,6 +37,7 @@ probe-content-spec =
     tie.close
     (tie.spec
     returns
+    of-number-requires
     parse-content-requires
     put-read-requires
     number-requires

@@ -1,6 +1,10 @@
+-- What was decoded, put where it is lent.
 use borrow.Author.Needs.{needs}
 use Rattle.probe.proofs.probe_decode_old.Statement.{statement}
 use Rattle.probe.proofs.probe_decode_old.Tie as tie
+
+of-number-requires : tie.Need-of-number-requires
+of-number-requires c κs = search needs
 
 from-bytes-requires : tie.Need-from-bytes-requires
 from-bytes-requires c κs = search needs
@@ -17,8 +21,16 @@ same-length-2 c = search needs
 returns : tie.Need-returns
 returns c =
     let p = c .before .before .before .before in
-    rw (← p .before .before .before .from-bytes .ensures) (p .put-decoded .ensures)
+    let d = p .before .before .before in
+    rw (← d .before .of-number .ensures, ← d .from-bytes .ensures) (p .put-decoded .ensures)
 
 pub probe-decode-old-spec : {M : Type 1} → statement M
 probe-decode-old-spec =
-    tie.close (tie.spec from-bytes-requires put-decoded-requires same-length same-length-2 returns)
+    tie.close
+    (tie.spec
+    of-number-requires
+    from-bytes-requires
+    put-decoded-requires
+    same-length
+    same-length-2
+    returns)

@@ -2,8 +2,8 @@
 use mathlib.Core.Path.{refl, sym, _∙_}
 use native.Mathlib.Omega.{arith}
 use borrow.Author.Tests.{lt-ltb, le-ltb}
-use borrow.Author.Needs.{needs}
 use Rattle.octets.proofs.Splice.{splice-one}
+use borrow.Author.Needs.{needs}
 use Rattle.probe.proofs.probe_encode.Statement.{statement}
 use Rattle.probe.proofs.probe_encode.Tie as tie
 
@@ -12,6 +12,9 @@ returns c = rw (lt-ltb _ _ (c .if1 .taken)) (refl, (refl, refl))
 
 frame-from-requires : tie.Need-frame-from-requires
 frame-from-requires c κs = search needs
+
+of-number-requires : tie.Need-of-number-requires
+of-number-requires c κs = search needs
 
 to-bytes-requires : tie.Need-to-bytes-requires
 to-bytes-requires c κs = search needs
@@ -31,13 +34,14 @@ same-length-2 c = search needs
 returns-2 : tie.Need-returns-2
 returns-2 c =
     let w = c .before .before .before in
-    let g = w .before .before in
+    let n = w .before .before in
+    let g = n .before in
     let a = g .before .before .before .before .before .before .args in
     rw (le-ltb _ _ (g .before .if1 .left)) (
-      rw (c .number .ensures, w .to-bytes .ensures .0, g .frame-from .ensures) refl,
+      rw (c .number .ensures, w .to-bytes .ensures .0, n .of-number .ensures, g .frame-from .ensures) refl,
       (
-        w .to-bytes .ensures .1 ∙ rw (g .frame-from .ensures) refl,
-        rw (w .to-bytes .ensures .0, g .frame-from .ensures) (sym (splice-one (a .len .now) 0 _ (omega arith))),
+        w .to-bytes .ensures .1 ∙ rw (n .of-number .ensures, g .frame-from .ensures) refl,
+        rw (w .to-bytes .ensures .0, n .of-number .ensures, g .frame-from .ensures) (sym (splice-one (a .len .now) 0 _ (omega arith))),
       ),
     )
 
@@ -47,6 +51,7 @@ probe-encode-spec =
     (tie.spec
     returns
     frame-from-requires
+    of-number-requires
     to-bytes-requires
     slice-write-len
     number-requires

@@ -26,6 +26,9 @@ enum-told-4 c = search needs
 enum-told-5 : tie.Need-enum-told-5
 enum-told-5 c = search needs
 
+enum-told-6 : tie.Need-enum-told-6
+enum-told-6 c = search needs
+
 same-length : tie.Need-same-length
 same-length c = search needs
 
@@ -49,6 +52,9 @@ returns-5 c = rw (c .enum-told4 .given .1) (sym (splice-none _ _))
 returns-6 : tie.Need-returns-6
 returns-6 c = rw (c .enum-told5 .given .1) (sym (splice-none _ _))
 
+returns-7 : tie.Need-returns-7
+returns-7 c = rw (c .enum-told6 .given .1) (sym (splice-none _ _))
+
 pub put-read-spec : {M : Type 1} → statement M
 put-read-spec =
     tie.close
@@ -60,10 +66,12 @@ put-read-spec =
     enum-told-3
     enum-told-4
     enum-told-5
+    enum-told-6
     same-length
     returns
     returns-2
     returns-3
     returns-4
     returns-5
-    returns-6)
+    returns-6
+    returns-7)

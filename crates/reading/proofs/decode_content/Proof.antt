@@ -1,11 +1,11 @@
--- The content's answer is that of the octets from the control octet on; a refusal is passed on, and info needs two octets.
-use mathlib.Core.Path.{_≡_, ap, _∙_}
+-- The content's answer is that of the octets from the control octet on; a refusal is passed on, and what stands before the info is there.
+use mathlib.Core.Path.{_≡_, _∙_}
 use native.Mathlib.Omega.{arith}
 use lib.ListN.{drop, length-drop}
 use Rattle.octets.proofs.Splice.{part-from}
 use Rattle.parse.specs.Content.{contentOf}
 use Rattle.parse.specs.declared.ContentAnswer.the-variants.{Accepted}
-use Rattle.parse.proofs.Read.{content-room, never-unknown}
+use Rattle.parse.proofs.Read.{sized}
 use Rattle.decode.specs.Read.{frameAt, withContent}
 use Rattle.decode.proofs.Whole.{refusal-by, refused-content}
 use Rattle.decode.proofs.Read.{told-content}
@@ -15,7 +15,7 @@ use Rattle.reading.proofs.decode_content.Tie as tie
 
 -- the content's answer, at the octets from the control octet on
 answered : (c : tie.After-parse-content) →
-    contentOf (drop (c .before .before .before .args .control) (c .before .before .before .args .bytes .now)) ≡ c .parse-content .result
+    contentOf (c .before .before .before .args .mode) (drop (c .before .before .before .args .control) (c .before .before .before .args .bytes .now)) ≡ c .parse-content .result
 answered c = simp (c .parse-content .ensures, part-from)
 
 sub-parse-content : tie.Need-sub-parse-content
@@ -46,7 +46,7 @@ returns : tie.Need-returns
 returns c =
     let p = c .before .before .before .before in
     simp (c .refused .ensures, c .before .refusal .ensures, c .before .before .number .ensures, refusal-by, answered p)
-    (refused-content _ _ _ _ (p .parse-content .result) (told-content (p .parse-content .result) (c .before .before .before .match .keys2)))
+    (refused-content _ _ _ _ _ (p .parse-content .result) (told-content (p .parse-content .result) (c .before .before .before .match .keys2)))
 
 parse-frame-requires : tie.Need-parse-frame-requires
 parse-frame-requires c κs = search needs
@@ -56,9 +56,9 @@ unfolding frameAt
 accepted-requires c κs =
     let a = c .before .before .before .before .before .before .before .args in
     let s = drop (a .control) (a .bytes .now) in
-    let is : contentOf s ≡ Accepted (c .parse-frame .result .content) =
+    let is : contentOf (a .mode) s ≡ Accepted (c .parse-frame .result .content) =
     answered (c .before .before .before .before) ∙ simp (c .before .before .answer .given .1, c .parse-frame .ensures) in
-    (λ h. omega (arith, length-drop (a .control) (a .bytes .now), content-room s _ is h), λ u. never-unknown s (is ∙ ap Accepted u))
+    omega (arith, length-drop (a .control) (a .bytes .now), sized (a .mode) s _ is .1)
 
 returns-2 : tie.Need-returns-2
 unfolding withContent

@@ -12,7 +12,7 @@ from-outline-requires : tie.Need-from-outline-requires
 from-outline-requires c κs = search needs
 
 returns : tie.Need-returns
-returns c = c .from-outline .ensures ∙ rw (c .before .outline-of .ensures) (by-outline _)
+returns c = c .from-outline .ensures ∙ rw (c .before .outline-of .ensures) (by-outline _ _)
 
 pub from-bytes-spec : {M : Type 1} → statement M
 from-bytes-spec = tie.close (tie.spec outline-of-requires from-outline-requires returns)

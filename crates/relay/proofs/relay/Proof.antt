@@ -2,6 +2,7 @@
 use mathlib.Core.Path.{_≡_, refl, ap, sym, _∙_}
 use mathlib.Core.Bool.{true}
 use borrow.Author.Tests.{not-true, not-false}
+use Rattle.content.specs.declared.Mode.the-variants.{Short}
 use Rattle.address.specs.Address.{encodable}
 use Rattle.decode.specs.Answer.{isAccepted}
 use Rattle.decode.specs.Read.{decode}
@@ -16,7 +17,7 @@ use Rattle.relay.proofs.relay.Tie as tie
 able : (c : tie.Else1) → encodable (c .before .before .before .args .own) ≡ true
 able c = sym (c .before .is-encodable .ensures) ∙ not-false _ (c .if1 .left)
 
-accepted : (c : tie.After-enum-told) → isAccepted (decode (c .before .before .before .before .before .before .before .args .bytes .now) .answer) ≡ true
+accepted : (c : tie.After-enum-told) → isAccepted (decode Short (c .before .before .before .before .before .before .before .args .bytes .now) .answer) ≡ true
 accepted c = rw (← ap (λ (o : Outline). o .answer) (c .before .before .outline-of .ensures)) (rw (c .enum-told .given .1) refl)
 
 is-encodable-requires : tie.Need-is-encodable-requires

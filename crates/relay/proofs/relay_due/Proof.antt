@@ -7,6 +7,7 @@ use native.Mathlib.Omega.{arith}
 use borrow.Author.Tests.{eq-eqb, ne-eqb, not-true, not-false}
 use lib.Dec.{eqb}
 use lib.ListN.{length}
+use Rattle.content.specs.declared.Mode.the-variants.{Short}
 use Rattle.decode.specs.Read.{decode}
 use Rattle.hops.specs.Hops.{hopSet, duePlace, broken}
 use Rattle.hops.specs.Station.{sameStation}
@@ -18,21 +19,21 @@ use Rattle.relay.proofs.relay_due.Statement.{statement}
 use Rattle.relay.proofs.relay_due.Tie as tie
 
 -- the set that the loop read
-is-set : (c : tie.After-hop-set-at) → c .hop-set-at .result ≡ hopSet (decode (c .before .before .before .args .bytes .now) .frame)
+is-set : (c : tie.After-hop-set-at) → c .hop-set-at .result ≡ hopSet (decode Short (c .before .before .before .args .bytes .now) .frame)
 is-set c =
     let k = c .before .before .before in
     c .hop-set-at .ensures ∙ rw (k .pre .1) (set-read _ (k .pre .0))
 
-due : (c : tie.After-first-clear) → c .first-clear .result ≡ duePlace (decode (c .before .before .before .before .args .bytes .now) .frame)
+due : (c : tie.After-first-clear) → c .first-clear .result ≡ duePlace (decode Short (c .before .before .before .before .args .bytes .now) .frame)
 due c = c .first-clear .ensures ∙ rw (is-set (c .before)) (due-clear _)
 
 -- where some place is due: it is one of those in use, and its group stands in the octets
 inner : (c : tie.Else1) →
-    let f = decode (c .before .before .before .before .before .args .bytes .now) .frame in
+    let f = decode Short (c .before .before .before .before .before .args .bytes .now) .frame in
     duePlace f < f .«route_count»
 inner c =
     let k = c .before .before .before .before .before in
-    omega (arith, due-within (decode (k .args .bytes .now) .frame), k .pre .1, due (c .before), c .if1 .left)
+    omega (arith, due-within (decode Short (k .args .bytes .now) .frame), k .pre .1, due (c .before), c .if1 .left)
 
 few : (c : tie.Else1) → c .before .first-clear .result < 8
 few c =
@@ -48,23 +49,23 @@ due-in c =
 
 -- it is the due place, and not the route's end
 is-due : (c : tie.Else1) →
-    let f = decode (c .before .before .before .before .before .args .bytes .now) .frame in
+    let f = decode Short (c .before .before .before .before .before .args .bytes .now) .frame in
     duePlace f ≡ f .«route_count» → ⊥
 is-due c q = omega (arith, inner c, q)
 
 -- what is left of the set above it
 above : (c : tie.Else1) →
     eqb (c .before .before .hop-set-at .result / 2 ^ c .before .first-clear .result) 0
-    ≡ not (broken (decode (c .before .before .before .before .before .args .bytes .now) .frame))
+    ≡ not (broken (decode Short (c .before .before .before .before .before .args .bytes .now) .frame))
 above c = rw (is-set (c .before .before), due (c .before)) (broken-set _)
 
-whole : (c : tie.Else2) → broken (decode (c .before .before .before .before .before .before .args .bytes .now) .frame) ≡ false
+whole : (c : tie.Else2) → broken (decode Short (c .before .before .before .before .before .before .args .bytes .now) .frame) ≡ false
 whole c = not-true _ (sym (above (c .before)) ∙ eq-eqb _ _ (c .if2 .left))
 
 -- whose it is
 whose : (c : tie.After-is-ours) →
     let a = c .before .before .before .before .before .before .before .before .args in
-    c .is-ours .result ≡ ours (a .own) (decode (a .bytes .now) .frame)
+    c .is-ours .result ≡ ours (a .own) (decode Short (a .bytes .now) .frame)
 whose c =
     let e = c .before .before .before in
     let k = e .before .before .before .before .before in
@@ -88,7 +89,7 @@ same-length c = search needs
 returns : tie.Need-returns
 returns c =
     let k = c .before .before .before .before .before in
-    let e = due-none (k .args .own) (decode (k .args .bytes .now) .frame) (sym (due (c .before)) ∙ c .if1 .taken ∙ k .pre .1) in
+    let e = due-none (k .args .own) (decode Short (k .args .bytes .now) .frame) (sym (due (c .before)) ∙ c .if1 .taken ∙ k .pre .1) in
     (sym e, ap (λ a. leftBy a (k .args .bytes .now)) (sym e))
 
 cast-if2 : tie.Need-cast-if2
@@ -104,7 +105,7 @@ returns-2 : tie.Need-returns-2
 returns-2 c =
     let k = c .before .before .before .before .before .before in
     let b = not-false _ (sym (above (c .before)) ∙ ne-eqb _ _ (c .if2 .taken)) in
-    let e = due-broken (k .args .own) (decode (k .args .bytes .now) .frame) (is-due (c .before)) b in
+    let e = due-broken (k .args .own) (decode Short (k .args .bytes .now) .frame) (is-due (c .before)) b in
     (sym e, ap (λ a. leftBy a (k .args .bytes .now)) (sym e))
 
 mul-at : tie.Need-mul-at
@@ -125,7 +126,7 @@ returns-3 c =
     let e2 = o .before .before in
     let k = e2 .before .before .before .before .before .before in
     let s = k .args .bytes .now in
-    let e = due-other (k .args .own) (decode s .frame) (is-due (e2 .before)) (whole e2) (sym (whose o) ∙ not-true _ (c .if3 .taken)) in
+    let e = due-other (k .args .own) (decode Short s .frame) (is-due (e2 .before)) (whole e2) (sym (whose o) ∙ not-true _ (c .if3 .taken)) in
     (sym e, ap (λ a. leftBy a s) (sym e))
 
 add-set-mark : tie.Need-add-set-mark
@@ -144,7 +145,7 @@ returns-4 c =
     let e2 = o .before .before in
     let k = e2 .before .before .before .before .before .before in
     let s = k .args .bytes .now in
-    let e = due-ours (k .args .own) (decode s .frame) (is-due (e2 .before)) (whole e2) (sym (whose o) ∙ not-false _ (m .before .before .if3 .left)) in
+    let e = due-ours (k .args .own) (decode Short s .frame) (is-due (e2 .before)) (whole e2) (sym (whose o) ∙ not-false _ (m .before .before .if3 .left)) in
     (sym e, m .set-mark .ensures ∙ rw (due (e2 .before .before), e) refl)
 
 pub relay-due-spec : {M : Type 1} → statement M

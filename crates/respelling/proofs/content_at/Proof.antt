@@ -8,7 +8,7 @@ use Rattle.octets.proofs.Splice.{part-from}
 use Rattle.content.specs.declared.FrameContent.{FrameContent}
 use Rattle.content.specs.declared.FrameContent.the-variants.{UnknownContent}
 use Rattle.parse.specs.declared.ContentAnswer.{ContentAnswer}
-use Rattle.parse.specs.declared.ContentAnswer.the-variants.{Accepted, ContentZeroLength, MissingPidField, UnrecognisedSFieldType, UnrecognisedUFieldType, WrongSizeFrmrInfo}
+use Rattle.parse.specs.declared.ContentAnswer.the-variants.{Accepted, ContentZeroLength, MissingPidField, UnrecognisedUFieldType, WrongSizeFrmrInfo, FrameRejectInLongMode, MissingControlOctet}
 use Rattle.decode.specs.Read.{refusalOf, decode}
 use Rattle.decode.specs.Answer.{isAccepted}
 use Rattle.decode.proofs.Read.{told-content}
@@ -23,18 +23,19 @@ kindIn : ContentAnswer → FrameContent
 kindIn (Accepted k) = k
 kindIn ContentZeroLength = UnknownContent
 kindIn MissingPidField = UnknownContent
-kindIn UnrecognisedSFieldType = UnknownContent
 kindIn UnrecognisedUFieldType = UnknownContent
 kindIn WrongSizeFrmrInfo = UnknownContent
+kindIn FrameRejectInLongMode = UnknownContent
+kindIn MissingControlOctet = UnknownContent
 
 inside : (c : tie.After-shared-slice-known) → c .before .args .control ≤ length (c .before .args .bytes .now)
-inside c = omega (arith, c .before .pre .1, route _ (c .before .pre .0) .end-in)
+inside c = omega (arith, c .before .pre .1, route _ _ (c .before .pre .0) .end-in)
 
 -- what parsing answers
-answered : (c : tie.After-parse-content) → c .parse-content .result ≡ Accepted (decode (c .before .before .before .args .bytes .now) .frame .content)
+answered : (c : tie.After-parse-content) → c .parse-content .result ≡ Accepted (decode (c .before .before .before .args .mode) (c .before .before .before .args .bytes .now) .frame .content)
 answered c =
     let k = c .before .before in
-    let p = parts _ (λ n. k .shared-slice-known .given n .fits) (k .before .pre .0) in
+    let p = parts _ _ (λ n. k .shared-slice-known .given n .fits) (k .before .pre .0) in
     c .parse-content .ensures ∙ rw (part-from, k .before .pre .1) (p .content)
 
 sub-parse-content : tie.Need-sub-parse-content

@@ -18,7 +18,7 @@ octets c k = c .shared-slice-known .given k .fits
 inside : (c : tie.After-shared-slice-known) → 14 + 7 * c .before .before .args .count ≤ length (c .before .before .args .bytes .now)
 inside c =
     let p = c .before .before .pre in
-    let r = route _ (p .0) in
+    let r = route _ _ (p .0) in
     omega (arith, p .1, r .before, r .end-in)
 
 shared-slice-read-mark-set : tie.Need-shared-slice-read-mark-set
@@ -52,7 +52,7 @@ put-route-requires c κs =
     let p = k .before .before .pre in
     let one = c .before .before .before .before .before .before .before .respell .ensures in
     let two = c .before .before .before .respell2 .ensures in
-    let few : k .before .before .args .count ≤ 8 = rw (p .1) (route _ (p .0) .few) in
+    let few : k .before .before .args .count ≤ 8 = rw (p .1) (route _ _ (p .0) .few) in
     (few, inside k, rw (two, splice-length, one, splice-length) (p .2))
 
 same-length : tie.Need-same-length
@@ -68,7 +68,7 @@ returns c =
     let p = k .before .before .pre in
     r .put-route .ensures
     ∙ rw (s .respell2 .ensures, d .respell .ensures, m .written-mark .ensures, m .before .mark-set2 .ensures, m .before .before .before .mark-set .ensures, p .1)
-    (field-again _ _ (octets k) (p .0) (rw (← p .1) (p .2)))
+    (field-again _ _ _ (octets k) (p .0) (rw (← p .1) (p .2)))
 
 pub put-addresses-spec : {M : Type 1} → statement M
 put-addresses-spec =

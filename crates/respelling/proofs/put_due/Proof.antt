@@ -7,6 +7,7 @@ use lib.ListN.{length}
 use Rattle.octets.specs.Octet.{Octets}
 use Rattle.octets.proofs.Splice.{splice-length}
 use Rattle.content.specs.Spell.{front}
+use Rattle.content.specs.declared.Mode.{Mode}
 use Rattle.content.specs.declared.FrameContent.{FrameContent}
 use Rattle.frame.specs.Write.{Taken}
 use Rattle.frame.proofs.Write.{field-room, content-put}
@@ -27,25 +28,26 @@ octets c k = c .shared-slice-known .given k .fits
 -- what writing takes
 taken : (c : tie.After-shared-slice-known) →
     let a = c .before .before .args in
-    Taken (decode (a .bytes .now) .frame) (infoIn (a .bytes .now) (decode (a .bytes .now))) (length (a .out .now))
-taken c = let p = c .before .before .pre in due-taken _ _ (octets c) (p .0) (p .4)
+    Taken (a .mode) (decode (a .mode) (a .bytes .now) .frame) (infoIn (a .bytes .now) (decode (a .mode) (a .bytes .now))) (length (a .out .now))
+taken c = let p = c .before .before .pre in due-taken _ _ _ (octets c) (p .0) (p .4)
 
 -- the numbers of the outline, the length of what stands before the info, and how much is kept
-pub record Numbers (s : List ℕ) (b : Outline) (f n : ℕ) : Type 0 where
-  pub count : b .«route_count» ≡ decode s .frame .«route_count»
+pub record Numbers (m : Mode) (s : List ℕ) (b : Outline) (f n : ℕ) : Type 0 where
+  pub count : b .«route_count» ≡ decode m s .frame .«route_count»
   pub end : b .end ≡ endOf s
-  pub front : f ≡ length (front (decode s .frame .content))
-  pub kept : n ≡ keptOf (decode s .frame .content) (length s - (endOf s + 1))
+  pub front : f ≡ length (front m (decode m s .frame .content))
+  pub kept : n ≡ keptOf m (decode m s .frame .content) (length s - (endOf s + 1))
 
 numbers : (c : tie.After-front-len) →
     let a = c .before .before .before .before .before .before .before .before .args in
-    Numbers (a .bytes .now) (a .outline) (c .front-len .result) (a .kept)
+    Numbers (a .mode) (a .bytes .now) (a .outline) (c .front-len .result) (a .kept)
 numbers c =
-    let p = c .before .before .before .before .before .before .before .before .pre in
+    let a = c .before .before .before .before .before .before .before .before in
+    let p = a .pre in
     record {
       count = ap (λ (b : Outline). b .«route_count») (p .1);
-      end = ap (λ (b : Outline). b .end) (p .1) ∙ outline-end _ (p .0);
-      front = c .front-len .ensures ∙ ap (λ (k : FrameContent). length (front k)) (p .2);
+      end = ap (λ (b : Outline). b .end) (p .1) ∙ outline-end _ _ (p .0);
+      front = c .front-len .ensures ∙ ap (λ (k : FrameContent). length (front (a .args .mode) k)) (p .2);
       kept = p .3 ∙ rw (p .2) refl;
     }
 
@@ -55,25 +57,25 @@ bounds : (c : tie.After-front-len) →
     (a .outline .end + 1 + c .front-len .result ≤ a .outline .end + 1 + a .kept) × (a .outline .end + 1 + a .kept ≤ length (a .bytes .now))
 bounds c =
     let n = numbers c in
-    let d = parts _ (octets (c .before .before .before .before .before .before)) (c .before .before .before .before .before .before .before .before .pre .0) in
+    let d = parts _ _ (octets (c .before .before .before .before .before .before)) (c .before .before .before .before .before .before .before .before .pre .0) in
     (omega (arith, n .front, n .kept, d .before), omega (arith, n .end, n .kept, d .kept))
 
 -- what is left of the output starts inside it
-room : (c : tie.After-encode-arg) → 14 + 7 * c .before .before .before .before .before .before .before .before .before .args .outline .«route_count» ≤ length (c .before .before .before .before .before .put-addresses .last .0)
+room : (c : tie.After-encode-arg) → 14 + 7 * c .before .before .before .before .before .before .before .before .before .args .outline .«route_count» ≤ length (c .before .before .before .before .before .put-addresses .last .1 .0)
 room c =
     rw (c .before .before .before .before .before .put-addresses .ensures, splice-length, numbers (c .before) .count)
-    (field-room _ _ (c .before .before .before .before .before .before .before .before .before .args .out .now) (taken (c .before .before .before .before .before .before .before)))
+    (field-room _ _ _ (c .before .before .before .before .before .before .before .before .before .args .out .now) (taken (c .before .before .before .before .before .before .before)))
 
 put-addresses-requires : tie.Need-put-addresses-requires
 put-addresses-requires c κs =
     let a = c .before .before .before in
     let count = ap (λ (b : Outline). b .«route_count») (a .pre .1) in
-    (a .pre .0, count, rw count (field-room _ _ (a .args .out .now) (taken (c .before))))
+    (a .pre .0, count, rw count (field-room _ _ _ (a .args .out .now) (taken (c .before))))
 
 add-control : tie.Need-add-control
 add-control c =
     let p = c .before .before .before .before .before .before .before .pre in
-    omega (arith, ap (λ (b : Outline). b .end) (p .1) ∙ outline-end _ (p .0), route _ (p .0) .end-in)
+    omega (arith, ap (λ (b : Outline). b .end) (p .1) ∙ outline-end _ _ (p .0), route _ _ (p .0) .end-in)
 
 front-len-requires : tie.Need-front-len-requires
 front-len-requires c κs = search needs
@@ -89,10 +91,10 @@ add-end c =
     search needs
 
 mul-at : tie.Need-mul-at
-mul-at c = omega (arith, numbers c .count, route _ (c .before .before .before .before .before .before .before .before .pre .0) .few)
+mul-at c = omega (arith, numbers c .count, route _ _ (c .before .before .before .before .before .before .before .before .pre .0) .few)
 
 add-at : tie.Need-add-at
-add-at c = omega (arith, numbers c .count, route _ (c .before .before .before .before .before .before .before .before .pre .0) .few)
+add-at c = omega (arith, numbers c .count, route _ _ (c .before .before .before .before .before .before .before .before .pre .0) .few)
 
 sub-encode : tie.Need-sub-encode
 sub-encode c =
@@ -132,13 +134,14 @@ returns c =
     let n = numbers (c .before .before .before .before .before) in
     let k = c .before .before .before .before .before .before .before .before .before .before .before in
     let a = k .before .before in
+    let m : Mode = a .args .mode in
     let s : List ℕ = a .args .bytes .now in
-    let d = parts s (octets k) (a .pre .0) in
+    let d = parts m s (octets k) (a .pre .0) in
     let f = c .before .before .before .before .before .front-len .result in
-    let part : a .args .outline .end + 1 + a .args .kept - (a .args .outline .end + 1 + f) ≡ decode s .«info_len» = omega (arith, n .front, n .kept, d .carried) in
-    let from : a .args .outline .end + 1 + f ≡ endOf s + 1 + length (front (decode s .frame .content)) = omega (arith, n .front, n .end) in
-    rw (e, part, from, ← d .info, c .before .before .before .before .before .before .before .before .before .put-addresses .ensures, a .pre .2, n .count, due-accepted s (a .pre .0))
-    (content-put _ _ (a .args .out .now) (taken k))
+    let part : a .args .outline .end + 1 + a .args .kept - (a .args .outline .end + 1 + f) ≡ decode m s .«info_len» = omega (arith, n .front, n .kept, d .carried) in
+    let from : a .args .outline .end + 1 + f ≡ endOf s + 1 + length (front m (decode m s .frame .content)) = omega (arith, n .front, n .end) in
+    rw (e, part, from, ← d .info, c .before .before .before .before .before .before .before .before .before .put-addresses .ensures, a .pre .2, n .count, due-accepted m s (a .pre .0))
+    (content-put _ _ _ (a .args .out .now) (taken k))
 
 pub put-due-spec : {M : Type 1} → statement M
 put-due-spec =

@@ -19,32 +19,32 @@ use Rattle.respelling.proofs.reencoded_length.Statement.{statement}
 use Rattle.respelling.proofs.reencoded_length.Tie as tie
 
 -- the outline's answer is decoding's
-answered : (c : tie.After-outline-of) → c .outline-of .result .answer ≡ decode (c .before .before .args .bytes .now) .answer
+answered : (c : tie.After-outline-of) → c .outline-of .result .answer ≡ decode (c .before .before .args .mode) (c .before .before .args .bytes .now) .answer
 answered c = ap (λ (o : Outline). o .answer) (c .outline-of .ensures)
 
-accepted : (c : tie.After-enum-told) → isAccepted (decode (c .before .before .before .before .args .bytes .now) .answer) ≡ true
+accepted : (c : tie.After-enum-told) → isAccepted (decode (c .before .before .before .before .args .mode) (c .before .before .before .before .args .bytes .now) .answer) ≡ true
 accepted c = rw (← answered (c .before .before)) (rw (c .enum-told .given .1) refl)
 
 -- where its parts stand
-within : (c : tie.After-enum-told) → Route (c .before .before .before .before .args .bytes .now) (decode (c .before .before .before .before .args .bytes .now))
-within c = route _ (accepted c)
+within : (c : tie.After-enum-told) → Route (c .before .before .before .before .args .bytes .now) (decode (c .before .before .before .before .args .mode) (c .before .before .before .before .args .bytes .now))
+within c = route _ _ (accepted c)
 
 octets : (c : tie.After-enum-told) → Octets (c .before .before .before .before .args .bytes .now)
 octets c k = c .before .before .before .shared-slice-known .given k .fits
 
-told : (c : tie.After-enum-told) → c .before .before .outline-of .result ≡ outlineOf (c .before .before .before .before .args .bytes .now)
+told : (c : tie.After-enum-told) → c .before .before .outline-of .result ≡ outlineOf (c .before .before .before .before .args .mode) (c .before .before .before .before .args .bytes .now)
 told c = c .before .before .outline-of .ensures
 
 ends : (c : tie.After-enum-told) → c .before .before .outline-of .result .end ≡ endOf (c .before .before .before .before .args .bytes .now)
-ends c = ap (λ (o : Outline). o .end) (told c) ∙ outline-end _ (accepted c)
+ends c = ap (λ (o : Outline). o .end) (told c) ∙ outline-end _ _ (accepted c)
 
 -- the sum is the length
 whole : (c : tie.After-kept-of) →
     let t = c .before .before .before .before in
-    14 + 7 * t .before .before .outline-of .result .«route_count» + c .kept-of .result ≡ length (due (t .before .before .before .before .args .bytes .now))
+    14 + 7 * t .before .before .outline-of .result .«route_count» + c .kept-of .result ≡ length (due (t .before .before .before .before .args .mode) (t .before .before .before .before .args .bytes .now))
 whole c =
     let t = c .before .before .before .before in
-    due-length _ _ _ _ (octets t) (accepted t) (told t) (c .before .before .content-at .ensures) (c .kept-of .ensures)
+    due-length _ _ _ _ _ (octets t) (accepted t) (told t) (c .before .before .content-at .ensures) (c .kept-of .ensures)
 
 outline-of-requires : tie.Need-outline-of-requires
 outline-of-requires c κs = search needs
@@ -55,7 +55,7 @@ enum-told c = search needs
 returns : tie.Need-returns
 returns c =
     let f = c .before .outline-of in
-    sym (ap length (due-refused _ (rw (← answered (c .before)) (told-refused (f .result .answer) (c .match .keys2)))))
+    sym (ap length (due-refused _ _ (rw (← answered (c .before)) (told-refused (f .result .answer) (c .match .keys2)))))
 
 add-control : tie.Need-add-control
 add-control c = rw (ends (c .before)) (omega (arith, within (c .before) .end-in))
@@ -78,7 +78,7 @@ kept-of-requires c κs = search needs
 add-result-2 : tie.Need-add-result-2
 add-result-2 c =
     let t = c .before .before .before .before in
-    omega (arith, whole c, due-fits _ (octets t) (accepted t))
+    omega (arith, whole c, due-fits _ _ (octets t) (accepted t))
 
 returns-2 : tie.Need-returns-2
 returns-2 c = whole c

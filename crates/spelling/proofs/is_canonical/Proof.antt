@@ -12,7 +12,7 @@ use borrow.Author.Needs.{needs}
 use Rattle.spelling.proofs.is_canonical.Statement.{statement}
 use Rattle.spelling.proofs.is_canonical.Tie as tie
 
-accepted : (c : tie.After-enum-told) → isAccepted (decode (c .before .before .before .before .args .bytes .now) .answer) ≡ true
+accepted : (c : tie.After-enum-told) → let a = c .before .before .before .before .args in isAccepted (decode (a .mode) (a .bytes .now) .answer) ≡ true
 accepted c = rw (← ap (λ (o : Outline). o .answer) (c .before .before .outline-of .ensures)) (rw (c .enum-told .given .1) refl)
 
 octets : (c : tie.After-shared-slice-known) → Octets (c .before .args .bytes .now)
@@ -28,18 +28,18 @@ returns : tie.Need-returns
 returns c =
     let f = c .before .outline-of in
     let e = ap (λ (o : Outline). o .answer) (f .ensures) in
-    sym (refused-not-canonical _ (rw (← e) (told-refused (f .result .answer) (c .match .keys2))))
+    sym (refused-not-canonical _ _ (rw (← e) (told-refused (f .result .answer) (c .match .keys2))))
 
 is-direct-requires : tie.Need-is-direct-requires
 is-direct-requires c κs =
-    let i = inside _ (accepted c) in
+    let i = inside _ _ (accepted c) in
     let f = c .before .before .outline-of .ensures in
     (rw f (i .few), rw f (i .groups))
 
 returns-2 : tie.Need-returns-2
 returns-2 c =
     let f = c .before .before .before .outline-of .ensures in
-    c .is-direct .ensures ∙ rw f (sym (canonical-direct _ (octets (c .before .before .before .before)) (accepted (c .before))))
+    c .is-direct .ensures ∙ rw f (sym (canonical-direct _ _ (octets (c .before .before .before .before)) (accepted (c .before))))
 
 pub is-canonical-spec : {M : Type 1} → statement M
 is-canonical-spec =

@@ -15,19 +15,23 @@ use Rattle.content.proofs.FrameContent.stray_pid.Tie as tie
 
 -- the tags of the kinds without a PID
 abbrev others : List ℕ
-others = 1 ∷ 2 ∷ 3 ∷ 4 ∷ 5 ∷ 6 ∷ 7 ∷ 8 ∷ 10 ∷ []
+others = 1 ∷ 2 ∷ 3 ∷ 4 ∷ 5 ∷ 6 ∷ 7 ∷ 8 ∷ 9 ∷ 10 ∷ 12 ∷ 13 ∷ 14 ∷ []
 
 told-other : (k : FrameContent) → OneOf others (tagOf the-type k) → strayPid k ≡ false
 told-other (kind.Information k) h = absurd (miss others 0 tt h)
 told-other (kind.ReceiveReady k) h = refl
 told-other (kind.ReceiveNotReady k) h = refl
 told-other (kind.Reject k) h = refl
+told-other (kind.SelectiveReject k) h = refl
 told-other (kind.SetAsynchronousBalancedMode k) h = refl
+told-other (kind.SetAsynchronousBalancedModeExtended k) h = refl
 told-other (kind.Disconnect k) h = refl
 told-other (kind.DisconnectedMode k) h = refl
 told-other (kind.UnnumberedAcknowledge k) h = refl
 told-other (kind.FrameReject k) h = refl
-told-other (kind.UnnumberedInformation k) h = absurd (miss others 9 tt h)
+told-other (kind.UnnumberedInformation k) h = absurd (miss others 11 tt h)
+told-other (kind.ExchangeIdentification k) h = refl
+told-other (kind.Test k) h = refl
 told-other kind.UnknownContent h = refl
 
 enum-known-self : tie.Need-enum-known-self

@@ -36,6 +36,18 @@ enum-told-10 c = search needs
 enum-told-11 : tie.Need-enum-told-11
 enum-told-11 c = search needs
 
+enum-told-12 : tie.Need-enum-told-12
+enum-told-12 c = search needs
+
+enum-told-13 : tie.Need-enum-told-13
+enum-told-13 c = search needs
+
+enum-told-14 : tie.Need-enum-told-14
+enum-told-14 c = search needs
+
+enum-told-15 : tie.Need-enum-told-15
+enum-told-15 c = search needs
+
 returns : tie.Need-returns
 returns c = rw (c .before .before .enum-told .given .1) refl
 
@@ -69,6 +81,18 @@ returns-10 c = rw (c .before .before .enum-told10 .given .1) refl
 returns-11 : tie.Need-returns-11
 returns-11 c = rw (c .before .before .enum-told11 .given .1) refl
 
+returns-12 : tie.Need-returns-12
+returns-12 c = rw (c .before .before .enum-told12 .given .1) refl
+
+returns-13 : tie.Need-returns-13
+returns-13 c = rw (c .before .before .enum-told13 .given .1) refl
+
+returns-14 : tie.Need-returns-14
+returns-14 c = rw (c .before .before .enum-told14 .given .1) refl
+
+returns-15 : tie.Need-returns-15
+returns-15 c = rw (c .before .before .enum-told15 .given .1) refl
+
 pub kind-spec : {M : Type 1} → statement M
 kind-spec =
     tie.close
@@ -84,6 +108,10 @@ kind-spec =
     enum-told-9
     enum-told-10
     enum-told-11
+    enum-told-12
+    enum-told-13
+    enum-told-14
+    enum-told-15
     returns
     returns-2
     returns-3
@@ -94,4 +122,8 @@ kind-spec =
     returns-8
     returns-9
     returns-10
-    returns-11)
+    returns-11
+    returns-12
+    returns-13
+    returns-14
+    returns-15)

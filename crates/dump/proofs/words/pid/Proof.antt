@@ -3,8 +3,8 @@ use borrow.Author.Needs.{needs}
 use Rattle.dump.proofs.words.pid.Statement.{statement}
 use Rattle.dump.proofs.words.pid.Tie as tie
 
-has-info-requires : tie.Need-has-info-requires
-has-info-requires c κs = search needs
+has-pid-requires : tie.Need-has-pid-requires
+has-pid-requires c κs = search needs
 
 front-requires : tie.Need-front-requires
 front-requires c κs = search needs
@@ -17,12 +17,12 @@ hex-requires c κs = search needs
 
 returns : tie.Need-returns
 returns c =
-    rw (c .hex .ensures, c .before .front .ensures, ← c .before .before .before .has-info .ensures, c .before .before .if1 .taken) refl
+    rw (c .hex .ensures, c .before .front .ensures, ← c .before .before .before .has-pid .ensures, c .before .before .if1 .taken) refl
 
 returns-2 : tie.Need-returns-2
-returns-2 c = rw (← c .before .before .before .has-info .ensures, c .before .before .if1 .left) refl
+returns-2 c = rw (← c .before .before .before .has-pid .ensures, c .before .before .if1 .left) refl
 
 pub pid-spec : {M : Type 1} → statement M
 pid-spec =
     tie.close
-    (tie.spec has-info-requires front-requires array-read-hex hex-requires returns returns-2)
+    (tie.spec has-pid-requires front-requires array-read-hex hex-requires returns returns-2)

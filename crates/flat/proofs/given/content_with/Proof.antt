@@ -47,7 +47,23 @@ unfolding contentWith
 returns-10 c = ap (λ (k : ℕ). contentWith k (c .before .args .pid) (c .before .args .fields)) (sym (c .match .keys10))
 
 returns-11 : tie.Need-returns-11
-returns-11 c = sym (content-past _ _ _ (c .match .rest))
+unfolding contentWith
+returns-11 c = ap (λ (k : ℕ). contentWith k (c .before .args .pid) (c .before .args .fields)) (sym (c .match .keys11))
+
+returns-12 : tie.Need-returns-12
+unfolding contentWith
+returns-12 c = ap (λ (k : ℕ). contentWith k (c .before .args .pid) (c .before .args .fields)) (sym (c .match .keys12))
+
+returns-13 : tie.Need-returns-13
+unfolding contentWith
+returns-13 c = ap (λ (k : ℕ). contentWith k (c .before .args .pid) (c .before .args .fields)) (sym (c .match .keys13))
+
+returns-14 : tie.Need-returns-14
+unfolding contentWith
+returns-14 c = ap (λ (k : ℕ). contentWith k (c .before .args .pid) (c .before .args .fields)) (sym (c .match .keys14))
+
+returns-15 : tie.Need-returns-15
+returns-15 c = sym (content-past _ _ _ (c .match .rest))
 
 pub content-with-spec : {M : Type 1} → statement M
 content-with-spec =
@@ -63,4 +79,8 @@ content-with-spec =
     returns-8
     returns-9
     returns-10
-    returns-11)
+    returns-11
+    returns-12
+    returns-13
+    returns-14
+    returns-15)

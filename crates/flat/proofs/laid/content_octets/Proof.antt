@@ -55,20 +55,44 @@ bare-requires-7 c κs = search needs
 enum-known-content-9 : tie.Need-enum-known-content-9
 enum-known-content-9 c = search needs
 
-reject-requires : tie.Need-reject-requires
-reject-requires c κs = search needs
+bare-requires-8 : tie.Need-bare-requires-8
+bare-requires-8 c κs = search needs
 
 enum-known-content-10 : tie.Need-enum-known-content-10
 enum-known-content-10 c = search needs
 
+bare-requires-9 : tie.Need-bare-requires-9
+bare-requires-9 c κs = search needs
+
+enum-known-content-11 : tie.Need-enum-known-content-11
+enum-known-content-11 c = search needs
+
+reject-requires : tie.Need-reject-requires
+reject-requires c κs = search needs
+
+enum-known-content-12 : tie.Need-enum-known-content-12
+enum-known-content-12 c = search needs
+
 with-pid-requires-2 : tie.Need-with-pid-requires-2
 with-pid-requires-2 c κs = search needs
+
+enum-known-content-13 : tie.Need-enum-known-content-13
+enum-known-content-13 c = search needs
+
+bare-requires-10 : tie.Need-bare-requires-10
+bare-requires-10 c κs = search needs
+
+enum-known-content-14 : tie.Need-enum-known-content-14
+enum-known-content-14 c = search needs
+
+bare-requires-11 : tie.Need-bare-requires-11
+bare-requires-11 c κs = search needs
 
 enum-told : tie.Need-enum-told
 enum-told c = search needs
 
-bare-requires-8 : tie.Need-bare-requires-8
-bare-requires-8 c κs = search needs
+bare-requires-12 : tie.Need-bare-requires-12
+bare-requires-12 c κs = search needs
 
 returns : tie.Need-returns
 returns c = c .with-pid .ensures ∙ rw (c .before .before .content .given .1) refl
@@ -95,13 +119,25 @@ returns-8 : tie.Need-returns-8
 returns-8 c = c .bare7 .ensures ∙ rw (c .before .before .content8 .given .1) refl
 
 returns-9 : tie.Need-returns-9
-returns-9 c = c .reject .ensures ∙ rw (c .before .before .content9 .given .1) refl
+returns-9 c = c .bare8 .ensures ∙ rw (c .before .before .content9 .given .1) refl
 
 returns-10 : tie.Need-returns-10
-returns-10 c = c .with-pid2 .ensures ∙ rw (c .before .before .content10 .given .1) refl
+returns-10 c = c .bare9 .ensures ∙ rw (c .before .before .content10 .given .1) refl
 
 returns-11 : tie.Need-returns-11
-returns-11 c = c .bare8 .ensures ∙ rw (c .before .enum-told .given .1) refl
+returns-11 c = c .reject .ensures ∙ rw (c .before .before .content11 .given .1) refl
+
+returns-12 : tie.Need-returns-12
+returns-12 c = c .with-pid2 .ensures ∙ rw (c .before .before .content12 .given .1) refl
+
+returns-13 : tie.Need-returns-13
+returns-13 c = c .bare10 .ensures ∙ rw (c .before .before .content13 .given .1) refl
+
+returns-14 : tie.Need-returns-14
+returns-14 c = c .bare11 .ensures ∙ rw (c .before .before .content14 .given .1) refl
+
+returns-15 : tie.Need-returns-15
+returns-15 c = c .bare12 .ensures ∙ rw (c .before .enum-told .given .1) refl
 
 pub content-octets-spec : {M : Type 1} → statement M
 content-octets-spec =
@@ -124,11 +160,19 @@ content-octets-spec =
     enum-known-content-8
     bare-requires-7
     enum-known-content-9
-    reject-requires
-    enum-known-content-10
-    with-pid-requires-2
-    enum-told
     bare-requires-8
+    enum-known-content-10
+    bare-requires-9
+    enum-known-content-11
+    reject-requires
+    enum-known-content-12
+    with-pid-requires-2
+    enum-known-content-13
+    bare-requires-10
+    enum-known-content-14
+    bare-requires-11
+    enum-told
+    bare-requires-12
     returns
     returns-2
     returns-3
@@ -139,4 +183,8 @@ content-octets-spec =
     returns-8
     returns-9
     returns-10
-    returns-11)
+    returns-11
+    returns-12
+    returns-13
+    returns-14
+    returns-15)

@@ -21,14 +21,14 @@ unfolding written octetsWritten
 returns c =
     let a = c .before .before .before .before .args in
     let e = c .before .write-answer .ensures in
-    let n : octetsBy (writeAnswer (a .self) (a .info .now) (length (a .out .now))) (spell (a .self) (a .info .now)) ≡ [] =
-    rw (sym e) (told-refused (c .before .write-answer .result) (spell (a .self) (a .info .now)) (c .match .keys2)) in
+    let n : octetsBy (writeAnswer (a .mode) (a .self) (a .info .now) (length (a .out .now))) (spell (a .mode) (a .self) (a .info .now)) ≡ [] =
+    rw (sym e) (told-refused (c .before .write-answer .result) (spell (a .mode) (a .self) (a .info .now)) (c .match .keys2)) in
     (simp (e, n), sym (rw n (splice-none _ _)))
 
 put-frame-requires : tie.Need-put-frame-requires
 put-frame-requires c κs =
     let w = c .before .before .before .write-answer in
-    accepted-taken _ _ _ (sym (w .ensures) ∙ told-accepted (w .result) (c .before .before .match .keys1))
+    accepted-taken _ _ _ _ (sym (w .ensures) ∙ told-accepted (w .result) (c .before .before .match .keys1))
 
 same-length : tie.Need-same-length
 same-length c = search needs

@@ -16,21 +16,21 @@ room : (c : tie.After-struct-known) →
     14 + 7 * c .before .before .before .before .before .before .before .args .frame .«route_count» ≤ length (c .before .before .before .put-addresses .last .0)
 room c =
     let a = c .before .before .before .before .before .before .before in
-    rw (c .before .before .before .put-addresses .ensures, splice-length) (field-room _ _ (a .args .out .now) (a .pre))
+    rw (c .before .before .before .put-addresses .ensures, splice-length) (field-room _ _ _ (a .args .out .now) (a .pre))
 
 -- how many octets the content takes
 put : (c : tie.After-struct-known2) →
     let a = c .before .before .before .before .before .before .before .before .before .before .before .before .args in
-    c .before .before .before .encode .result .length ≡ length (front (a .frame .content)) + length (a .info .now)
+    c .before .before .before .encode .result .length ≡ length (front (a .mode) (a .frame .content)) + length (a .info .now)
 put c =
     let a = c .before .before .before .before .before .before .before .before .before .before .before .before in
     let p = c .before .before .before .before .before .before .before .before .put-addresses .ensures in
-    ap (λ (w : ContentWritten). w .length) (c .before .before .before .encode .ensures .0) ∙ rw p (content-length _ _ (a .args .out .now) (a .pre))
+    ap (λ (w : ContentWritten). w .length) (c .before .before .before .encode .ensures .0) ∙ rw p (content-length _ _ _ (a .args .out .now) (a .pre))
 
 put-addresses-requires : tie.Need-put-addresses-requires
 put-addresses-requires c κs =
     let a = c .before .before .before in
-    (a .pre .count, field-room _ _ (a .args .out .now) (a .pre), a .pre .addresses)
+    (a .pre .count, field-room _ _ _ (a .args .out .now) (a .pre), a .pre .addresses)
 
 mul-at : tie.Need-mul-at
 mul-at c = search needs
@@ -55,7 +55,7 @@ encode-requires c κs = search needs
 add-result : tie.Need-add-result
 add-result c =
     let a = c .before .before .before .before .before .before .before .before .before .before .before .before in
-    omega (arith, put c, spell-length (a .args .frame) (a .args .info .now), a .pre .room)
+    omega (arith, put c, spell-length (a .args .mode) (a .args .frame) (a .args .info .now), a .pre .room)
 
 same-length : tie.Need-same-length
 same-length c = search needs
@@ -64,8 +64,8 @@ returns : tie.Need-returns
 returns c =
     let a = c .before .before .before .before .before .before .before .before .before .before .before .before in
     let p = c .before .before .before .before .before .before .before .before .put-addresses .ensures in (
-      omega (arith, put c, spell-length (a .args .frame) (a .args .info .now)),
-      rw (c .before .before .before .encode .ensures .1, p) (content-put _ _ (a .args .out .now) (a .pre)),
+      omega (arith, put c, spell-length (a .args .mode) (a .args .frame) (a .args .info .now)),
+      rw (c .before .before .before .encode .ensures .1, p) (content-put _ _ _ (a .args .out .now) (a .pre)),
     )
 
 pub put-frame-spec : {M : Type 1} → statement M

@@ -37,6 +37,9 @@ enum-told-8 c = search needs
 enum-told-9 : tie.Need-enum-told-9
 enum-told-9 c = search needs
 
+enum-told-10 : tie.Need-enum-told-10
+enum-told-10 c = search needs
+
 returns : tie.Need-returns
 returns c = rw (c .enum-told .given .1) refl
 
@@ -70,6 +73,9 @@ returns-10 c = rw (c .enum-told8 .given .1) refl
 returns-11 : tie.Need-returns-11
 returns-11 c = rw (c .enum-told9 .given .1) refl
 
+returns-12 : tie.Need-returns-12
+returns-12 c = rw (c .enum-told10 .given .1) refl
+
 pub details-spec : {M : Type 1} → statement M
 details-spec =
     tie.close
@@ -85,6 +91,7 @@ details-spec =
     enum-told-7
     enum-told-8
     enum-told-9
+    enum-told-10
     returns
     returns-2
     returns-3
@@ -95,4 +102,5 @@ details-spec =
     returns-8
     returns-9
     returns-10
-    returns-11)
+    returns-11
+    returns-12)
