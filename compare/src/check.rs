@@ -12,7 +12,7 @@ use crate::port::{Beside, Entry, Fed, Packet, Port, State, HOPS, PLACES};
 use crate::records;
 use crate::relays::{self, Own};
 use crate::rng::Rng;
-use crate::seen::{Seen, Writer};
+use crate::seen::{Met, Seen, Writer};
 use crate::show;
 use crate::streams;
 use ax25::frame::Ax25Frame;
@@ -159,10 +159,11 @@ impl Checker {
         self.seen.decodes += 1;
         self.seen.searched(input);
         self.listed(input, &rust);
-        let old = oracle::owed_of_old(input, &rust);
+        let read = oracle::known(input, rust);
+        let old = oracle::owed_of_old(input, &read);
         self.old_capture(input, &old);
         let owed = oracle::owed(input, old);
-        match (&rust, &owed.record) {
+        match (&read, &owed.record) {
             (Ok(frame), Some(record)) => self.accepted(input, frame, &owed, record),
             _ => self.refused(input, &owed),
         }
@@ -177,11 +178,27 @@ impl Checker {
         if domain::is_nulled(input) {
             self.behind_nulls(input, rust);
         }
+        self.unknown(input, rust);
+    }
+
+    /// A kind that the Rust does not know: it answers 6 or 7, and has no details.
+    fn unknown(&mut self, input: &[u8], rust: &Result<Ax25Frame, Refusal>) {
+        let number = match domain::added_in(input) {
+            Some(added) => added.refusal,
+            None => return,
+        };
+        if *rust != Err(oracle::plain(number)) {
+            let owed = || format!("the Rust does not know the kind, and answers {}", number);
+            self.differ("B9", owed, |_| format!("the Rust: {:?}", rust));
+        }
     }
 
     /// The number by both archives, the places and the record.
     fn old_capture(&mut self, input: &[u8], owed: &Decode) {
         self.seen.old_captures.capture(input, owed);
+        if owed.number == 0 {
+            self.seen.added(if domain::nulls(input) > 0 { Met::BehindNulls } else { Met::OldCapture }, input);
+        }
         self.decode(Entry::OldCapture, input, owed);
         let number = self.port.number(Entry::OldCapture, input);
         if number != owed.number {
@@ -198,16 +215,16 @@ impl Checker {
             self.holds_all(record, info, frame);
             self.again(record, record);
         }
-        self.seen.frame(record, octets == input);
+        self.seen.frame(input, record, octets == input);
         self.decode(Entry::Decoder, input, owed);
         self.loader(input, 0, &octets);
         for room in self.rooms(Tried::Some, octets.len()) {
-            self.seen.written(Writer::Reencode, record, Room::of(room, octets.len()));
+            self.seen.written(Writer::Reencode, record, info, Room::of(room, octets.len()));
             self.reencode(input, 0, &octets, room);
         }
         self.seen.writes += 1;
         for room in self.rooms(Tried::Some, octets.len()) {
-            self.seen.written(Writer::Read, record, Room::of(room, octets.len()));
+            self.seen.written(Writer::Read, record, info, Room::of(room, octets.len()));
             self.write_in(Writer::Read, record, info, 0, &octets, room);
         }
     }
@@ -235,7 +252,7 @@ impl Checker {
     }
 
     fn refused(&mut self, input: &[u8], owed: &Decode) {
-        self.seen.refusal(owed.number);
+        self.seen.refusal(input, owed.number);
         self.decode(Entry::Decoder, input, owed);
         self.loader(input, owed.number, &[]);
         for room in self.refused_rooms(input) {
@@ -335,6 +352,7 @@ impl Checker {
 
     /// The record as `probe` reads it, flat again.
     fn again(&mut self, record: &[u8], owed: &Flat) {
+        self.seen.added_record(Met::Again, owed, &[]);
         let room = self.enough(FLAT);
         let number = self.port.again(record, room);
         self.left("the record as read", number, owed);
@@ -352,7 +370,7 @@ impl Checker {
     fn write(&mut self, record: &[u8], settled: &Flat, info: &[u8], octets: &[u8]) {
         self.seen.writes += 1;
         for room in self.rooms(Tried::Each, octets.len()) {
-            self.seen.written(Writer::MadeUp, settled, Room::of(room, octets.len()));
+            self.seen.written(Writer::MadeUp, settled, info, Room::of(room, octets.len()));
             self.write_in(Writer::MadeUp, record, info, 0, octets, room);
         }
     }
@@ -381,7 +399,7 @@ impl Checker {
         for room in self.rooms(Tried::Some, octets.len()) {
             let (number, owed) = self.owed_in(Writer::Beside, room, 0, &octets);
             self.seen.beside(number);
-            self.seen.own(Writer::Beside, &record, Room::of(room, octets.len()));
+            self.seen.own(Writer::Beside, &record, info, Room::of(room, octets.len()));
             let port = self.port.reencode_beside(input, room, owed, beside);
             self.placed("re-encoding beside the input", port, number, owed);
             let port = self.port.encode_beside(&record, info, room, owed, beside);
@@ -577,15 +595,18 @@ impl Checker {
     /// a frame.
     pub fn content(&mut self, content: &[u8]) -> Vec<Difference> {
         let input = inputs::with_content(content);
-        match oracle::read(&input) {
+        let rust = oracle::read(&input);
+        self.unknown(&input, &rust);
+        match oracle::known(&input, rust) {
             Ok(frame) => {
-                let record = oracle::record(&input, &frame);
+                let (record, info) = (oracle::record(&input, &frame), flat::info_of(&frame).unwrap_or(&[]));
+                self.seen.added(Met::Content, &input);
                 self.read_content(content, 0, &record[KIND..]);
                 self.seen.writes += 1;
                 let octets = &self.owed_octets(&frame, &record)[FIELD..];
                 for room in self.rooms(Tried::Some, octets.len()) {
-                    self.seen.written(Writer::Content, &record, Room::of(room, octets.len()));
-                    self.write_content(&record[KIND..], flat::info_of(&frame).unwrap_or(&[]), 0, octets, room);
+                    self.seen.written(Writer::Content, &record, info, Room::of(room, octets.len()));
+                    self.write_content(&record[KIND..], info, 0, octets, room);
                 }
             }
             Err(_) if content.is_empty() => {
@@ -616,7 +637,7 @@ impl Checker {
                 let octets = &self.owed_octets(&frame, &whole)[FIELD..];
                 self.seen.writes += 1;
                 for room in self.rooms(Tried::Each, octets.len()) {
-                    self.seen.written(Writer::Content, &flat::settled(&whole, &frame), Room::of(room, octets.len()));
+                    self.seen.written(Writer::Content, &flat::settled(&whole, &frame), info, Room::of(room, octets.len()));
                     self.write_content(content, info, 0, octets, room);
                 }
             }
@@ -624,7 +645,7 @@ impl Checker {
                 self.seen.listed(Listed::B3);
                 let needed = domain::length_with_pid(&whole, info) - FIELD;
                 for room in [0, 1, needed - 1, needed, info.len() + LONGER] {
-                    self.seen.content_refusal(number, &whole, room >= needed);
+                    self.seen.content_refusal(number, &whole, info, room >= needed);
                     self.write_content(content, info, number, &[], room);
                 }
             }
@@ -697,6 +718,9 @@ impl Checker {
             let owes = || show::written(owed_number, octets.len(), &octets);
             self.differ(&format!("relay by {}", own.words()), owes, |me| me.relayed(number));
         }
+        if domain::added_in(input).is_some() {
+            self.unknown(input, &oracle::read(input));
+        }
         if let (Ok(frame), Ok(due)) = (read, owed) {
             self.passed_on(frame, due);
         }
@@ -714,7 +738,7 @@ impl Checker {
         let octets = self.port.output().to_vec();
         let mut owed = frame.clone();
         owed.route[due].has_repeated = true;
-        let rust = oracle::read(&octets);
+        let rust = oracle::known(&octets, oracle::read(&octets));
         if rust.as_ref() != Ok(&owed) {
             self.differ("the relayed frame, read by the Rust", || format!("{:?}", owed), |_| format!("{:?}", rust));
         }
@@ -936,7 +960,7 @@ impl Checker {
         let number = self.port.decode(Entry::Decoder, input, FLAT, PLACES);
         let (info_at, info_len) = (self.port.sizes()[PLACES - 2], self.port.sizes()[PLACES - 1]);
         let port = if number == 0 { Ok(self.shown(input, info_at, info_len)) } else { Err(number) };
-        Both { octets: input.to_vec(), canonical, port, info_at, rust: read_old(input) }
+        Both { octets: input.to_vec(), canonical, port, info_at, rust: limited(input, oracle::read(input)) }
     }
 
     /// What the last decode left of this input.
@@ -973,19 +997,20 @@ impl Checker {
     }
 
     /// Two inputs that differ in these bits. What the Rust's frame lacks is reserved bits and the octet of a layer 3 identifier, and nothing
-    /// else.
+    /// else. A kind that it does not know has no frame of the Rust's at all.
     fn of_one_length(&mut self, way: Way, one: &Both, other: &Both, bits: &[(usize, u8)]) {
         let excepted = domain::excepted(&one.octets);
         let lacked = domain::lacked(&one.octets, &other.octets);
         let same = domain::are_among(bits, &excepted);
-        let same_by_rust = domain::are_among(bits, &[excepted, lacked].concat());
+        let is_known = domain::added_in(&one.octets).is_none();
+        let same_by_rust = is_known && domain::are_among(bits, &[excepted, lacked].concat());
         let say = |same: bool| format!("{} where the bits {} differ", if same { "the same" } else { "not the same" }, show::bits(bits));
         if one.agrees(other) != same || same && one.info_at != other.info_at {
             let says = |_: &Checker| format!("{} and {}", show::beside(one), show::beside(other));
             self.differ("frame and info of two inputs", || say(same), says);
         }
         if one.agrees_by_rust(other) != same_by_rust {
-            self.differ("B6 and B7, in the Rust's frames of two inputs", || say(same_by_rust), |_| format!("the Rust: {}", say(!same_by_rust)));
+            self.differ("B6, B7 and B9, in the Rust's frames of two inputs", || say(same_by_rust), |_| format!("the Rust: {}", say(!same_by_rust)));
         }
         if one.agrees_by_rust(other) && !one.agrees(other) {
             self.seen.pairs.only_port(way, &one.octets, bits);
@@ -1032,10 +1057,14 @@ impl Checker {
     }
 }
 
-/// What the entry for old captures owes: the Rust's frame, which stands behind any nulls, or the number of its refusal; 9 for nine or more
-/// repeaters.
+/// What the entry for old captures owes: the frame that stands behind any nulls, or the number of its refusal; 9 for nine or more repeaters.
 pub fn read_old(input: &[u8]) -> Result<Ax25Frame, u32> {
-    match oracle::read(input) {
+    limited(input, oracle::known(input, oracle::read(input)))
+}
+
+/// What was read, or the number of its refusal; 9 for nine or more repeaters.
+fn limited(input: &[u8], read: Result<Ax25Frame, Refusal>) -> Result<Ax25Frame, u32> {
+    match read {
         _ if domain::repeaters(input) > flat::REPEATERS => Err(9),
         read => read.map_err(|refusal| refusal.number),
     }

@@ -262,14 +262,14 @@ impl Class<'_> {
         self.done(found, || (name.to_string(), "compare test".to_string()));
     }
 
-    /// A class of its own statement: it passes where nothing is missing.
-    fn missing(&mut self, missing: Vec<String>) {
-        let found = missing.into_iter().map(|what| Difference {
-            what,
-            owed: "met at least once in this run".to_string(),
-            port: "never met".to_string(),
-        });
-        let found = found.collect();
+    /// A class of its own statement: it passes where nothing is missing, and nothing is there that is owed no more.
+    fn missing(&mut self, missing: Vec<String>, stray: Vec<String>) {
+        let says = |whats: Vec<String>, owed: &'static str, port: &'static str| {
+            whats.into_iter().map(move |what| Difference { what, owed: owed.to_string(), port: port.to_string() })
+        };
+        let missing = says(missing, "met at least once in this run", "never met");
+        let stray = says(stray, "never owed (document 02, M-109)", "what was owed is wrong, so that the port was held to it");
+        let found = missing.chain(stray).collect();
         self.other("the whole run", found);
     }
 }
@@ -289,8 +289,8 @@ pub fn test(scale: usize, seed: u64, mut report: Report) -> Report {
     kiss_streams(&mut checker, &mut report, scale, &mut seeds);
     unseen(&mut checker, &mut report, scale, &mut seeds);
     if report.only.is_none() {
-        let missing = checker.seen.missing();
-        class(&mut checker, &mut report, "met: every number, kind, mark, PID, layer 3 octet, reserved bits, route length, room, search, old capture, due place, KISS port, cut, changed bit, pair and listed difference", |c| c.missing(missing));
+        let (missing, stray) = (checker.seen.missing(), checker.seen.stray());
+        class(&mut checker, &mut report, "met: every number but 6, kind, mark, PID, layer 3 octet, reserved bits, route length, room, search, old capture, due place, KISS port, cut, changed bit, pair, listed difference, and kind that the Rust does not know, at each entry", |c| c.missing(missing, stray));
     } else {
         println!("left out: met, which is of all classes together");
     }
@@ -310,6 +310,7 @@ fn octets(checker: &mut Checker, report: &mut Report, scale: usize, seeds: &mut 
     run("octets: every string of 0 to 2", &mut |each| inputs::short(each));
     run("octets: the example's addresses with every content of 2", &mut |each| inputs::framed(|each| inputs::pairs(each), each));
     run("octets: every control octet, content of 0 to 6", &mut |each| inputs::framed(|each| inputs::controls(a, each), each));
+    run("octets: kinds that the Rust does not know, content of 1 to 300, 0 to 9 repeaters, nulls, spans", &mut |each| inputs::unknown(each));
     run("octets: FRMR, every flag, number and rejected control", &mut |each| inputs::framed(|each| inputs::frmr(each), each));
     run("octets: every pair of the first two SSID octets", &mut |each| inputs::ssid_pairs(each));
     run("octets: every octet at every address place, 0 to 9 repeaters", &mut |each| inputs::address_places(each));
@@ -326,8 +327,8 @@ fn octets(checker: &mut Checker, report: &mut Report, scale: usize, seeds: &mut 
     run("octets: long inputs, to 131,074", &mut |each| inputs::long(f, each));
 }
 
-/// Every length of info to 100 with every gap to 40; then every PID of I and UI, seeded frames, damaged ones, and inputs that each
-/// search refuses.
+/// Every length of info to 100 with every gap to 40; then every PID of I and UI, the kinds that the Rust does not know with 0 to 40 octets
+/// behind them, seeded frames, damaged ones, and inputs that each search refuses.
 fn side_by_side(checker: &mut Checker, report: &mut Report, scale: usize, seed: u64) {
     class(checker, report, "octets: input and output side by side", |class| {
         for length in 0..=100 {
@@ -343,6 +344,9 @@ fn side_by_side(checker: &mut Checker, report: &mut Report, scale: usize, seed: 
         let mut each = |input: &[u8]| class.beside(input, &Beside { gap: gaps.within(0, 40), output_first: gaps.chance(2) });
         for pid in 0..=255 {
             [0x00, 0x03].iter().for_each(|&control| each(&inputs::with_content(&[control, pid, 0x41])));
+        }
+        for length in 0..=40 {
+            inputs::added(length, &mut |content| each(&inputs::with_content(content)));
         }
         inputs::frames(seed, 20_000 * scale, &mut each);
         inputs::damaged(seed, 10_000 * scale, &mut each);
@@ -437,6 +441,9 @@ fn contents(checker: &mut Checker, report: &mut Report, scale: usize, seeds: &mu
     };
     run("content alone: every content of 2", &mut |each| inputs::pairs(each));
     run("content alone: every control octet, content of 0 to 6", &mut |each| inputs::controls(a, each));
+    run("content alone: kinds that the Rust does not know, content of 1 to 300", &mut |each| {
+        (0..300).for_each(|length| inputs::added(length, each));
+    });
     run("content alone: seeded", &mut |each| inputs::seeded_contents(b, 60_000 * scale, each));
     class(checker, report, "content written alone: each kind, its fields, cut short, info where there is none", |class| {
         records::contents(c, 20_000 * scale, &mut |content, info| class.content_record(content, info));
@@ -469,6 +476,7 @@ fn frames_passed_on(checker: &mut Checker, report: &mut Report, scale: usize, se
     run("relay: two repeaters and every control octet, content of 0 to 6", &mut |each| {
         inputs::controls(a, &mut |content| each(&inputs::with_repeaters(2, content)));
     });
+    run("relay: kinds that the Rust does not know, content of 1 to 300, 0 to 9 repeaters, nulls, spans", &mut |each| inputs::unknown(each));
     run("relay: leading nulls, prefixes, every bit damaged, long inputs", &mut |each| {
         inputs::leading_nulls(each);
         inputs::prefixes(each);

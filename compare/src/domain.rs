@@ -3,7 +3,7 @@
 //! Rust nor the port is asked.
 
 use crate::flat::{self, Flat, FlatAddress, ADDRESS, GROUP, ONES, REPEATERS, RESERVED, SSID};
-use crate::flat::{COUNT, ENTRY, FRMR, KIND, PID_OCTET, ROUTE, RR};
+use crate::flat::{COUNT, ENTRY, KIND, PID_OCTET, ROUTE, SABME, SREJ, TEST, XID};
 
 /// A difference that docs/DIFFERENCES.md lists.
 #[derive(Clone, Copy, PartialEq, Debug)]
@@ -24,9 +24,11 @@ pub enum Listed {
     B7,
     /// Nulls before a frame.
     B8,
+    /// A kind that the Rust does not know.
+    B9,
 }
 
-pub const LISTED: [(Listed, &str); 8] = [
+pub const LISTED: [(Listed, &str); 9] = [
     (Listed::B1, "nine or more repeaters"),
     (Listed::B2, "text with an octet of 128 or more"),
     (Listed::B3, "a record that the Rust can't hold"),
@@ -35,10 +37,62 @@ pub const LISTED: [(Listed, &str); 8] = [
     (Listed::B6, "a layer 3 identifier written as the octet it carries, where the Rust writes 10 hex"),
     (Listed::B7, "reserved bits written as they were read, or as the record has them, where the Rust writes ones"),
     (Listed::B8, "nulls before a frame refused by 10, where the Rust skips them"),
+    (Listed::B9, "SREJ, SABME, XID and TEST read and written, where the Rust answers 6 and 7 and has no such records"),
 ];
 
 /// What the Rust writes for every octet of the layer 3 class.
 pub const RUST_LAYER_3: u8 = 0x10;
+
+/// A kind that the port has and the Rust does not (document 02, M-109): its control octet with P/F and N(R) zero, and the number by which
+/// the Rust refuses it, which is document 01's for an S and for a U that it does not recognise.
+pub struct Added {
+    pub kind: u8,
+    pub control: u8,
+    pub refusal: u32,
+}
+
+pub const ADDED: [Added; 4] = [
+    Added { kind: SREJ, control: 0x0D, refusal: 6 },
+    Added { kind: SABME, control: 0x6F, refusal: 7 },
+    Added { kind: XID, control: 0xAF, refusal: 7 },
+    Added { kind: TEST, control: 0xE3, refusal: 7 },
+];
+
+/// The bit of P/F in a control octet.
+pub const P_F: u8 = 0x10;
+
+/// The kind of this control octet where it is one of these: an S by its low four bits, a U by all but P/F.
+pub fn added(control: u8) -> Option<&'static Added> {
+    let bare = match control & 3 {
+        1 => control & 0x0F,
+        3 => control & !P_F,
+        _ => return None,
+    };
+    ADDED.iter().find(|added| added.control == bare)
+}
+
+pub fn poll_of(control: u8) -> bool {
+    control & P_F != 0
+}
+
+/// N(R) in the control octet of one of these kinds: SREJ alone has it.
+pub fn receive_of(kind: u8, control: u8) -> u8 {
+    if kind == SREJ { control >> 5 } else { 0 }
+}
+
+/// The control octet of such a kind; none of another.
+pub fn added_control(kind: u8, poll: bool, receive: u8) -> Option<u8> {
+    let added = ADDED.iter().find(|added| added.kind == kind)?;
+    let receive = if kind == SREJ { receive % 8 } else { 0 };
+    Some(added.control | if poll { P_F } else { 0 } | receive << 5)
+}
+
+/// Which of these kinds an input has, where its content is looked at: behind an address field of a span of 14 or more.
+pub fn added_in(input: &[u8]) -> Option<&'static Added> {
+    let (start, end) = field(input)?;
+    let (_, control) = control_of(input)?;
+    added(control).filter(|_| end - start + 1 >= 14)
+}
 
 /// The reserved bits in the seventh octet of a group, 6 and 5, which the Rust writes as ones.
 pub const RESERVED_BITS: u8 = 0x60;
@@ -147,10 +201,10 @@ pub fn same_station(one: &FlatAddress, other: &FlatAddress) -> bool {
 
 /// Whether there is info beside a kind that has none.
 pub fn has_needless(record: &Flat, info: &[u8]) -> bool {
-    (RR..=FRMR).contains(&record[KIND]) && !info.is_empty()
+    !flat::has_info(record[KIND]) && !info.is_empty()
 }
 
-/// The number that refuses to write a record whatever the room: 0 where the Rust can hold it.
+/// The number that refuses to write a record whatever the room: 0 where the Rust can hold it, or could but for its kind.
 pub fn record_number(record: &Flat, info: &[u8]) -> u32 {
     if usize::from(record[COUNT]) > REPEATERS {
         21
@@ -214,7 +268,7 @@ pub fn mark_at(input: &[u8], place: usize) -> usize {
 pub type Bits = Vec<(usize, u8)>;
 
 /// The control octet of an input that has one, and its place: it follows the address field.
-fn control_of(input: &[u8]) -> Option<(usize, u8)> {
+pub fn control_of(input: &[u8]) -> Option<(usize, u8)> {
     let at = field(input)?.1 + 1;
     input.get(at).map(|&control| (at, control))
 }

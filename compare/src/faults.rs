@@ -1,20 +1,21 @@
 //! Deliberate faults, for `compare/faults` alone: each call of the port is wrapped, and spoils what the proved code answered by the
 //! fault that COMPARE_FAULT names. The linker puts these in the calls' places (`--wrap`) and leaves the port's own under `__real_`.
-//! Five faults are the Rust's: in its writing it is held to an octet, and to bits, that the port does not owe, and in its reading to what
-//! its frame lacks and to skipping nulls.
+//! Some faults are the Rust's: in its writing it is held to an octet, and to bits, that the port does not owe, and in its reading to what
+//! its frame lacks, to skipping nulls, and to refusing the kinds that it does not know.
 
 use crate::check::{padded, with_plain_addresses};
 use crate::domain::{self, RESERVED_BITS, RUST_LAYER_3};
 use crate::flat::{self, Flat, ABSENT, COMMAND, COUNT, KIND, MARK, POLL, RECEIVE, RNR, RR, SSID, UI, UNKNOWN_CONTENT};
 use crate::flat::{ENTRY, GROUP, ONES, PID, PID_LAYER_3, PID_OCTET, PID_UNKNOWN, REJECTED_CONTROL, REPEATERS, RESERVED, ROUTE, SOURCE};
+use crate::flat::{REJ, SABM, SABME, SREJ, TEST, XID};
 use crate::kiss::{FEND, FESC, LONGEST, PORTS, TFEND, TFESC};
 use crate::port::{Packet, State};
-use ax25::frame::{Ax25Frame, FrameContent, ProtocolIdentifier};
+use ax25::frame::{Ax25Frame, FrameContent, FrameParseError, ProtocolIdentifier};
 use std::slice::{from_raw_parts, from_raw_parts_mut};
 use std::sync::atomic::{AtomicUsize, Ordering};
 
 /// What each fault does, from 1 on, and words in the name of a class that has to find it.
-const FAULTS: [(&str, &str); 203] = [
+const FAULTS: [(&str, &str); 277] = [
     ("re-encoding writes the address field, then answers 24", "every prefix"),
     ("re-encoding writes the address field, then refuses the content", "every prefix"),
     ("re-encoding into no room at all answers 0", "every prefix"),
@@ -218,6 +219,80 @@ const FAULTS: [(&str, &str); 203] = [
     ("the loader's call for old captures passes over 01 at the last place of an eight", "search by eights"),
     ("the loader's call for old captures passes over the end at place 15 behind nulls", "search by eights"),
     ("the Rust reads the last of nine repeaters otherwise behind nulls", "octets: long inputs"),
+    ("decoding answers 6 to SREJ, as the Rust does", "example's addresses"),
+    ("decoding answers 7 to SABME, as the Rust does", "example's addresses"),
+    ("decoding answers 7 to XID, as the Rust does", "example's addresses"),
+    ("decoding answers 7 to TEST, as the Rust does", "example's addresses"),
+    ("decoding answers 6 to SREJ behind nine repeaters", "octets: kinds that the Rust does not know"),
+    ("decoding answers 7 to a null before SABME", "octets: kinds that the Rust does not know"),
+    ("decoding reads SREJ as REJ", "example's addresses"),
+    ("decoding reads SABME as SABM", "example's addresses"),
+    ("decoding reads XID as TEST", "example's addresses"),
+    ("decoding reads TEST as XID where P/F is set", "example's addresses"),
+    ("decoding passes over SREJ's P/F", "example's addresses"),
+    ("decoding passes over SREJ's highest N(R)", "octets: kinds that the Rust does not know"),
+    ("decoding shows N(R) in SABME", "example's addresses"),
+    ("decoding passes over a PID in XID: info one octet late", "octets: kinds that the Rust does not know"),
+    ("decoding gives TEST no info", "octets: kinds that the Rust does not know"),
+    ("decoding gives XID's info 255 octets at most", "octets: kinds that the Rust does not know"),
+    ("decoding gives SREJ its tail as info", "octets: kinds that the Rust does not know"),
+    ("decoding gives XID without info no place for it", "octets: kinds that the Rust does not know"),
+    ("decoding refuses XID without info by 5", "octets: kinds that the Rust does not know"),
+    ("decoding refuses SABME with a tail by 7", "octets: kinds that the Rust does not know"),
+    ("the loader's decode answers 6 to SREJ", "example's addresses"),
+    ("the loader's decode answers 7 to TEST with info", "octets: kinds that the Rust does not know"),
+    ("an old capture of SREJ is refused by 6", "octets: kinds that the Rust does not know"),
+    ("an old capture of XID behind nulls is refused by 7", "octets: kinds that the Rust does not know"),
+    ("XID's info in an old capture is counted from its frame", "octets: kinds that the Rust does not know"),
+    ("the loader's call for old captures answers 7 to SABME", "octets: kinds that the Rust does not know"),
+    ("content alone answers 6 to SREJ", "content alone: every content"),
+    ("content alone answers 7 to TEST without info", "content alone: kinds that the Rust does not know"),
+    ("content alone reads XID as TEST", "content alone: every content"),
+    ("SREJ is not canonical", "octets: kinds that the Rust does not know"),
+    ("SREJ with a tail is canonical", "example's addresses"),
+    ("SABME with a tail is canonical", "example's addresses"),
+    ("XID with info is not canonical", "example's addresses"),
+    ("TEST without info is not canonical", "octets: kinds that the Rust does not know"),
+    ("TEST is canonical where both marks are set", "octets: every bit of good"),
+    ("the length of XID is that without its info", "example's addresses"),
+    ("the length of SREJ is that with its tail", "example's addresses"),
+    ("re-encoding answers 6 to SREJ", "example's addresses"),
+    ("re-encoding writes SREJ as REJ", "example's addresses"),
+    ("re-encoding writes SABME without P/F", "example's addresses"),
+    ("re-encoding changes XID's first info octet", "example's addresses"),
+    ("re-encoding into an output close by changes TEST's last info octet", "input and output side by side"),
+    ("writing SREJ writes REJ", "records: every kind"),
+    ("writing SREJ takes 7 for N(R) over 7", "records: every kind"),
+    ("writing SABME writes N(R)", "records: every kind"),
+    ("writing XID writes a PID", "records: every kind"),
+    ("writing TEST refuses info by 23", "records: every kind"),
+    ("writing SABME takes info", "records: those that the Rust can't hold"),
+    ("writing SREJ with info answers 24 before 23", "records: those that the Rust can't hold"),
+    ("writing TEST touches room that is short", "records: every kind"),
+    ("writing XID goes on after its end", "records: every kind"),
+    ("writing XID writes its info alone", "records: every kind"),
+    ("content written alone: TEST refuses info by 23", "content written alone"),
+    ("content written alone: SREJ writes REJ", "content written alone"),
+    ("content written alone: SABME takes info", "content written alone"),
+    ("a record of XID is read as unknown content", "records: every kind"),
+    ("a record of kind 14 is read as TEST", "records: every kind"),
+    ("a record read again forgets SREJ's N(R)", "records: every kind"),
+    ("a record read again keeps N(R) beside SABME", "records: every kind"),
+    ("the relay refuses SREJ by 6", "relay: kinds that the Rust does not know"),
+    ("the relay refuses XID by 7 where it is not ours", "relay: kinds that the Rust does not know"),
+    ("the relay changes SABME's tail", "relay: kinds that the Rust does not know"),
+    ("the relay looks at the route before 10, of TEST alone", "relay: kinds that the Rust does not know"),
+    ("decoding leaves out XID's last info octet", "unseen: every bit"),
+    ("decoding passes over SABME's P/F", "unseen: every bit"),
+    ("decoding shows REJ where SREJ's N(R) is 0", "unseen: every bit"),
+    ("the Rust reads SREJ as RR", "example's addresses"),
+    ("the Rust refuses SREJ by 7", "example's addresses"),
+    ("the Rust refuses TEST by 6", "example's addresses"),
+    ("the Rust reads XID as UI", "octets: kinds that the Rust does not know"),
+    ("the Rust refuses SABME behind nulls by 6", "octets: kinds that the Rust does not know"),
+    ("the Rust refuses XID by 6 in content alone", "content alone: every content"),
+    ("the Rust reads TEST as RR on its way", "relay: kinds that the Rust does not know"),
+    ("the Rust reads SREJ in a pair", "unseen: every bit"),
 ];
 
 /// A line for each fault: its number, the words, and what it does.
@@ -248,9 +323,9 @@ extern "C" {
     fn __real_ax25_kiss_read(input: *const u8, input_len: usize, out: *mut u8, out_len: usize, port: *mut u8, length: *mut usize) -> u32;
     fn __real_ax25_kiss_write(port: u8, input: *const u8, input_len: usize, out: *mut u8, out_len: usize, length: *mut usize) -> u32;
     fn __real_ax25_kiss_feed(stream: *mut State, piece: *const u8, piece_len: usize, packet: *mut Packet) -> usize;
-    fn __real_probe_decode(input: *const u8, input_len: usize, record: *mut u8, record_len: usize, places: *mut usize, places_len: usize) -> u32;
-    fn __real_probe_decode_old(input: *const u8, input_len: usize, record: *mut u8, record_len: usize, places: *mut usize, places_len: usize) -> u32;
-    fn __real_probe_encode(record: *const u8, record_len: usize, info: *const u8, info_len: usize, out: *mut u8, out_len: usize, length: *mut usize, length_len: usize) -> u32;
+    fn __real_probe_decode(mode: u32, input: *const u8, input_len: usize, record: *mut u8, record_len: usize, places: *mut usize, places_len: usize) -> u32;
+    fn __real_probe_decode_old(mode: u32, input: *const u8, input_len: usize, record: *mut u8, record_len: usize, places: *mut usize, places_len: usize) -> u32;
+    fn __real_probe_encode(mode: u32, record: *const u8, record_len: usize, info: *const u8, info_len: usize, out: *mut u8, out_len: usize, length: *mut usize, length_len: usize) -> u32;
     fn __real_probe_again(given: *const u8, given_len: usize, record: *mut u8, record_len: usize) -> u32;
     fn __real_probe_from_parts(callsign: *const u8, callsign_len: usize, ssid: u8, address: *mut u8, address_len: usize) -> u32;
     fn __real_probe_from_str(text: *const u8, text_len: usize, address: *mut u8, address_len: usize) -> u32;
@@ -259,8 +334,8 @@ extern "C" {
     fn __real_probe_print(address: *const u8, address_len: usize, out: *mut u8, out_len: usize, length: *mut usize, length_len: usize) -> u32;
     fn __real_probe_hops(record: *const u8, record_len: usize, numbers: *mut usize, numbers_len: usize) -> u32;
     fn __real_probe_same_station(one: *const u8, one_len: usize, other: *const u8, other_len: usize) -> u32;
-    fn __real_probe_content(input: *const u8, input_len: usize, content: *mut u8, content_len: usize) -> u32;
-    fn __real_probe_content_encode(content: *const u8, content_len: usize, info: *const u8, info_len: usize, out: *mut u8, out_len: usize, length: *mut usize, length_len: usize) -> u32;
+    fn __real_probe_content(mode: u32, input: *const u8, input_len: usize, content: *mut u8, content_len: usize) -> u32;
+    fn __real_probe_content_encode(mode: u32, content: *const u8, content_len: usize, info: *const u8, info_len: usize, out: *mut u8, out_len: usize, length: *mut usize, length_len: usize) -> u32;
 }
 
 /// Whether two buffers stand side by side, as `port::Beside` places them.
@@ -278,6 +353,53 @@ fn spoil(out: &mut [u8]) {
 
 fn octet(record: &[u8], at: usize) -> u8 {
     record.get(at).copied().unwrap_or(0)
+}
+
+/// A kind that the Rust does not know: which one, by its control octet, and how many octets stand behind that. Another input has none.
+struct Unknown {
+    kind: u8,
+    control: u8,
+    behind: usize,
+}
+
+impl Unknown {
+    fn of_content(content: &[u8]) -> Unknown {
+        let known = Unknown { kind: UNKNOWN_CONTENT, control: 0, behind: 0 };
+        let (&control, rest) = match content.split_first() {
+            Some(parts) => parts,
+            None => return known,
+        };
+        domain::added(control).map_or(known, |added| Unknown { kind: added.kind, control, behind: rest.len() })
+    }
+
+    fn of(input: &[u8]) -> Unknown {
+        match (domain::added_in(input), domain::control_of(input)) {
+            (Some(_), Some((at, _))) => Unknown::of_content(&input[at..]),
+            _ => Unknown::of_content(&[]),
+        }
+    }
+
+    /// The number of the first of these faults that is on and is of this kind.
+    fn refused(&self, faults: &[(&str, u8, u32)]) -> Option<u32> {
+        faults.iter().find(|(fault, kind, _)| *kind == self.kind && is(fault)).map(|&(_, _, number)| number)
+    }
+}
+
+/// A control octet of no kind, by which a faulty reader may take one that it does not know: the port refuses it by 7.
+const NO_KIND: u8 = 0x07;
+
+/// An input as a reader takes it that refuses this kind.
+fn not_known(input: &[u8], refused: Option<u32>) -> Vec<u8> {
+    let mut taken = input.to_vec();
+    if let (Some(_), Some((at, _))) = (refused, domain::control_of(input)) {
+        taken[at] = NO_KIND;
+    }
+    taken
+}
+
+/// The number that it then gives.
+fn numbered(number: u32, refused: Option<u32>) -> u32 {
+    refused.filter(|_| number == 7).unwrap_or(number)
 }
 
 /// The faults of writing a layer 3 frame, by their names: 10 for its PID, and a bit changed in the octet before its control, in its
@@ -328,8 +450,28 @@ fn misspell_reserved(frame: &mut [u8], names: [&str; 3], [mark, ssid]: [&str; 2]
     }
 }
 
-/// What the Rust read, with something that its frame does not have, or without something that it has.
-pub fn misread_by_rust(mut frame: Ax25Frame, input: &[u8]) -> Ax25Frame {
+/// What the Rust read or refused, otherwise than it does.
+pub fn misread_by_rust(read: Result<Ax25Frame, FrameParseError>, input: &[u8]) -> Result<Ax25Frame, FrameParseError> {
+    let with = |control: u8| {
+        let mut other = input.to_vec();
+        other[domain::control_of(input).map_or(0, |(at, _)| at)] = control;
+        Ax25Frame::from_bytes(&other)
+    };
+    let Unknown { kind, control, behind } = Unknown::of(input);
+    match kind {
+        SREJ if is("the Rust reads SREJ as RR") || is("the Rust reads SREJ in a pair") => with(control & 0xF1),
+        SREJ if is("the Rust refuses SREJ by 7") => Err(FrameParseError::UnrecognisedUFieldType),
+        TEST if is("the Rust refuses TEST by 6") => Err(FrameParseError::UnrecognisedSFieldType),
+        TEST if is("the Rust reads TEST as RR on its way") && domain::repeaters(input) > 0 => with(0x01),
+        XID if is("the Rust reads XID as UI") && behind > 0 => with(0x03),
+        XID if is("the Rust refuses XID by 6 in content alone") => Err(FrameParseError::UnrecognisedSFieldType),
+        SABME if is("the Rust refuses SABME behind nulls by 6") && domain::is_nulled(input) => Err(FrameParseError::UnrecognisedSFieldType),
+        _ => read.map(|frame| misframed_by_rust(frame, input)),
+    }
+}
+
+/// A frame of the Rust's, with something that it does not have, or without something that it has.
+fn misframed_by_rust(mut frame: Ax25Frame, input: &[u8]) -> Ax25Frame {
     let pid = match &mut frame.content {
         FrameContent::Information(i) => Some(&mut i.pid),
         FrameContent::UnnumberedInformation(u) => Some(&mut u.pid),
@@ -358,7 +500,8 @@ fn skipped<'a>(input: &'a [u8], fault: &str) -> &'a [u8] {
     if is(fault) && domain::is_nulled(input) { &input[domain::nulls(input)..] } else { input }
 }
 
-/// A frame as a faulty check might look at it: without a bit of FRMR, without the tail of a kind that has no info, or without its nulls.
+/// A frame as a faulty check might look at it: without a bit of FRMR, without the tail of a kind that has no info, without one of two marks,
+/// or without its nulls.
 fn looked_at(input: &[u8]) -> Vec<u8> {
     let input = skipped(input, "a frame behind nulls is canonical");
     let mut looked_at = input.to_vec();
@@ -367,8 +510,14 @@ fn looked_at(input: &[u8]) -> Vec<u8> {
     if is("FRMR is canonical whatever bit 4 of its first info octet is") && has_excepted(input, 0, 0x10) {
         looked_at[end + 2] &= 0xEF;
     }
-    if is("a frame with a tail is canonical") && control % 2 == 1 && ![0x03, 0x87].contains(&(control & 0xEF)) {
+    if is("a frame with a tail is canonical") && control % 2 == 1 && ![0x03, 0x87, 0xAF, 0xE3].contains(&(control & 0xEF)) {
         looked_at.truncate(end + 2);
+    }
+    match Unknown::of(input).kind {
+        SREJ if is("SREJ with a tail is canonical") => looked_at.truncate(end + 2),
+        SABME if is("SABME with a tail is canonical") => looked_at.truncate(end + 2),
+        TEST if is("TEST is canonical where both marks are set") && looked_at[6] & 0x80 != 0 => looked_at[13] &= 0x7F,
+        _ => {}
     }
     looked_at
 }
@@ -402,7 +551,11 @@ unsafe extern "C" fn __wrap_ax25_decode(input: *const u8, input_len: usize) -> u
         "a search passes over 01 at the last place of an eight",
         "a search passes over the first odd octet at place 15",
     ]);
-    __real_ax25_decode(passed.as_ptr(), passed.len())
+    let unknown = Unknown::of(&passed);
+    let something = if unknown.behind > 0 { "the loader's decode answers 7 to TEST with info" } else { "" };
+    let refused = unknown.refused(&[("the loader's decode answers 6 to SREJ", SREJ, 6), (something, TEST, 7)]);
+    let taken = not_known(&passed, refused);
+    numbered(__real_ax25_decode(taken.as_ptr(), taken.len()), refused)
 }
 
 #[no_mangle]
@@ -414,7 +567,8 @@ unsafe extern "C" fn __wrap_ax25_decode_old_capture(input: *const u8, input_len:
     }
     let end = if domain::is_nulled(octets) { "the loader's call for old captures passes over the end at place 15 behind nulls" } else { "" };
     let passed = passed_over(octets, ["the loader's call for old captures passes over 01 at the last place of an eight", end]);
-    __real_ax25_decode_old_capture(passed.as_ptr(), passed.len())
+    let taken = not_known(&passed, Unknown::of(&passed).refused(&[("the loader's call for old captures answers 7 to SABME", SABME, 7)]));
+    __real_ax25_decode_old_capture(taken.as_ptr(), taken.len())
 }
 
 #[no_mangle]
@@ -425,6 +579,12 @@ unsafe extern "C" fn __wrap_ax25_canonical(input: *const u8, input_len: usize) -
     }
     if is("reserved bits that are not ones are canonical whatever else") && has_clear(octets) {
         return 1;
+    }
+    match Unknown::of(octets) {
+        Unknown { kind: SREJ, .. } if is("SREJ is not canonical") => return 0,
+        Unknown { kind: XID, behind: 1.., .. } if is("XID with info is not canonical") => return 0,
+        Unknown { kind: TEST, behind: 0, .. } if is("TEST without info is not canonical") => return 0,
+        _ => {}
     }
     match domain::layer_3_at(octets) {
         Some(at) if is("layer 3 is canonical as 10 alone") && octets[at] != RUST_LAYER_3 => 0,
@@ -440,13 +600,25 @@ unsafe extern "C" fn __wrap_ax25_canonical(input: *const u8, input_len: usize) -
 #[no_mangle]
 unsafe extern "C" fn __wrap_ax25_reencoded_length(input: *const u8, input_len: usize) -> usize {
     let octets = skipped(from_raw_parts(input, input_len), "the length of a frame behind nulls is the frame's");
-    __real_ax25_reencoded_length(octets.as_ptr(), octets.len())
+    let length = __real_ax25_reencoded_length(octets.as_ptr(), octets.len());
+    match Unknown::of(octets) {
+        Unknown { kind: XID, behind, .. } if length > 0 && is("the length of XID is that without its info") => length - behind,
+        Unknown { kind: SREJ, behind, .. } if length > 0 && is("the length of SREJ is that with its tail") => length + behind,
+        _ => length,
+    }
 }
 
 #[no_mangle]
 unsafe extern "C" fn __wrap_ax25_reencode(input: *const u8, input_len: usize, out: *mut u8, out_len: usize) -> u32 {
     let input = skipped(from_raw_parts(input, input_len), "re-encoding skips nulls");
-    let number = __real_ax25_reencode(input.as_ptr(), input.len(), out, out_len);
+    let refused = Unknown::of(input).refused(&[("re-encoding answers 6 to SREJ", SREJ, 6)]);
+    // What is given otherwise is a copy elsewhere, so an input that is taken as it is stays where it was.
+    let number = if refused.is_some() {
+        let taken = not_known(input, refused);
+        numbered(__real_ax25_reencode(taken.as_ptr(), taken.len(), out, out_len), refused)
+    } else {
+        __real_ax25_reencode(input.as_ptr(), input.len(), out, out_len)
+    };
     let out = from_raw_parts_mut(out, out_len);
     let early = is("re-encoding writes the address field, then answers 24") && number == 24
         || is("re-encoding writes the address field, then refuses the content") && (5..=8).contains(&number);
@@ -467,6 +639,8 @@ unsafe extern "C" fn __wrap_ax25_reencode(input: *const u8, input_len: usize, ou
             ["re-encoding writes 10 for every octet of the layer 3 class", "re-encoding sets the reserved bits"]
         };
         let length = __real_ax25_reencoded_length(input.as_ptr(), input.len());
+        let is_close = close(input, out);
+        misspell_unknown(&mut out[..length], Unknown::of(input), is_close);
         misspell(&mut out[..length], [
             ten,
             "re-encoding a layer 3 frame changes the octet before its control",
@@ -492,6 +666,19 @@ unsafe extern "C" fn __wrap_ax25_reencode(input: *const u8, input_len: usize, ou
     number
 }
 
+/// A frame with a kind that the Rust does not know, as a faulty re-encoding might write it.
+fn misspell_unknown(frame: &mut [u8], unknown: Unknown, is_close: bool) {
+    let last = frame.len() - 1;
+    let control = domain::control_of(frame).map_or(last, |(at, _)| at);
+    match unknown.kind {
+        SREJ if is("re-encoding writes SREJ as REJ") => frame[last] ^= 0x04,
+        SABME if is("re-encoding writes SABME without P/F") => frame[last] &= 0xEF,
+        XID if is("re-encoding changes XID's first info octet") && control < last => frame[control + 1] ^= 0x01,
+        TEST if is("re-encoding into an output close by changes TEST's last info octet") && is_close && control < last => frame[last] ^= 0x01,
+        _ => {}
+    }
+}
+
 #[no_mangle]
 unsafe extern "C" fn __wrap_ax25_relay(callsign: *const u8, callsign_len: usize, ssid: u8, frame: *mut u8, frame_len: usize) -> u32 {
     let octets = from_raw_parts_mut(frame, frame_len);
@@ -499,6 +686,16 @@ unsafe extern "C" fn __wrap_ax25_relay(callsign: *const u8, callsign_len: usize,
     let number = __real_ax25_relay(callsign, callsign_len, ssid, frame, frame_len);
     if domain::is_nulled(&before) {
         return behind_nulls(callsign, callsign_len, ssid, octets, number);
+    }
+    let unknown = Unknown::of(&before);
+    match (unknown.kind, number) {
+        (SREJ, 0 | 41..=43) if is("the relay refuses SREJ by 6") => {
+            octets.copy_from_slice(&before);
+            return 6;
+        }
+        (XID, 42) if is("the relay refuses XID by 7 where it is not ours") => return 7,
+        (SABME, 0) if is("the relay changes SABME's tail") && unknown.behind > 0 => octets[frame_len - 1] ^= 0x01,
+        _ => {}
     }
     if is("the relay answers 42 for 41") && number == 41 || is("the relay answers 42 for 43") && number == 43 {
         return 42;
@@ -553,6 +750,7 @@ unsafe fn behind_nulls(callsign: *const u8, callsign_len: usize, ssid: u8, frame
     match number {
         10 if is("the relay skips nulls") => by_rest,
         10 if is("the relay looks at the route before 10") && by_rest > 40 => by_rest,
+        10 if is("the relay looks at the route before 10, of TEST alone") && by_rest > 40 && Unknown::of(&before).kind == TEST => by_rest,
         22 if is("the relay answers 10 before 22") || is("the relay looks at the frame before our own address") => 10,
         _ => number,
     }
@@ -785,10 +983,19 @@ unsafe fn misnumbered(input: &[u8], number: u32) -> u32 {
 }
 
 #[no_mangle]
-unsafe extern "C" fn __wrap_probe_decode(input: *const u8, input_len: usize, record: *mut u8, record_len: usize, places: *mut usize, places_len: usize) -> u32 {
+unsafe extern "C" fn __wrap_probe_decode(mode: u32, input: *const u8, input_len: usize, record: *mut u8, record_len: usize, places: *mut usize, places_len: usize) -> u32 {
     let octets = from_raw_parts(input, input_len);
     let one = usize::from(is("decoding skips one null") && domain::is_nulled(octets));
-    let number = misnumbered(octets, __real_probe_decode(input.add(one), input_len - one, record, record_len, places, places_len));
+    let unknown = Unknown::of(octets);
+    let refused = not_decoded(&unknown);
+    let taken = not_known(octets, refused);
+    let number = __real_probe_decode(mode, taken.as_ptr().add(one), input_len - one, record, record_len, places, places_len);
+    let number = misnumbered(octets, numbered(number, refused));
+    match (unknown.kind, number) {
+        (SREJ, 9) if is("decoding answers 6 to SREJ behind nine repeaters") => return 6,
+        (SABME, 10) if is("decoding answers 7 to a null before SABME") => return 7,
+        _ => {}
+    }
     let record = from_raw_parts_mut(record, record_len);
     if is("a refused decode leaves a record") && (1..=9).contains(&number) || is("decoding leaves a record with 10") && number == 10 {
         spoil(record);
@@ -803,7 +1010,9 @@ unsafe extern "C" fn __wrap_probe_decode(input: *const u8, input_len: usize, rec
         misread_reserved(record);
         let input = from_raw_parts(input, input_len);
         misread_record(record, input);
+        misread_unknown(record, &unknown);
         misplace_info(from_raw_parts_mut(places, places_len), input);
+        misplace_unknown(from_raw_parts_mut(places, places_len), &unknown, input_len);
         if is("decoding refuses FRMR where the low bit of its second info octet is set") && has_excepted(input, 1, 0x01) {
             return 8;
         }
@@ -814,21 +1023,73 @@ unsafe extern "C" fn __wrap_probe_decode(input: *const u8, input_len: usize, rec
     number
 }
 
+/// By which number a faulty decoder might refuse a kind that the Rust does not know.
+fn not_decoded(unknown: &Unknown) -> Option<u32> {
+    let [info, tail] = if unknown.behind > 0 { ["", "decoding refuses SABME with a tail by 7"] } else { ["decoding refuses XID without info by 5", ""] };
+    unknown.refused(&[
+        ("decoding answers 6 to SREJ, as the Rust does", SREJ, 6),
+        ("decoding answers 7 to SABME, as the Rust does", SABME, 7),
+        ("decoding answers 7 to XID, as the Rust does", XID, 7),
+        ("decoding answers 7 to TEST, as the Rust does", TEST, 7),
+        (info, XID, 5),
+        (tail, SABME, 7),
+    ])
+}
+
+/// The record of such a kind as a faulty decoder might leave it.
+fn misread_unknown(record: &mut [u8], unknown: &Unknown) {
+    match unknown.kind {
+        SREJ if is("decoding reads SREJ as REJ") => record[KIND] = REJ,
+        SREJ if is("decoding shows REJ where SREJ's N(R) is 0") && record[RECEIVE] == 0 => record[KIND] = REJ,
+        SREJ if is("decoding passes over SREJ's P/F") => record[POLL] = 0,
+        SREJ if is("decoding passes over SREJ's highest N(R)") => record[RECEIVE] &= 3,
+        SABME if is("decoding reads SABME as SABM") => record[KIND] = SABM,
+        SABME if is("decoding shows N(R) in SABME") => record[RECEIVE] = unknown.control >> 5,
+        SABME if is("decoding passes over SABME's P/F") => record[POLL] = 0,
+        XID if is("decoding reads XID as TEST") => record[KIND] = TEST,
+        TEST if is("decoding reads TEST as XID where P/F is set") && record[POLL] == 1 => record[KIND] = XID,
+        _ => {}
+    }
+}
+
+/// Info's start and length in an input of such a kind, and of this length, as a faulty decoder might give them.
+fn misplace_unknown(places: &mut [usize], unknown: &Unknown, input_len: usize) {
+    let (start, length) = match places {
+        [.., start, length] => (start, length),
+        _ => return,
+    };
+    match unknown.kind {
+        XID if is("decoding passes over a PID in XID: info one octet late") && *length > 0 => {
+            *start += 1;
+            *length -= 1;
+        }
+        XID if is("decoding gives XID's info 255 octets at most") => *length = (*length).min(255),
+        XID if is("decoding gives XID without info no place for it") && *length == 0 => *start = 0,
+        XID if is("decoding leaves out XID's last info octet") && *length > 0 => *length -= 1,
+        TEST if is("decoding gives TEST no info") => (*start, *length) = (0, 0),
+        SREJ if is("decoding gives SREJ its tail as info") && unknown.behind > 0 => (*start, *length) = (input_len - unknown.behind, unknown.behind),
+        _ => {}
+    }
+}
+
 #[no_mangle]
-unsafe extern "C" fn __wrap_probe_decode_old(input: *const u8, input_len: usize, record: *mut u8, record_len: usize, places: *mut usize, places_len: usize) -> u32 {
+unsafe extern "C" fn __wrap_probe_decode_old(mode: u32, input: *const u8, input_len: usize, record: *mut u8, record_len: usize, places: *mut usize, places_len: usize) -> u32 {
     let octets = from_raw_parts(input, input_len);
     let nulls = domain::nulls(octets);
     if is("an old capture is read by the decoder") {
-        return __real_probe_decode(input, input_len, record, record_len, places, places_len);
+        return __real_probe_decode(mode, input, input_len, record, record_len, places, places_len);
     }
     if is("only one null of an old capture is skipped") && nulls > 1 {
-        return __real_probe_decode(input.add(1), input_len - 1, record, record_len, places, places_len);
+        return __real_probe_decode(mode, input.add(1), input_len - 1, record, record_len, places, places_len);
     }
     let mut taken = octets.to_vec();
     if is("the nulls of an old capture are a part of its first address") && domain::is_nulled(octets) {
         taken[0] = 0x80;
     }
-    let number = __real_probe_decode_old(taken.as_ptr(), input_len, record, record_len, places, places_len);
+    let behind_nulls = if nulls > 0 { "an old capture of XID behind nulls is refused by 7" } else { "" };
+    let refused = Unknown::of(octets).refused(&[("an old capture of SREJ is refused by 6", SREJ, 6), (behind_nulls, XID, 7)]);
+    let taken = not_known(&taken, refused);
+    let number = numbered(__real_probe_decode_old(mode, taken.as_ptr(), input_len, record, record_len, places, places_len), refused);
     let (record, places) = (from_raw_parts_mut(record, record_len), from_raw_parts_mut(places, places_len));
     let short = is("a short record is written for an old capture") && number == 24;
     if short || is("a refused old capture leaves a record") && (1..=9).contains(&number) {
@@ -851,7 +1112,8 @@ fn misplace_behind(places: &mut [usize], number: u32, record: &[u8], nulls: usiz
     };
     match number {
         0 if flat::has_pid(&padded(record)) => *info -= if is("info's start in an old capture is counted from its frame") { nulls } else { 0 },
-        0 if is("info is moved in an old capture of a kind that has none") => *info = nulls,
+        0 if octet(record, KIND) == XID && is("XID's info in an old capture is counted from its frame") => *info -= nulls,
+        0 if is("info is moved in an old capture of a kind that has none") && !flat::has_info(octet(record, KIND)) => *info = nulls,
         1.. if is("info is moved in a refused old capture") => *info = nulls,
         1.. if is("every refusal of an old capture gives a start") => *start = nulls,
         3 if is("3's start in an old capture is counted from its frame") => *start -= nulls,
@@ -935,7 +1197,46 @@ unsafe extern "C" fn __wrap_probe_again(given: *const u8, given_len: usize, reco
     if is("a record read again forgets its reserved bits") && number == 0 {
         flat::places_of(REPEATERS).for_each(|at| record[at + RESERVED] = ONES);
     }
+    if number == 0 {
+        let given = from_raw_parts(given, given_len);
+        match record[KIND] {
+            XID if is("a record of XID is read as unknown content") => record[KIND..KIND + 12].copy_from_slice(&[UNKNOWN_CONTENT, 0, 0, 0, 0, 0, 0, 0, 0, 0, 0, 0]),
+            UNKNOWN_CONTENT if is("a record of kind 14 is read as TEST") => record[KIND] = TEST,
+            SREJ if is("a record read again forgets SREJ's N(R)") => record[RECEIVE] = 0,
+            SABME if is("a record read again keeps N(R) beside SABME") => record[RECEIVE] = octet(given, RECEIVE),
+            _ => {}
+        }
+    }
     number
+}
+
+/// The kind and info of a record as a faulty writer might take them, by these faults: TEST as a kind that has no info, SABME without the
+/// info that it may not have.
+fn mistaken_info<'a>(kind: Option<&mut u8>, info: &'a [u8], [refuses, takes]: [&str; 2]) -> &'a [u8] {
+    match kind {
+        Some(kind) if *kind == TEST && is(refuses) && !info.is_empty() => *kind = SABM,
+        Some(kind) if *kind == SABME && is(takes) => return &[],
+        _ => {}
+    }
+    info
+}
+
+/// What was written of a record of a kind that the Rust does not know, and its length, as a faulty writer might leave them.
+fn miswrite_unknown(record: &[u8], out: &mut [u8], length: &mut usize) {
+    let (kind, receive) = (octet(record, KIND), octet(record, RECEIVE));
+    match kind {
+        SREJ if is("writing SREJ writes REJ") => out[*length - 1] ^= 0x04,
+        SREJ if is("writing SREJ takes 7 for N(R) over 7") && receive > 7 => out[*length - 1] |= 0xE0,
+        SABME if is("writing SABME writes N(R)") => out[*length - 1] |= receive << 5,
+        XID if is("writing XID goes on after its end") => spoil(&mut out[*length..]),
+        XID if is("writing XID writes a PID") && out.len() > *length => {
+            let at = domain::control_of(&out[..*length]).map_or(0, |(at, _)| at + 1);
+            out.copy_within(at..*length, at + 1);
+            out[at] = 0xF0;
+            *length += 1;
+        }
+        _ => {}
+    }
 }
 
 /// A record as a faulty writer might take it: an octet outside the layer 3 class as an unknown PID, which has any octet.
@@ -975,6 +1276,7 @@ fn miswritten(record: &Flat, info: &[u8], number: u32, is_short: bool) -> u32 {
         22 if is("23 comes before 22 for reserved bits over 3") && used && domain::has_needless(record, info) => 23,
         21 if is("22 for reserved bits over 3 comes before 21") && used => 22,
         0 if is("22 refuses reserved bits over 3 where a place is not in use") && unused => 22,
+        23 if is("writing SREJ with info answers 24 before 23") && record[KIND] == SREJ && is_short => 24,
         25 if is("24 comes before 25") && is_short => 24,
         21 if is("25 comes before 21") && domain::is_outside(record) => 25,
         22 if is("25 comes before 22") && domain::is_outside(record) => 25,
@@ -986,15 +1288,23 @@ fn miswritten(record: &Flat, info: &[u8], number: u32, is_short: bool) -> u32 {
 }
 
 #[no_mangle]
-unsafe extern "C" fn __wrap_probe_encode(record: *const u8, record_len: usize, info: *const u8, info_len: usize, out: *mut u8, out_len: usize, length: *mut usize, length_len: usize) -> u32 {
+unsafe extern "C" fn __wrap_probe_encode(mode: u32, record: *const u8, record_len: usize, info: *const u8, info_len: usize, out: *mut u8, out_len: usize, length: *mut usize, length_len: usize) -> u32 {
     let record = from_raw_parts(record, record_len);
     let mut taken = mistaken(record, PID, "the layer 3 octet F0 is written", 0xF0);
     cut_reserved(&mut taken);
-    let number = __real_probe_encode(taken.as_ptr(), record_len, info, info_len, out, out_len, length, length_len);
     let (info, out) = (from_raw_parts(info, info_len), from_raw_parts_mut(out, out_len));
+    if octet(record, KIND) == XID && is("writing XID writes its info alone") {
+        taken[KIND] = UNKNOWN_CONTENT;
+    }
+    let given = mistaken_info(taken.get_mut(KIND), info, ["writing TEST refuses info by 23", "writing SABME takes info"]);
+    let number = __real_probe_encode(mode, taken.as_ptr(), record_len, given.as_ptr(), given.len(), out.as_mut_ptr(), out_len, length, length_len);
+    if number == 0 {
+        miswrite_unknown(record, out, &mut *length);
+    }
     let (kind, large) = (octet(record, KIND), octet(record, RECEIVE) > 7);
     let short = is("writing UnknownContent touches room that is short") && kind == UNKNOWN_CONTENT
         || is("writing RR with N(R) over 7 touches room that is short") && kind == RR && large
+        || is("writing TEST touches room that is short") && kind == TEST
         || is("writing an absent mark touches room that is short") && octet(record, MARK) == ABSENT;
     if number == 24 && length_len > 0 && short || number == 23 && is("23 touches an output close by") && close(info, out) {
         spoil(out);
@@ -1126,14 +1436,25 @@ unsafe extern "C" fn __wrap_probe_same_station(one: *const u8, one_len: usize, o
 }
 
 #[no_mangle]
-unsafe extern "C" fn __wrap_probe_content(input: *const u8, input_len: usize, content: *mut u8, content_len: usize) -> u32 {
-    let number = __real_probe_content(input, input_len, content, content_len);
+unsafe extern "C" fn __wrap_probe_content(mode: u32, input: *const u8, input_len: usize, content: *mut u8, content_len: usize) -> u32 {
+    let octets = from_raw_parts(input, input_len);
+    let unknown = Unknown::of_content(octets);
+    let nothing = if unknown.behind == 0 { "content alone answers 7 to TEST without info" } else { "" };
+    let refused = unknown.refused(&[("content alone answers 6 to SREJ", SREJ, 6), (nothing, TEST, 7)]);
+    let mut taken = octets.to_vec();
+    if refused.is_some() {
+        taken[0] = NO_KIND;
+    }
+    let number = numbered(__real_probe_content(mode, taken.as_ptr(), input_len, content, content_len), refused);
     if is("empty content is 5") && number == 4 {
         return 5;
     }
     let content = from_raw_parts_mut(content, content_len);
     if is("refused content leaves its kind") && number == 8 {
         spoil(content);
+    }
+    if is("content alone reads XID as TEST") && number == 0 && content[0] == XID {
+        content[0] = TEST;
     }
     if is("layer 3 content carries 10") && number == 0 && flat::is_layer_3(&with_plain_addresses(content)) {
         content[PID_OCTET - KIND] = RUST_LAYER_3;
@@ -1142,11 +1463,16 @@ unsafe extern "C" fn __wrap_probe_content(input: *const u8, input_len: usize, co
 }
 
 #[no_mangle]
-unsafe extern "C" fn __wrap_probe_content_encode(content: *const u8, content_len: usize, info: *const u8, info_len: usize, out: *mut u8, out_len: usize, length: *mut usize, length_len: usize) -> u32 {
+unsafe extern "C" fn __wrap_probe_content_encode(mode: u32, content: *const u8, content_len: usize, info: *const u8, info_len: usize, out: *mut u8, out_len: usize, length: *mut usize, length_len: usize) -> u32 {
     let content = from_raw_parts(content, content_len);
-    let taken = mistaken(content, PID - KIND, "layer 3 content is written with the octet 30", 0x30);
-    let number = __real_probe_content_encode(taken.as_ptr(), content_len, info, info_len, out, out_len, length, length_len);
+    let mut taken = mistaken(content, PID - KIND, "layer 3 content is written with the octet 30", 0x30);
+    let faults = ["content written alone: TEST refuses info by 23", "content written alone: SABME takes info"];
+    let given = mistaken_info(taken.get_mut(0), from_raw_parts(info, info_len), faults);
+    let number = __real_probe_content_encode(mode, taken.as_ptr(), content_len, given.as_ptr(), given.len(), out, out_len, length, length_len);
     let out = from_raw_parts_mut(out, out_len);
+    if is("content written alone: SREJ writes REJ") && number == 0 && octet(content, 0) == SREJ {
+        out[0] ^= 0x04;
+    }
     if is("writing content touches room that is short") && number == 24 && length_len > 0 {
         spoil(out);
     }

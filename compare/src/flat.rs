@@ -1,5 +1,9 @@
 //! The flat record: a frame as 102 octets, as the crate `probe` lays it out, and the Rust's frame to it and back.
+//!
+//! Four kinds the Rust does not have: SREJ, SABME, XID and TEST (document 02, M-109). A frame of one of them is here the Rust's frame with
+//! `UnknownContent`, which the Rust never reads and writes as it is: the control octet, and info behind it.
 
+use crate::domain;
 use ax25::frame::*;
 
 /// An address: six characters padded at the end with spaces, the SSID, and the reserved bits as a number.
@@ -50,14 +54,20 @@ pub const I: u8 = 0;
 pub const RR: u8 = 1;
 pub const RNR: u8 = 2;
 pub const REJ: u8 = 3;
-pub const SABM: u8 = 4;
-pub const DISC: u8 = 5;
-pub const DM: u8 = 6;
-pub const UA: u8 = 7;
-pub const FRMR: u8 = 8;
-pub const UI: u8 = 9;
-pub const UNKNOWN_CONTENT: u8 = 10;
-pub const KINDS: [&str; 11] = ["I", "RR", "RNR", "REJ", "SABM", "DISC", "DM", "UA", "FRMR", "UI", "UnknownContent"];
+pub const SREJ: u8 = 4;
+pub const SABM: u8 = 5;
+pub const SABME: u8 = 6;
+pub const DISC: u8 = 7;
+pub const DM: u8 = 8;
+pub const UA: u8 = 9;
+pub const FRMR: u8 = 10;
+pub const UI: u8 = 11;
+pub const XID: u8 = 12;
+pub const TEST: u8 = 13;
+pub const UNKNOWN_CONTENT: u8 = 14;
+pub const KINDS: [&str; 15] = [
+    "I", "RR", "RNR", "REJ", "SREJ", "SABM", "SABME", "DISC", "DM", "UA", "FRMR", "UI", "XID", "TEST", "UnknownContent",
+];
 
 pub const COMMAND: u8 = 0;
 pub const RESPONSE: u8 = 1;
@@ -105,6 +115,11 @@ pub fn of_address(address: &Address) -> FlatAddress {
 
 pub fn has_pid(record: &Flat) -> bool {
     record[KIND] == I || record[KIND] == UI
+}
+
+/// Whether a kind has info, or octets of its own (`UnknownContent`).
+pub fn has_info(kind: u8) -> bool {
+    kind == I || kind >= UI
 }
 
 /// Whether the identifier of a record is `Layer3Impl`.
@@ -163,7 +178,15 @@ fn put_content(flat: &mut Flat, content: &FrameContent) {
             put_pid(flat, UI, &u.pid);
             put_numbers(flat, u.poll_or_final, 0, 0);
         }
-        FrameContent::UnknownContent(_) => flat[KIND] = UNKNOWN_CONTENT,
+        FrameContent::UnknownContent(u) => put_unknown(flat, &u.raw),
+    }
+}
+
+/// Content that the Rust can't have read: one of the kinds that it does not know, by its control octet, or none at all.
+fn put_unknown(flat: &mut Flat, raw: &[u8]) {
+    match raw.first().and_then(|&control| Some((domain::added(control)?.kind, control))) {
+        Some((kind, control)) => put_supervisory(flat, kind, domain::poll_of(control), domain::receive_of(kind, control)),
+        None => flat[KIND] = UNKNOWN_CONTENT,
     }
 }
 
@@ -200,12 +223,15 @@ fn put_frmr(flat: &mut Flat, f: &FrameReject) {
     flat[REJECTED_CONTROL] = f.rejected_control_field_raw;
 }
 
-/// The octets that stand beside the record: info, or those of `UnknownContent`.
+/// The info of a frame that was read; none where its kind has none.
 pub fn info_of(frame: &Ax25Frame) -> Option<&[u8]> {
     match &frame.content {
         FrameContent::Information(i) => Some(&i.info),
         FrameContent::UnnumberedInformation(u) => Some(&u.info),
-        FrameContent::UnknownContent(u) => Some(&u.raw),
+        FrameContent::UnknownContent(u) => {
+            let (&control, info) = u.raw.split_first().expect("a control octet");
+            domain::added(control).filter(|added| has_info(added.kind)).map(|_| info)
+        }
         _ => None,
     }
 }
@@ -254,7 +280,7 @@ pub fn reserved(flat: &Flat) -> impl Iterator<Item = u8> + '_ {
     places(flat).map(|at| flat[at + RESERVED])
 }
 
-/// The Rust's frame of a record that it can hold (see `domain::record_number`), with its info.
+/// The Rust's frame of a record that it can hold, or could but for its kind (see `domain::record_number`), with its info.
 pub fn to_frame(flat: &Flat, info: &[u8]) -> Ax25Frame {
     let mut known = addresses(&in_use(flat)).into_iter();
     let destination = known.next().expect("a destination");
@@ -270,15 +296,34 @@ pub fn to_frame(flat: &Flat, info: &[u8]) -> Ax25Frame {
 }
 
 /// The one form of a record that is read as this frame of the Rust: the frame's record, but for the places not in use, the reserved
-/// bits and the octet of a layer 3 identifier, which only the port's frame has. A flag is 0 or 1 in those places too.
+/// bits and the octet of a layer 3 identifier, which only the port's frame has, and the content of a kind that the Rust does not have. A
+/// flag is 0 or 1 in those places too.
 pub fn settled(flat: &Flat, frame: &Ax25Frame) -> Flat {
     let mut settled = of_frame(frame);
+    if let FrameContent::UnknownContent(_) = frame.content {
+        settled[KIND..].copy_from_slice(&settled_content(flat));
+    }
     for i in frame.route.len()..REPEATERS {
         let (at, mark) = (ROUTE + ENTRY * i, ROUTE + ENTRY * i + ADDRESS);
         settled[at..mark].copy_from_slice(&flat[at..mark]);
         settled[mark] = u8::from(flat[mark] != 0);
     }
     carrying(settled, reserved(flat), flat[PID_OCTET])
+}
+
+/// The one form of content of a kind that the Rust does not have: P/F, and N(R) where it has that.
+fn settled_content(flat: &Flat) -> [u8; FLAT - KIND] {
+    let mut settled = [0; FLAT];
+    settled[KIND] = flat[KIND].min(UNKNOWN_CONTENT);
+    if flat[KIND] < UNKNOWN_CONTENT {
+        settled[POLL] = u8::from(flat[POLL] != 0);
+    }
+    if flat[KIND] == SREJ {
+        settled[RECEIVE] = flat[RECEIVE];
+    }
+    let mut content = [0; FLAT - KIND];
+    content.copy_from_slice(&settled[KIND..]);
+    content
 }
 
 fn to_content(flat: &Flat, info: &[u8]) -> FrameContent {
@@ -297,7 +342,10 @@ fn to_content(flat: &Flat, info: &[u8]) -> FrameContent {
         UA => FrameContent::UnnumberedAcknowledge(UnnumberedAcknowledge { final_bit }),
         FRMR => FrameContent::FrameReject(to_frmr(flat)),
         UI => FrameContent::UnnumberedInformation(UnnumberedInformation { pid: to_pid(flat), info, poll_or_final }),
-        _ => FrameContent::UnknownContent(UnknownContent { raw: info }),
+        kind => {
+            let control = domain::added_control(kind, poll, receive_sequence);
+            FrameContent::UnknownContent(UnknownContent { raw: control.into_iter().chain(info).collect() })
+        }
     }
 }
 

@@ -1,6 +1,6 @@
 //! Octets off the air: all of them where they are short, seeded ones around every boundary, and damaged copies.
 
-use crate::domain;
+use crate::domain::{self, ADDED, P_F};
 use crate::flat::{FlatAddress, GROUP, RESERVED, SSID};
 use crate::rng::Rng;
 
@@ -78,9 +78,56 @@ pub fn contents() -> Vec<Vec<u8>> {
         all.push(vec![0x87 | poll, 0x0B, 0x74, 0x3F]);
         all.push(vec![0x03 | poll, 0xF0, b'O', b'K']);
         all.push(vec![0x03 | poll, 0x20]);
+        all.extend([0xAD, 0x6F, 0xAF, 0xE3].map(|control| vec![control | poll]));
+        all.push(vec![0xAF | poll, 0x82, 0x80, 0x00]);
+        all.push(vec![0xE3 | poll, 0xF0]);
     }
-    all.extend([vec![0x00], vec![0x03], vec![0x0D], vec![0x6F], vec![0x87, 0x01, 0x02], vec![0x01, 0xAA]]);
+    all.extend([vec![0x00], vec![0x03], vec![0x07], vec![0x87, 0x01, 0x02], vec![0x01, 0xAA]]);
     all
+}
+
+/// How many of these have P/F clear: they come first.
+pub const CONTENTS: usize = 18;
+
+/// Each kind that the Rust does not know, P/F both ways and SREJ with each N(R), with so many octets behind its control octet.
+pub fn added(length: usize, each: Each) {
+    let behind: Vec<u8> = (0..length).map(|i| (0xF0 + 37 * i) as u8).collect();
+    for added in &ADDED {
+        for numbers in if added.refusal == 6 { 0..8 } else { 0..1 } {
+            for poll in [0, P_F] {
+                each(&[&[added.control | poll | numbers << 5], &behind[..]].concat());
+            }
+        }
+    }
+}
+
+/// The same behind none to nine repeaters, of which every second one is marked, none, all but the last, or all; behind nulls; and behind an
+/// address field of each span from 1 to 22.
+pub fn unknown(each: Each) {
+    for length in (0..12).chain([100, 255, 256, 257, 300]) {
+        for count in 0..=9 {
+            added(length, &mut |content| {
+                each(&with_repeaters(count, content));
+                each(&before_the_last(count, content));
+                [false, true].iter().for_each(|&marked| each(&with_route((0..count).map(|i| (i, marked)), content)));
+            });
+        }
+        for nulls in [1, 2, 7, 8, 9] {
+            added(length, &mut |content| each(&behind(nulls, &with_repeaters(2, content))));
+        }
+    }
+    for span in 1..=22 {
+        added(2, &mut |content| {
+            let mut input = with_repeaters(1, &[]);
+            input.resize(22, 0x84);
+            input[..span - 1].iter_mut().for_each(|octet| *octet &= 0xFE);
+            input.truncate(span);
+            input[span - 1] |= 1;
+            each(&[&input[..], content].concat());
+            each(&[&input[..], &content[..1]].concat());
+            each(&input);
+        });
+    }
 }
 
 /// Frames to damage: each content behind none, one, two and eight repeaters.
@@ -373,7 +420,7 @@ pub fn long(seed: u64, each: Each) {
         each(&far_end);
         each(&far_end[..size]);
         for count in [0, 2, 8, 9] {
-            for control in [0x00, 0x01, 0x03, 0x87] {
+            for control in [0x00, 0x01, 0x03, 0x87, 0x0D, 0xAF] {
                 let mut input = with_repeaters(count, &[control, 0xF0]);
                 input.extend(rng.octets(size.saturating_sub(input.len())));
                 each(&input);
@@ -447,13 +494,13 @@ fn group(rng: &mut Rng) -> [u8; 7] {
 
 fn seeded_content(rng: &mut Rng, length: usize) -> Vec<u8> {
     const NAMED: [u8; 16] = [0x01, 0x06, 0x07, 0x08, 0xC3, 0xC4, 0xCA, 0xCB, 0xCC, 0xCD, 0xCE, 0xCF, 0xF0, 0xFF, 0x10, 0x20];
-    const CONTROLS: [u8; 10] = [0x03, 0x00, 0x01, 0x05, 0x09, 0x2F, 0x43, 0x0F, 0x63, 0x87];
+    const CONTROLS: [u8; 14] = [0x03, 0x00, 0x01, 0x05, 0x09, 0x2F, 0x43, 0x0F, 0x63, 0x87, 0x0D, 0x6F, 0xAF, 0xE3];
     let mut content = rng.octets(length);
     if length > 0 && !rng.chance(5) {
         let control = *rng.pick(&CONTROLS);
         content[0] = match control {
             0x00 => rng.octet() & 0xFE,
-            0x01 | 0x05 | 0x09 => control | (rng.octet() & 0xF0),
+            0x01 | 0x05 | 0x09 | 0x0D => control | (rng.octet() & 0xF0),
             _ => control | (rng.octet() & 0x10),
         };
         if control == 0x87 && !rng.chance(3) {

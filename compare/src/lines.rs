@@ -14,7 +14,7 @@ pub const HEADING: &str = "\
 # Inputs and the answers that are owed to them, by the Rust crate ax25 0.4.0, unchanged. Made by 'compare/build' and
 # 'target/compare/compare replay-list'; never edited by hand. Where a heading says 'document 01', the Rust has no such answer, and
 # the lines under it were worked out from that paper's rules. So is what is left in lent octets, everywhere. Where it says
-# 'document 02', they were worked out from what the Rust decodes and that paper's rules (M-100, M-102, M-105, M-106 and M-108).
+# 'document 02', they were worked out from what the Rust decodes and that paper's rules (M-100, M-102, M-105, M-106, M-108, M-109).
 # One octet is nowhere the Rust's: for every PID of the layer 3 class (bits 5 and 4 are 01 or 10) the Rust writes 10 hex, and its
 # identifier holds no octet. By document 02 (M-105) the octet that was read, or that stands in the record, is the one that is written,
 # on every line, and canonical is 1 where what is so written is the input. Nor are two bits of every group, the reserved ones (6 and 5
@@ -23,11 +23,14 @@ pub const HEADING: &str = "\
 # Nor is 10: the Rust skips leading nulls and reads what follows. By document 02 (M-108) such an input is refused, on every line of D and
 # of R, unless it is all nulls. An old capture, on lines of O, is what the Rust reads, or 9 as on other lines; beside every input of D
 # that starts with a null stands the same of O.
+# Nor are SREJ, SABME, XID and TEST, which the Rust refuses by 6 and 7. By document 02 (M-109) they are read and written, on every line:
+# addresses and marks as the Rust has them where RR stands in their place, and the control octet and info by that paper. All lines are of
+# the short mode, in which sequence numbers are modulo 8: the Rust has no other.
 # Words are separated by one space; octets are hex digits, and - is none of them; numbers are decimal. A record is 102 octets:
 # destination and source of 8 each (six characters, the SSID, and the reserved bits as a number, bit 6 the higher); eight places of 9
 # (an address and its mark); the route count; the mark (0 Command, 1 Response, 2 absent); then the content's 12: kind (0 I, 1 RR,
-# 2 RNR, 3 REJ, 4 SABM, 5 DISC, 6 DM, 7 UA, 8 FRMR, 9 UI, 10 unknown), PID case (0 layer 3, 15 unknown) and octet (of these two, else
-# 0), P/F, N(R), N(S), Z, Y, X, W, FRMR's response, the rejected control octet.
+# 2 RNR, 3 REJ, 4 SREJ, 5 SABM, 6 SABME, 7 DISC, 8 DM, 9 UA, 10 FRMR, 11 UI, 12 XID, 13 TEST, 14 unknown), PID case (0 layer 3, 15
+# unknown) and octet (of these two, else 0), P/F, N(R), N(S), Z, Y, X, W, FRMR's response, the rejected control octet.
 # Octets that are lent are EE before the call. Behind a number stands what it left there: a dot where it touched none, else all of
 # them, and three more after them, which have to stay. A frame to be relayed is lent itself, and stands there untouched too; a dot
 # where it is empty.
@@ -72,9 +75,9 @@ impl List {
     }
 
     pub fn decode(&mut self, input: &[u8]) {
-        let rust = oracle::read(input);
-        let owed = oracle::owed(input, oracle::owed_of_old(input, &rust));
-        let octets = match (&rust, &owed.record) {
+        let read = oracle::known(input, oracle::read(input));
+        let owed = oracle::owed(input, oracle::owed_of_old(input, &read));
+        let octets = match (&read, &owed.record) {
             (Ok(frame), Some(record)) => oracle::written(frame, record).octets,
             _ => Vec::new(),
         };
@@ -89,14 +92,14 @@ impl List {
 
     /// Not counted: which other lines there are does not hang on how many these are.
     pub fn old_capture(&mut self, input: &[u8]) {
-        let owed = oracle::owed_of_old(input, &oracle::read(input));
+        let owed = oracle::owed_of_old(input, &oracle::known(input, oracle::read(input)));
         println!("O {} {} {}", hex(input), decoded(&owed), owed.number);
     }
 
     /// Content alone, and what was read of it written again.
     pub fn content(&mut self, content: &[u8]) {
         let input = inputs::with_content(content);
-        let read = oracle::read(&input);
+        let read = oracle::known(&input, oracle::read(&input));
         let record = read.as_ref().map(|frame| oracle::record(&input, frame));
         let number = read.as_ref().map_or_else(|refusal| refusal.number, |_| 0);
         let flat = record.as_ref().map_or(&[][..], |record| &record[KIND..]);
@@ -164,7 +167,7 @@ impl List {
         self.line(format!("P {} - {} {} {}", hex(callsign), ssid, number, lent(&address, ADDRESS)));
     }
 
-    /// A record that the Rust can hold, or could but for its reserved bits and the octet of a layer 3 identifier.
+    /// A record that the Rust can hold, or could but for its kind, its reserved bits and the octet of a layer 3 identifier.
     pub fn again(&mut self, record: &Flat) {
         let settled = flat::settled(record, &flat::to_frame(record, &[]));
         self.line(format!("A {} 0 {}", hex(record), lent(&settled, FLAT)));

@@ -3,7 +3,7 @@
 use crate::domain::{self, RESERVED_BITS};
 use crate::flat::{self, Flat, FlatAddress, PID_OCTET, REPEATERS, RESERVED};
 use crate::port::PLACES;
-use ax25::frame::{Address, AddressParseError, Ax25Frame, FrameParseError};
+use ax25::frame::{Address, AddressParseError, Ax25Frame, FrameContent, FrameParseError, UnknownContent};
 use std::panic::catch_unwind;
 use std::str::FromStr;
 
@@ -44,14 +44,15 @@ impl Refusal {
     }
 }
 
-fn plain(number: u32) -> Refusal {
+/// A refusal that has no details.
+pub fn plain(number: u32) -> Refusal {
     Refusal { number, start: 0, end: 0, length: 0 }
 }
 
 pub fn read(input: &[u8]) -> Result<Ax25Frame, Refusal> {
     let answer = catch_unwind(|| Ax25Frame::from_bytes(input));
     #[cfg(feature = "faults")]
-    let answer = answer.map(|read| read.map(|frame| crate::faults::misread_by_rust(frame, input)));
+    let answer = answer.map(|read| crate::faults::misread_by_rust(read, input));
     match answer {
         Ok(answer) => answer.map_err(|error| refusal(&error)),
         Err(_) => Err(plain(PANICKED)),
@@ -71,6 +72,24 @@ fn refusal(error: &FrameParseError) -> Refusal {
         FrameParseError::AddressInvalidUtf8 { .. } => plain(INVALID_UTF8),
         FrameParseError::ContentZeroLength => plain(ZERO_LENGTH),
     }
+}
+
+/// What stands in for a kind that the Rust does not know: RR, which has nothing behind its control octet.
+const STAND_IN: u8 = 0x01;
+
+/// What is owed to be read of an input, leading nulls skipped, which the Rust reads so: the same, but of a kind that the Rust does not know
+/// (B9) a frame as `flat` has it. Its addresses and marks are those that the Rust reads where another kind stands in the place of this one;
+/// its content is the input's own, without what follows a kind that has no info.
+pub fn known(input: &[u8], rust: Result<Ax25Frame, Refusal>) -> Result<Ax25Frame, Refusal> {
+    let (added, at) = match (domain::added_in(input), domain::control_of(input)) {
+        (Some(added), Some((at, _))) => (added, at),
+        _ => return rust,
+    };
+    let mut stood_in = input.to_vec();
+    stood_in[at] = STAND_IN;
+    let end = if flat::has_info(added.kind) { input.len() } else { at + 1 };
+    let content = FrameContent::UnknownContent(UnknownContent { raw: input[at..end].to_vec() });
+    read(&stood_in).map(|frame| Ax25Frame { content, ..frame })
 }
 
 /// All that a decoder owes.
@@ -95,9 +114,10 @@ impl Decode {
     }
 }
 
-/// What the entry for old captures owes: what the Rust, which skips leading nulls, reads, and 9 for nine or more repeaters (B1).
-pub fn owed_of_old(input: &[u8], rust: &Result<Ax25Frame, Refusal>) -> Decode {
-    match rust {
+/// What the entry for old captures owes: what is read where leading nulls are skipped, as the Rust does, and 9 for nine or more repeaters
+/// (B1).
+pub fn owed_of_old(input: &[u8], read: &Result<Ax25Frame, Refusal>) -> Decode {
+    match read {
         _ if domain::repeaters(input) > REPEATERS => refused(plain(9)),
         Ok(frame) => accepted(input, frame),
         Err(refusal) => refused(*refusal),
@@ -109,14 +129,14 @@ pub fn owed(input: &[u8], old: Decode) -> Decode {
     if domain::is_nulled(input) { refused(plain(10)) } else { old }
 }
 
-/// What is owed where the Rust accepts: info is the input's end, wherever the Rust copied it to.
+/// What is owed where this is read: info is the input's end, wherever the Rust copied it to.
 pub fn accepted(input: &[u8], frame: &Ax25Frame) -> Decode {
     let info_len = flat::info_of(frame).map(<[u8]>::len);
     let info_start = info_len.map_or(0, |len| input.len() - len);
     Decode { number: 0, places: [0, 0, 0, info_start, info_len.unwrap_or(0)], record: Some(record(input, frame)) }
 }
 
-/// The record of an input that the Rust reads as this frame: what the frame does not hold is the input's own, the reserved bits and the
+/// The record of an input that is read as this frame: what the frame does not hold is the input's own, the reserved bits and the
 /// octet of a layer 3 identifier.
 pub fn record(input: &[u8], frame: &Ax25Frame) -> Flat {
     flat::carrying(flat::of_frame(frame), domain::reserved_of(input), domain::pid_of(input))

@@ -155,7 +155,7 @@ pub fn every_bit(seed: u64, each: Each) {
     }
 }
 
-/// Each kind, those without info several times, for their numbers differ; I and UI with each PID, and info or none.
+/// Each kind, those without info several times, for their numbers differ; XID and TEST, and I and UI with each PID, with info and none.
 fn contents(rng: &mut Rng) -> Vec<(u8, [u8; 2], Vec<u8>)> {
     let mut all: Vec<(u8, [u8; 2], Vec<u8>)> = (RR..=FRMR).flat_map(|kind| vec![(kind, [0, 0], Vec::new()); 3]).collect();
     for kind in [I, UI] {
@@ -163,6 +163,10 @@ fn contents(rng: &mut Rng) -> Vec<(u8, [u8; 2], Vec<u8>)> {
             let length = rng.within(1, 4);
             all.extend([Vec::new(), rng.octets(length)].map(|info| (kind, pid, info)));
         }
+    }
+    for kind in [XID, TEST] {
+        let length = rng.within(1, 4);
+        all.extend([Vec::new(), rng.octets(length)].map(|info| (kind, [0, 0], info)));
     }
     all
 }
@@ -184,7 +188,7 @@ fn spelled(record: &Flat, info: &[u8]) -> Vec<u8> {
 pub fn seeded(seed: u64, count: usize, each: Each) {
     let (mut rng, mut port) = (Rng::new(seed), Port::new());
     for _ in 0..count {
-        let kind = if rng.chance(4) { FRMR } else { rng.within(I.into(), UI.into()) as u8 };
+        let kind = if rng.chance(4) { FRMR } else { rng.within(I.into(), TEST.into()) as u8 };
         let repeaters = rng.within(0, REPEATERS);
         let record = records::marked(&mut rng, kind, repeaters);
         let mut info = records::seeded_info(&mut rng, kind);

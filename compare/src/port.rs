@@ -33,6 +33,7 @@ extern "C" {
 #[link(name = "probe", kind = "static")]
 extern "C" {
     fn probe_decode(
+        mode: u32,
         input: *const u8,
         input_len: usize,
         record: *mut u8,
@@ -41,6 +42,7 @@ extern "C" {
         places_len: usize,
     ) -> u32;
     fn probe_decode_old(
+        mode: u32,
         input: *const u8,
         input_len: usize,
         record: *mut u8,
@@ -49,6 +51,7 @@ extern "C" {
         places_len: usize,
     ) -> u32;
     fn probe_encode(
+        mode: u32,
         record: *const u8,
         record_len: usize,
         info: *const u8,
@@ -80,8 +83,9 @@ extern "C" {
     fn probe_default(record: *mut u8, record_len: usize) -> u32;
     fn probe_hops(record: *const u8, record_len: usize, numbers: *mut usize, numbers_len: usize) -> u32;
     fn probe_same_station(one: *const u8, one_len: usize, other: *const u8, other_len: usize) -> u32;
-    fn probe_content(input: *const u8, input_len: usize, content: *mut u8, content_len: usize) -> u32;
+    fn probe_content(mode: u32, input: *const u8, input_len: usize, content: *mut u8, content_len: usize) -> u32;
     fn probe_content_encode(
+        mode: u32,
         content: *const u8,
         content_len: usize,
         info: *const u8,
@@ -92,6 +96,9 @@ extern "C" {
         length_len: usize,
     ) -> u32;
 }
+
+/// The mode in which sequence numbers are taken modulo 8. The Rust has no other, so nothing here is read or written in the long mode.
+const SHORT: u32 = 0;
 
 /// C's `struct ax25_kiss_stream`.
 #[repr(C)]
@@ -319,7 +326,7 @@ impl Port {
             Entry::OldCapture => probe_decode_old,
         };
         let number =
-            unsafe { call(self.input.ptr(), self.input.len(), self.output.mut_ptr(), room, self.sizes.mut_ptr(), places) };
+            unsafe { call(SHORT, self.input.ptr(), self.input.len(), self.output.mut_ptr(), room, self.sizes.mut_ptr(), places) };
         self.see_input(input);
         number
     }
@@ -332,6 +339,7 @@ impl Port {
         self.sizes.room(sizes);
         let number = unsafe {
             probe_encode(
+                SHORT,
                 self.input.ptr(),
                 self.input.len(),
                 self.second.ptr(),
@@ -455,7 +463,7 @@ impl Port {
     pub fn content(&mut self, input: &[u8], room: usize) -> u32 {
         self.input.hold(input);
         self.output.room(room);
-        let number = unsafe { probe_content(self.input.ptr(), self.input.len(), self.output.mut_ptr(), room) };
+        let number = unsafe { probe_content(SHORT, self.input.ptr(), self.input.len(), self.output.mut_ptr(), room) };
         self.see_input(input);
         number
     }
@@ -468,6 +476,7 @@ impl Port {
         self.sizes.room(sizes);
         let number = unsafe {
             probe_content_encode(
+                SHORT,
                 self.input.ptr(),
                 self.input.len(),
                 self.second.ptr(),
@@ -537,7 +546,7 @@ impl Port {
     pub fn encode_beside(&mut self, record: &[u8], info: &[u8], room: usize, octets: &[u8], beside: &Beside) -> (u32, bool) {
         let mut length = [usize::MAX];
         let (number, holds) = self.side_by_side(info, room, octets, beside, |from, to| unsafe {
-            probe_encode(record.as_ptr(), record.len(), from, info.len(), to, room, length.as_mut_ptr(), 1)
+            probe_encode(SHORT, record.as_ptr(), record.len(), from, info.len(), to, room, length.as_mut_ptr(), 1)
         });
         (number, holds && length[0] == octets.len())
     }
@@ -587,12 +596,13 @@ pub mod bare {
     }
 
     pub fn read(input: &[u8], record: &mut [u8], places: &mut [usize]) -> u32 {
-        unsafe { super::probe_decode(input.as_ptr(), input.len(), record.as_mut_ptr(), record.len(), places.as_mut_ptr(), places.len()) }
+        unsafe { super::probe_decode(super::SHORT, input.as_ptr(), input.len(), record.as_mut_ptr(), record.len(), places.as_mut_ptr(), places.len()) }
     }
 
     pub fn encode(record: &[u8], info: &[u8], output: &mut [u8], length: &mut [usize]) -> u32 {
         unsafe {
             super::probe_encode(
+                super::SHORT,
                 record.as_ptr(),
                 record.len(),
                 info.as_ptr(),

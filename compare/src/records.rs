@@ -24,7 +24,7 @@ pub fn put(record: &mut Flat, at: usize, address: FlatAddress) {
 }
 
 fn info_for(kind: u8) -> &'static [u8] {
-    if (RR..=FRMR).contains(&kind) { b"" } else { b"info" }
+    if has_info(kind) { b"info" } else { b"" }
 }
 
 /// Every kind with P/F and mark, and every octet as each sequence number.
@@ -214,11 +214,15 @@ pub fn holdable(seed: u64, count: usize, each: Each) {
     }
 }
 
-/// Info beside a kind that has none.
+/// Info beside a kind that has none, P/F both ways.
 fn needless_info(each: Each) {
     for kind in RR..=FRMR {
         for length in [1, 2, 300] {
-            each(&base(kind), &vec![0x55; length]);
+            for poll in [0, 1] {
+                let mut record = base(kind);
+                record[POLL] = poll;
+                each(&record, &vec![0x55; length]);
+            }
         }
     }
 }
@@ -346,7 +350,7 @@ pub fn any_address(rng: &mut Rng) -> FlatAddress {
 }
 
 pub fn seeded_info(rng: &mut Rng, kind: u8) -> Vec<u8> {
-    if (RR..=FRMR).contains(&kind) {
+    if !has_info(kind) {
         return Vec::new();
     }
     let length = match rng.below(12) {

@@ -79,14 +79,14 @@ fn no_address(list: &mut List) {
     list.heading("it (10).");
     let none = [(&b"HILL1  "[..], 2), (b"HILL\xB1", 2), (b"HILL1\x80", 2), (b"HILL1", 16), (b"HILL1", 0xF2), (b"HILL1\xA0 ", 18)];
     for (callsign, ssid) in none {
-        for frame in [vec![], inputs::with_content(&[0x6F]), ours(&CONTENT), behind(1, &ours(&CONTENT))] {
+        for frame in [vec![], inputs::with_content(&[0x07]), ours(&CONTENT), behind(1, &ours(&CONTENT))] {
             list.relay(&Own::new(callsign, ssid), &frame);
         }
     }
 }
 
 fn numbers(list: &mut List) {
-    heading(list, "decoding's numbers, where the repeater that is due is ours: 1, 2, 3, 4, 9, 5, 6, 7, 8.");
+    heading(list, "decoding's numbers, where the repeater that is due is ours: 1, 2, 3, 4, 9, 5, 7, 8.");
     let mut endless = ours(&[0x02, 0x20]);
     endless[LAST] &= 0xFE;
     let short = spanned(13, &CONTENT);
@@ -94,10 +94,10 @@ fn numbers(list: &mut List) {
         list.relay(&hill(), &frame);
     }
     list.relay(&named(5), &inputs::with_repeaters(9, &CONTENT));
-    let refused = [&[0x00][..], &[0x03], &[0x0D], &[0x6F], &[0x87, 0x01, 0x02], &[0x87, 0x01, 0x02, 0x44, 0x55]];
+    let refused = [&[0x00][..], &[0x03], &[0x07], &[0xFF], &[0x87, 0x01, 0x02], &[0x87, 0x01, 0x02, 0x44, 0x55]];
     refused.iter().for_each(|content| list.relay(&hill(), &ours(content)));
     heading(list, "they come before 41, before 42 and before 43.");
-    for content in [&[][..], &[0x03], &[0x0D], &[0x6F], &[0x87]] {
+    for content in [&[][..], &[0x03], &[0x07], &[0xFF], &[0x87]] {
         list.relay(&hill(), &inputs::with_content(content));
         list.relay(&hill(), &inputs::with_repeaters(2, content));
         list.relay(&named(0), &inputs::with_route([(0, false), (1, true)].into_iter(), content));
@@ -167,7 +167,7 @@ fn around_the_route(list: &mut List) {
     }
     list.relay(&named(1), &behind(3, &spanned(33, &CONTENT)));
     heading(list, "10 comes before decoding's other numbers, and before 41, 42 and 43 (M-108).");
-    for frame in [vec![0x02], spanned(13, &CONTENT), ours(&[]), inputs::with_repeaters(9, &CONTENT), ours(&[0x6F])] {
+    for frame in [vec![0x02], spanned(13, &CONTENT), ours(&[]), inputs::with_repeaters(9, &CONTENT), ours(&[0x07])] {
         list.relay(&hill(), &behind(1, &frame));
     }
     for frame in [marked(3, 0b111), marked(3, 0b101), marked(3, 0b001)] {
@@ -208,11 +208,12 @@ fn reserved_bits(list: &mut List) {
 }
 
 fn contents(list: &mut List) {
-    heading(list, "content of each kind stays.");
-    inputs::contents().iter().take(12).for_each(|content| list.relay(&hill(), &ours(content)));
-    heading(list, "tails after RR, SABM and UA stay, and FRMR's unnamed bits, and PIDs of the layer 3 class.");
+    heading(list, "content of each kind stays, SREJ, SABME, XID and TEST too (M-109).");
+    inputs::contents().iter().take(inputs::CONTENTS).for_each(|content| list.relay(&hill(), &ours(content)));
+    heading(list, "tails after RR, SABM, UA, SREJ and SABME stay, and FRMR's unnamed bits, and PIDs of the layer 3 class.");
     let frmr = [&[0x87, 0xF1, 0x03, 0x44][..], &[0x97, 0xFF, 0xFF, 0xFF]];
-    for content in [&[0x01, 0xAA, 0x55][..], &[0x2F, 0x00], &[0x73, 0xFF, 0x01]].iter().chain(&frmr) {
+    let tails = [&[0x01, 0xAA, 0x55][..], &[0x2F, 0x00], &[0x73, 0xFF, 0x01], &[0x2D, 0xAA], &[0x7F, 0x03, 0xF0]];
+    for content in tails.iter().chain(&frmr) {
         list.relay(&hill(), &ours(content));
     }
     [0x10, 0x1F, 0x90, 0x20, 0x2F, 0xEF].iter().for_each(|&pid| list.relay(&hill(), &ours(&[0x03, pid])));

@@ -58,6 +58,8 @@ fn examples(list: &mut List) {
     for (i, input) in proved_examples().iter().enumerate() {
         let by = match i + 1 {
             6 => ", by document 02 (M-108): the Rust skips the null",
+            8 => ", by document 02 (M-109): SREJ, and the Rust answers 6",
+            9 => ", by document 02 (M-109): SABME, and the Rust answers 7",
             13 => ", by document 02 (M-105): the Rust writes 03 10",
             _ => "",
         };
@@ -113,7 +115,7 @@ fn slips(list: &mut List) {
 
 fn decoding(list: &mut List) {
     list.heading("The smallest inputs of docs/DIFFERENCES.md, A1 to A15: without A13, which is a record and stands among those, and for A1,");
-    list.heading("A5 and A6 those of B8, B7 and B6, by document 02 (M-108, M-106, M-105).");
+    list.heading("A5, A6 and A8 those of B8, B7, B6 and B9, by document 02 (M-108, M-106, M-105, M-109).");
     for input in departures() {
         list.decode(&input);
     }
@@ -128,7 +130,8 @@ fn decoding(list: &mut List) {
         list.decode(&behind(nulls, &inputs::FRAME));
         list.decode(&vec![0x82; nulls]);
     }
-    list.heading("Every control octet, with content of 1 and 4 octets; the PID 5A by document 02 (M-105).");
+    list.heading("Every control octet, with content of 1 and 4 octets; the PID 5A, and SREJ, SABME, XID and TEST, by document 02 (M-105,");
+    list.heading("M-109).");
     for control in 0..=255 {
         for content in [&[control][..], &[control, 0x5A, 0xB6, control]] {
             list.decode(&inputs::with_content(content));
@@ -193,7 +196,7 @@ fn with_ssids(first: u8, second: u8, content: &[u8]) -> Vec<u8> {
 }
 
 /// One input for each place where the Rust departs from AX.25 (docs/DIFFERENCES.md, A; the sixth is B6 since M-105, the fifth B7 since
-/// M-106, and the first B8 since M-108).
+/// M-106, the first B8 since M-108, and SREJ, SABME, XID and TEST are B9 since M-109).
 fn departures() -> Vec<Vec<u8>> {
     let mut empty_callsign = inputs::with_content(&[0x01]);
     empty_callsign[..6].fill(b' ' << 1);
@@ -208,6 +211,8 @@ fn departures() -> Vec<Vec<u8>> {
         inputs::with_repeaters(3, &[0x01]),
         inputs::with_content(&[0x0D]),
         inputs::with_content(&[0x6F]),
+        inputs::with_content(&[0xAF]),
+        inputs::with_content(&[0xE3]),
         inputs::with_content(&[0x87, 0x01, 0x02, 0x44]),
         inputs::with_content(&[0x87, 0xF1, 0x03, 0x44]),
         inputs::with_content(&[0x03, 0xFF, 0x01]),
@@ -234,7 +239,8 @@ pub const STATIONS: &[u8; 76] = b"\x8E\x82\xAA\x8E\x8A\x40\xE0\x84\x9E\xB0\x62\x
 
 fn content(list: &mut List) {
     list.heading("Content alone, by document 01 where there is none (4); the Rust's behind an address field: every control octet with");
-    list.heading("content of 0 to 5 octets, and what was read written again; the PID A5 by document 02 (M-105).");
+    list.heading("content of 0 to 5 octets, and what was read written again; the PID A5, and SREJ, SABME, XID and TEST, by document 02");
+    list.heading("(M-105, M-109).");
     list.content(&[]);
     for control in 0..=255 {
         for length in 1..=5 {
@@ -242,7 +248,7 @@ fn content(list: &mut List) {
         }
     }
     list.heading("Content alone, written into rooms that are short, exactly full and longer; by document 01 where info is not allowed (23)");
-    list.heading("or the room is short (24).");
+    list.heading("or the room is short (24); SREJ and XID by document 02 (M-109).");
     for (record, info, rooms) in contents() {
         for &room in rooms {
             list.write_content(&record, info, room);
@@ -262,6 +268,7 @@ fn contents() -> Vec<Rooms> {
     frmr[flat::X] = 1;
     frmr[flat::REJECTED_RESPONSE] = 1;
     frmr[flat::REJECTED_CONTROL] = 0x44;
+    let (srej, xid) = (with(flat::SREJ, 0, 1, 13, 0), with(flat::XID, 0, 1, 0, 0));
     let unknown = records::base(flat::UNKNOWN_CONTENT);
     vec![
         (ui, b"OK", &[3, 4, 6]),
@@ -271,6 +278,10 @@ fn contents() -> Vec<Rooms> {
         (rr, b"OK", &[0, 8]),
         (frmr, b"", &[3, 4, 5]),
         (frmr, b"K", &[0, 5]),
+        (srej, b"", &[0, 1, 2]),
+        (srej, b"OK", &[0, 8]),
+        (xid, b"OK", &[2, 3, 4]),
+        (xid, b"", &[0, 1, 2]),
         (unknown, b"OK!", &[2, 3, 5]),
         (unknown, b"", &[0, 2]),
     ]
@@ -292,18 +303,19 @@ fn writing(list: &mut List) {
     for (source, destination) in [(b"BOX12 \x03", b"GAUGE \x00"), (b"GAUGE \x00", b"BOX12 \x03"), (b"A B   \x0F", b"      \x01")] {
         list.simple_ui(&station(source), &station(destination));
     }
-    list.heading("Records written: every kind, mark and P/F, sequence numbers over 7.");
+    list.heading("Records written: every kind, mark and P/F, sequence numbers over 7; SREJ, SABME, XID and TEST by document 02 (M-109).");
     for kind in 0..=flat::UNKNOWN_CONTENT {
         for (mark, poll, receive, send) in [(0, 0, 1, 2), (1, 1, 9, 14), (2, 0, 255, 8), (2, 1, 7, 7)] {
             list.write(&with(kind, mark, poll, receive, send), b"");
         }
     }
-    list.heading("Into room exactly full; by document 01 one octet short and none (24), and longer.");
+    list.heading("Into room exactly full; by document 01 one octet short and none (24), and longer; the same four kinds by document 02 (M-109).");
     for kind in 0..=flat::UNKNOWN_CONTENT {
-        let info: &[u8] = if [flat::I, flat::UI, flat::UNKNOWN_CONTENT].contains(&kind) { b"OK" } else { b"" };
+        let info: &[u8] = if flat::has_info(kind) { b"OK" } else { b"" };
         list.write_rooms(&with(kind, 1, 1, 3, 5), info);
     }
-    list.heading("The frame of a record: a flag of 2 is set, a number past the last case is that case, a field that the kind lacks is 0.");
+    list.heading("The frame of a record: a flag of 2 is set, a number past the last case is that case, a field that the kind lacks is 0; the");
+    list.heading("same four kinds by document 02 (M-109).");
     for kind in 0..=flat::UNKNOWN_CONTENT + 1 {
         let mut record = [2; flat::FLAT];
         record[KIND] = kind;

@@ -1,7 +1,7 @@
 //! What a run has met, so that a run that never met a case says so.
 
 use crate::check::Stretch;
-use crate::domain::{self, Listed, LISTED, RESERVED_BITS, RUST_LAYER_3};
+use crate::domain::{self, Listed, ADDED, LISTED, RESERVED_BITS, RUST_LAYER_3};
 use crate::flat::*;
 use crate::kiss::{self, FEND, FESC, LONGEST, PORTS, TFEND, TFESC};
 use crate::lent::{Room, ROOMS};
@@ -13,18 +13,22 @@ use crate::show;
 use ax25::frame::Ax25Frame;
 
 /// The numbers of documents 01 and 02 that each kind of input can give.
-const DECODE_NUMBERS: [u32; 11] = [0, 1, 2, 3, 4, 5, 6, 7, 8, 9, 10];
+const DECODE_NUMBERS: [u32; 10] = [0, 1, 2, 3, 4, 5, 7, 8, 9, 10];
 /// The same of an old capture.
-const OLD_NUMBERS: [u32; 10] = [0, 1, 2, 3, 4, 5, 6, 7, 8, 9];
+const OLD_NUMBERS: [u32; 9] = [0, 1, 2, 3, 4, 5, 7, 8, 9];
+/// The one that none can give any more (document 02, M-109), while the Rust still does.
+const NEVER: u32 = 6;
+/// Tables by such a number.
+const BY_NUMBER: usize = 11;
 const WRITE_NUMBERS: [u32; 4] = [21, 22, 23, 25];
 const TEXT_NUMBERS: [u32; 6] = [0, 31, 32, 33, 34, 35];
 const PRINT_NUMBERS: [u32; 2] = [0, 22];
 /// The numbers of content alone, read and written.
-const CONTENT_NUMBERS: [u32; 8] = [0, 4, 5, 6, 7, 8, 23, 25];
+const CONTENT_NUMBERS: [u32; 7] = [0, 4, 5, 7, 8, 23, 25];
 /// The numbers that writing an input again, side by side with it, can give.
-const BESIDE_NUMBERS: [u32; 12] = [0, 1, 2, 3, 4, 5, 6, 7, 8, 9, 10, 24];
+const BESIDE_NUMBERS: [u32; 11] = [0, 1, 2, 3, 4, 5, 7, 8, 9, 10, 24];
 /// Those of the relay: the refusals in their order.
-const RELAY_NUMBERS: [u32; 15] = [0, 22, 1, 10, 2, 3, 4, 9, 5, 6, 7, 8, 41, 43, 42];
+const RELAY_NUMBERS: [u32; 14] = [0, 22, 1, 10, 2, 3, 4, 9, 5, 7, 8, 41, 43, 42];
 /// Those of them that an accepted frame gets, by its route.
 const ROUTE_NUMBERS: [u32; 4] = [0, 41, 43, 42];
 /// Those of a KISS packet, read and written.
@@ -79,15 +83,92 @@ const WRITERS: [(Writer, &str); 8] = [
     (Writer::PacketWrite, "writing a KISS packet"),
 ];
 
+/// Where a kind that the Rust does not know is met (B9).
+#[derive(Clone, Copy)]
+pub enum Met {
+    Decoder,
+    Canonical,
+    NotCanonical,
+    OldCapture,
+    BehindNulls,
+    Nine,
+    Ten,
+    Content,
+    Again,
+    Reencode,
+    Read,
+    MadeUp,
+    ContentWritten,
+    Beside,
+    Needless,
+    NeedlessContent,
+    Relayed,
+    UsedUp,
+    BrokenMarks,
+    AnotherStation,
+    RelayTen,
+}
+
+/// What stands behind the control octet of such a kind.
+#[derive(Clone, Copy)]
+enum Behind {
+    /// Info, or a tail where the kind has none; and nothing.
+    Any,
+    /// Info where the kind has it; and nothing.
+    Info,
+    Nothing,
+    /// Info where the kind has none.
+    Needless,
+}
+
+impl Behind {
+    /// Whether something behind the control octet, or nothing, has to be met with a kind.
+    fn is_needed(self, kind: u8, something: bool) -> bool {
+        match self {
+            Behind::Any => true,
+            Behind::Info => !something || has_info(kind),
+            Behind::Nothing => !something,
+            Behind::Needless => something && !has_info(kind),
+        }
+    }
+}
+
+const METS: [(Met, &str, Behind); 21] = [
+    (Met::Decoder, "decoding", Behind::Any),
+    (Met::Canonical, "canonical", Behind::Info),
+    (Met::NotCanonical, "not canonical", Behind::Any),
+    (Met::OldCapture, "old capture without nulls", Behind::Any),
+    (Met::BehindNulls, "old capture behind nulls", Behind::Any),
+    (Met::Nine, "decoding refused by 9", Behind::Any),
+    (Met::Ten, "decoding refused by 10", Behind::Any),
+    (Met::Content, "content alone", Behind::Any),
+    (Met::Again, "a record read again", Behind::Nothing),
+    (Met::Reencode, "re-encoding", Behind::Info),
+    (Met::Read, "writing a record that was read", Behind::Info),
+    (Met::MadeUp, "writing a record that was made up", Behind::Info),
+    (Met::ContentWritten, "writing content alone", Behind::Info),
+    (Met::Beside, "writing side by side", Behind::Info),
+    (Met::Needless, "writing refused by 23", Behind::Needless),
+    (Met::NeedlessContent, "writing content alone refused by 23", Behind::Needless),
+    (Met::Relayed, "passed on", Behind::Any),
+    (Met::UsedUp, "relay refused by 41", Behind::Any),
+    (Met::BrokenMarks, "relay refused by 43", Behind::Any),
+    (Met::AnotherStation, "relay refused by 42", Behind::Any),
+    (Met::RelayTen, "relay refused by 10", Behind::Any),
+];
+
+/// By kind, P/F, and nothing behind the control octet or something.
+type AddedKinds = [[[u64; 2]; 2]; ADDED.len()];
+
 /// How often each case of a record was written, by the kind of room.
 #[derive(Default)]
 struct Written {
-    kinds: [Rooms; 11],
+    kinds: [Rooms; KINDS.len()],
     marks: [Rooms; 3],
     pids: [Rooms; 16],
     routes: [Rooms; REPEATERS + 1],
     /// By kind, a sequence number of 8 or more.
-    large: [Rooms; 11],
+    large: [Rooms; KINDS.len()],
 }
 
 /// What of KISS packets was met.
@@ -249,12 +330,24 @@ pub struct OldCaptures {
     /// Those with nulls before something.
     pub nulled: u64,
     /// By number, without nulls, behind one and behind more.
-    numbers: [[u64; OLD_NUMBERS.len()]; NULLS.len()],
-    /// Frames that were read behind nulls, by kind, mark and repeaters; and in I and UI, without info and with it.
+    numbers: [[u64; BY_NUMBER]; NULLS.len()],
+    /// Frames that were read behind nulls, by kind, mark and repeaters; and in each kind that has it, without info and with it.
     kinds: [u64; UNKNOWN_CONTENT as usize],
     marks: [u64; 3],
     routes: [u64; REPEATERS + 1],
-    infos: [[u64; 2]; 2],
+    infos: [[u64; 2]; INFO_KINDS.len()],
+}
+
+/// The kinds that are read and have info.
+const INFO_KINDS: [u8; 4] = [I, UI, XID, TEST];
+
+/// The case of a kind that has info.
+fn info_kind(record: &Flat) -> Option<usize> {
+    INFO_KINDS.iter().position(|&kind| kind == record[KIND])
+}
+
+fn info_names() -> impl Iterator<Item = &'static str> {
+    INFO_KINDS.iter().map(|&kind| KINDS[usize::from(kind)])
 }
 
 impl OldCaptures {
@@ -267,8 +360,8 @@ impl OldCaptures {
             count(&mut self.kinds, record[KIND].into());
             count(&mut self.marks, record[MARK].into());
             count(&mut self.routes, record[COUNT].into());
-            if has_pid(record) {
-                self.infos[pid_kind(record)][usize::from(!owed.info(input).is_empty())] += 1;
+            if let Some(kind) = info_kind(record) {
+                self.infos[kind][usize::from(!owed.info(input).is_empty())] += 1;
             }
         }
     }
@@ -285,7 +378,7 @@ impl OldCaptures {
         missing.cases("old capture behind nulls, kind", &self.kinds);
         missing.cases("old capture behind nulls, mark", &self.marks);
         missing.cases("old capture behind nulls, repeaters", &self.routes);
-        for (kind, infos) in ["I", "UI"].iter().zip(&self.infos) {
+        for (kind, infos) in info_names().zip(&self.infos) {
             missing.cases(&format!("old capture behind nulls, {} without info and with it: case", kind), infos);
         }
     }
@@ -351,7 +444,7 @@ impl Part {
             (FRMR, 1) => Part::Flags,
             (FRMR, 2) => Part::Numbers,
             (FRMR, _) => Part::Rejected,
-            (_, 1) => Part::Pid,
+            (I | UI, 1) => Part::Pid,
             _ => Part::Info,
         }
     }
@@ -363,13 +456,13 @@ pub struct Pairs {
     outcomes: [[u64; OUTCOMES.len()]; WAYS.len()],
     /// Bits that were changed alone, by what they are part of and by their place in the octet.
     parts: [[u64; 8]; PARTS.len()],
-    /// The same by the frame: its kind, mark and repeaters; in I and in UI its PID, layer 3 with bit 5 being the last, and without info and
-    /// with it.
+    /// The same by the frame: its kind, mark and repeaters; in I and in UI its PID, layer 3 with bit 5 being the last; and in each kind that
+    /// has it, without info and with it.
     kinds: [u64; UNKNOWN_CONTENT as usize],
     marks: [u64; 2],
     routes: [u64; REPEATERS + 1],
     pids: [[u64; 17]; 2],
-    infos: [[u64; 2]; 2],
+    infos: [[u64; 2]; INFO_KINDS.len()],
     /// A repeater's mark that was changed alone, clear and set.
     repeated: [u64; 2],
     /// Bit 5 and bit 6 of a group that were changed alone, by the group and the setting that they were changed in.
@@ -395,7 +488,11 @@ impl Pairs {
         if has_pid(record) {
             let case = if is_layer_3(record) && record[PID_OCTET] & 0x20 != 0 { 16 } else { record[PID].into() };
             count(&mut self.pids[pid_kind(record)], case);
-            self.infos[pid_kind(record)][usize::from(frame.len() > domain::pid_at(frame) + 1)] += 1;
+        }
+        if let Some(kind) = info_kind(record) {
+            // Where the kind has a PID, info follows that.
+            let info_at = domain::pid_at(frame) + usize::from(has_pid(record));
+            self.infos[kind][usize::from(frame.len() > info_at)] += 1;
         }
         match part {
             Part::Repeated => self.repeated[usize::from(frame[at] & 0x80 != 0)] += 1,
@@ -430,8 +527,10 @@ impl Pairs {
         missing.cases("bit changed alone, kind", &self.kinds);
         missing.cases("bit changed alone, mark", &self.marks);
         missing.cases("bit changed alone, repeaters", &self.routes);
-        for (kind, (pids, infos)) in ["I", "UI"].iter().zip(self.pids.iter().zip(&self.infos)) {
+        for (kind, pids) in ["I", "UI"].iter().zip(&self.pids) {
             missing.cases(&format!("bit changed alone, {} with PID (16: layer 3 with bit 5)", kind), pids);
+        }
+        for (kind, infos) in info_names().zip(&self.infos) {
             missing.cases(&format!("bit changed alone, {} without info and with it: case", kind), infos);
         }
         missing.cases("a repeater's mark changed alone, clear and set: case", &self.repeated);
@@ -454,8 +553,10 @@ pub struct Seen {
     content_numbers: [u64; TABLE],
     beside_numbers: [u64; TABLE],
     /// By decode number, a refused input re-encoded into no room, into less than the input and into more.
-    refused_rooms: [[u64; 3]; DECODE_NUMBERS.len()],
-    read_kinds: [u64; 11],
+    refused_rooms: [[u64; 3]; BY_NUMBER],
+    read_kinds: [u64; KINDS.len()],
+    /// By `Met`, the kinds that the Rust does not know.
+    added: [AddedKinds; METS.len()],
     marks: [u64; 3],
     pids: [u64; 16],
     routes: [u64; REPEATERS + 1],
@@ -583,8 +684,9 @@ impl Seen {
             print_numbers: [0; TABLE],
             content_numbers: [0; TABLE],
             beside_numbers: [0; TABLE],
-            refused_rooms: [[0; 3]; DECODE_NUMBERS.len()],
-            read_kinds: [0; 11],
+            refused_rooms: [[0; 3]; BY_NUMBER],
+            read_kinds: [0; KINDS.len()],
+            added: Default::default(),
             marks: [0; 3],
             pids: [0; 16],
             routes: [0; REPEATERS + 1],
@@ -628,8 +730,32 @@ impl Seen {
         }
     }
 
+    /// An input with a kind that the Rust does not know, where that is looked at.
+    pub fn added(&mut self, met: Met, input: &[u8]) {
+        if let (Some(added), Some((at, control))) = (domain::added_in(input), domain::control_of(input)) {
+            self.count_added(met, added.kind, domain::poll_of(control), input.len() > at + 1);
+        }
+    }
+
+    /// A record of such a kind, and its info.
+    pub fn added_record(&mut self, met: Met, record: &Flat, info: &[u8]) {
+        self.count_added(met, record[KIND], record[POLL] != 0, !info.is_empty());
+    }
+
+    fn count_added(&mut self, met: Met, kind: u8, poll: bool, something: bool) {
+        if let Some(case) = ADDED.iter().position(|added| added.kind == kind) {
+            self.added[met as usize][case][usize::from(poll)][usize::from(something)] += 1;
+            // What is refused all the same, whatever the kind, is another entry's.
+            if !matches!(met, Met::Nine | Met::Ten | Met::RelayTen | Met::Needless | Met::NeedlessContent) {
+                self.listed(Listed::B9);
+            }
+        }
+    }
+
     /// An accepted input.
-    pub fn frame(&mut self, record: &Flat, canonical: bool) {
+    pub fn frame(&mut self, input: &[u8], record: &Flat, canonical: bool) {
+        self.added(Met::Decoder, input);
+        self.added(if canonical { Met::Canonical } else { Met::NotCanonical }, input);
         self.decode_numbers[0] += 1;
         self.canonical[usize::from(canonical)] += 1;
         count(&mut self.read_kinds, record[KIND].into());
@@ -648,8 +774,13 @@ impl Seen {
         }
     }
 
-    pub fn refusal(&mut self, number: u32) {
+    pub fn refusal(&mut self, input: &[u8], number: u32) {
         count(&mut self.decode_numbers, number as usize);
+        match number {
+            9 => self.added(Met::Nine, input),
+            10 => self.added(Met::Ten, input),
+            _ => {}
+        }
     }
 
     /// Where a search for the first nonzero octet of the input and one for the first odd octet from there on come to their ends.
@@ -687,17 +818,20 @@ impl Seen {
         }
     }
 
-    /// The record that it was; fields that its kind lacks are 0.
-    pub fn written(&mut self, writer: Writer, record: &Flat, room: Room) {
+    /// The record that it was, and its info; fields that its kind lacks are 0.
+    pub fn written(&mut self, writer: Writer, record: &Flat, info: &[u8], room: Room) {
         self.written[writer as usize].count(record, room);
-        self.own(writer, record, room);
+        self.own(writer, record, info, room);
     }
 
     /// What was compared by the record's own, where there is room for it: the octet of a layer 3 identifier, and the reserved bits, which
-    /// content alone has not.
-    pub fn own(&mut self, writer: Writer, record: &Flat, room: Room) {
+    /// content alone has not; and the control octet of a kind that the Rust does not know.
+    pub fn own(&mut self, writer: Writer, record: &Flat, info: &[u8], room: Room) {
         if !room.is_enough() {
             return;
+        }
+        if let Some(&met) = [Met::Reencode, Met::Read, Met::MadeUp, Met::ContentWritten, Met::Beside].get(writer as usize) {
+            self.added_record(met, record, info);
         }
         if is_layer_3(record) {
             count_octet(&mut self.layer_3[writer as usize], record);
@@ -762,6 +896,7 @@ impl Seen {
             }
         }
         match number {
+            23 => self.added_record(Met::Needless, record, info),
             25 => count_octet(&mut self.outside[0][usize::from(enough)], record),
             21 | 22 if domain::is_outside(record) => self.outside_before[pid_kind(record)][number as usize - 21] += 1,
             _ => {}
@@ -780,10 +915,12 @@ impl Seen {
     }
 
     /// The same of content alone.
-    pub fn content_refusal(&mut self, number: u32, record: &Flat, enough: bool) {
+    pub fn content_refusal(&mut self, number: u32, record: &Flat, info: &[u8], enough: bool) {
         self.content(number);
-        if number == 25 {
-            count_octet(&mut self.outside[1][usize::from(enough)], record);
+        match number {
+            23 => self.added_record(Met::NeedlessContent, record, info),
+            25 => count_octet(&mut self.outside[1][usize::from(enough)], record),
+            _ => {}
         }
     }
 
@@ -824,6 +961,14 @@ impl Seen {
     ) {
         let number = owed.err().unwrap_or(0);
         count(&mut self.relay_numbers, number as usize);
+        match number {
+            0 => self.added(Met::Relayed, input),
+            10 => self.added(Met::RelayTen, input),
+            41 => self.added(Met::UsedUp, input),
+            42 => self.added(Met::AnotherStation, input),
+            43 => self.added(Met::BrokenMarks, input),
+            _ => {}
+        }
         if let Some(case) = ROUTE_NUMBERS.iter().position(|&by_route| by_route == number) {
             count_settings(&mut self.relay_reserved[case], domain::reserved_of(input));
         }
@@ -931,6 +1076,20 @@ impl Seen {
         ROOMS.iter().map(|&(room, name)| (name, of(room))).collect()
     }
 
+    /// How often what is owed no more was owed, by what gave it.
+    pub fn stray(&self) -> Vec<String> {
+        let old = self.old_captures.numbers.iter().map(|numbers| numbers[NEVER as usize]).sum();
+        let of = |table: &[u64; TABLE]| table[NEVER as usize];
+        let counts = [
+            ("decoding", of(&self.decode_numbers)),
+            ("old captures", old),
+            ("content alone", of(&self.content_numbers)),
+            ("writing side by side", of(&self.beside_numbers)),
+            ("relay", of(&self.relay_numbers)),
+        ];
+        counts.iter().filter(|(_, count)| *count > 0).map(|(what, count)| format!("{}, number {}: {} times", what, NEVER, count)).collect()
+    }
+
     /// The cases that were never met.
     pub fn missing(&self) -> Vec<String> {
         let mut missing = Missing(Vec::new());
@@ -962,8 +1121,9 @@ impl Seen {
         self.streams.missing(&mut missing);
         self.pairs.missing(&mut missing);
         self.old_captures.missing(&mut missing);
-        for number in 1..self.refused_rooms.len() {
-            missing.cases(&format!("re-encoding refused by {} with no room, less than the input, more: case", number), &self.refused_rooms[number]);
+        for &number in &DECODE_NUMBERS[1..] {
+            let rooms = &self.refused_rooms[number as usize];
+            missing.cases(&format!("re-encoding refused by {} with no room, less than the input, more: case", number), rooms);
         }
         for place in 0..SEARCHED {
             // The last place of an eight is never in the rest.
@@ -979,10 +1139,27 @@ impl Seen {
         for start in 0..8 {
             missing.cases(&format!("start even at {} modulo 8, end modulo 8 at", start), &self.fields[start]);
         }
+        self.missing_added(&mut missing);
         self.missing_writes(&mut missing);
         self.missing_octets(&mut missing);
         self.missing_reserved(&mut missing);
         missing.0
+    }
+
+    /// No kind that the Rust does not know lacks an entry, P/F clear or set, or nothing or something behind its control octet.
+    fn missing_added(&self, missing: &mut Missing) {
+        for (&(_, what, behind), kinds) in METS.iter().zip(&self.added) {
+            for (added, polls) in ADDED.iter().zip(kinds) {
+                for (poll, cells) in ["clear", "set"].iter().zip(polls) {
+                    for (something, (name, &cell)) in [(false, ("nothing", &cells[0])), (true, ("something", &cells[1]))] {
+                        if cell == 0 && behind.is_needed(added.kind, something) {
+                            let kind = KINDS[usize::from(added.kind)];
+                            missing.0.push(format!("{}, {} with P/F {} and {} behind its control octet", what, kind, poll, name));
+                        }
+                    }
+                }
+            }
+        }
     }
 
     fn missing_relays(&self, missing: &mut Missing) {
@@ -1014,7 +1191,7 @@ impl Seen {
                 // No room lacks two octets of content that is one.
                 let rooms = if alone && (RR..=UA).contains(&kind) { ROOMS_OF_ONE } else { &ROOMS };
                 missing.rooms(&format!("{}, {}", who, name), rooms, written.kinds[at]);
-                if !read && [I, RR, RNR, REJ, FRMR].contains(&kind) {
+                if !read && [I, RR, RNR, REJ, SREJ, FRMR].contains(&kind) {
                     missing.rooms(&format!("{}, {} with a number of 8 or more", who, name), rooms, written.large[at]);
                 }
             }

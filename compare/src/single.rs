@@ -2,7 +2,7 @@
 
 use crate::check::{self, padded, Checker, Difference};
 use crate::domain;
-use crate::flat::{self, Flat, ADDRESS, FLAT, PID_OCTET};
+use crate::flat::{self, Flat, ADDRESS, FLAT, KIND, PID_OCTET};
 use crate::inputs;
 use crate::kiss;
 use crate::oracle;
@@ -38,6 +38,7 @@ pub fn one(input: &[u8]) -> bool {
         println!("outside the domain of equality (B1): {} repeaters, the port owes 9", domain::repeaters(input));
     }
     show_nulled(input);
+    show_unknown(input);
     show_rust(input);
     show_port(&mut checker, input);
     let mut found = checker.octets(input);
@@ -71,6 +72,13 @@ pub fn pair(one: &[u8], other: &[u8]) -> bool {
 fn show_nulled(input: &[u8]) {
     if domain::is_nulled(input) {
         println!("outside the domain of equality (B8): leading nulls, the port owes 10; as an old capture, the answer to what follows them");
+    }
+}
+
+fn show_unknown(input: &[u8]) {
+    if let Some(added) = domain::added_in(input) {
+        let kind = flat::KINDS[usize::from(added.kind)];
+        println!("outside the domain of equality (B9): {}, which the port knows; the Rust owes {}", kind, added.refusal);
     }
 }
 
@@ -193,6 +201,9 @@ pub fn record(record: &[u8], info: &[u8]) -> bool {
 fn show_rust_writes(record: &Flat, info: &[u8], from: usize) {
     match domain::record_number(record, info) {
         0 => {
+            if domain::ADDED.iter().any(|added| added.kind == record[KIND]) {
+                println!("outside the domain of equality (B9): the Rust has no such kind, and is given its content as it is to be written");
+            }
             println!("Rust: writes {}", show::hex(&flat::to_frame(record, info).to_bytes()[from..]));
             show_masked(record, "record");
         }
@@ -222,6 +233,7 @@ pub fn content(content: &[u8]) -> bool {
         println!("outside the domain of equality (B5): the port owes 4");
     } else {
         let input = inputs::with_content(content);
+        show_unknown(&input);
         match oracle::read(&input) {
             Ok(frame) => {
                 println!("Rust: {:?}", frame.content);
@@ -263,6 +275,7 @@ pub fn same_station(one: &[u8], other: &[u8]) -> bool {
 pub fn relay(own: &Own, input: &[u8]) -> bool {
     println!("{} relays {} octets: {}", own.words(), input.len(), show::hex(input));
     show_nulled(input);
+    show_unknown(input);
     show_rust(input);
     let mut checker = Checker::thorough();
     let number = checker.port.relay(&own.callsign, own.ssid, input);
