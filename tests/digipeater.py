@@ -54,8 +54,8 @@ def alike():
     for route in ('HILL1-2', 'HILL1-2,HILL2-1', 'HILL5-1*,HILL1-2', 'HILL1-2,HILL1-2', 'HILL1-2*,HILL1-2', EARLIER + 'HILL1-2',
                   'HILL1-2' + LATER):
         yield Case(spelled(route), 0)
-    for content in (b'\x03\x20LEVEL', b'\x00\xF0LEVEL', b'\x3F', b'\x63\xAA', b'\x01', b'\x87\xF1\x03\x44', UI + b'LEVEL',
-                    UI + bytes(256)):
+    for content in (b'\x03\x20LEVEL', b'\x00\xF0LEVEL', b'\x3F', b'\x63\xAA', b'\x01', b'\x87\xF1\x03\x44', b'\x0D', b'\x6F', b'\x7F\xAA',
+                    b'\xAF', b'\xBF\x82\x80', b'\xE3', b'\xF3LEVEL', UI + b'LEVEL', UI + bytes(256)):
         yield Case(spelled('HILL1-2', content), 0)
     for reserved in range(3):
         yield Case(spelled('HILL5-1*,HILL1-2', reserved=reserved), 0)
@@ -92,8 +92,7 @@ def otherwise():
     # Seven nulls before a frame with a marked source: they are the destination, and that source is a repeater that has a mark.
     yield Case(bytes(7) + spelled('HILL1-2', source='BOX12-3*'), 10, 'D3', both(bytes(7) + spelled('HILL1-2*', source='BOX12-3*')))
     yield Case(spelled('HILL1-2,HILL2-1')[:21] + b'\x01' + UI, 0, 'D4', both(None), spelled('HILL1-2*,HILL2-1')[:21] + b'\x01' + UI)
-    for content, number in ((b'\x0D', 6), (b'', 4), (b'\x03', 5), (b'\x00', 5), (b'\x6F', 7), (b'\xAF', 7), (b'\xE3', 7),
-                            (b'\x87\x01', 8)):
+    for content, number in ((b'\x07', 7), (b'', 4), (b'\x03', 5), (b'\x00', 5), (b'\xFF', 7), (b'\x87\x01', 8)):
         yield Case(spelled('HILL1-2', content), number, 'D5', {'connected mode': spelled('HILL1-2*', content)})
     yield Case(spelled('HILL1\0-2'), 42, 'D6', both(spelled('HILL1-2*')))
     # Each of the three has an info that was not sent before.
@@ -248,6 +247,13 @@ class Direwolf:
 @contextlib.contextmanager
 def running(program, folder, name, settings):
     """direwolf with these settings, which the end of the test ends."""
+    with started(program, folder, name, settings) as process:
+        yield Direwolf(process)
+
+
+@contextlib.contextmanager
+def started(program, folder, name, settings):
+    """The same as a process, of which nobody has read anything."""
     sounds, configuration = folder / 'asound.conf', folder / f'{name}.conf'
     sounds.write_text('pcm.null { type null }\n')
     configuration.write_text(settings)
@@ -255,7 +261,7 @@ def running(program, folder, name, settings):
     process = subprocess.Popen(command, cwd=folder, env={**os.environ, 'ALSA_CONFIG_PATH': str(sounds)},
                                stdin=subprocess.PIPE, stdout=subprocess.PIPE, stderr=subprocess.STDOUT)
     try:
-        yield Direwolf(process)
+        yield process
     finally:
         process.kill()
         process.wait()
@@ -341,9 +347,9 @@ def main():
     check_docs(count)
     check_ours(count, cases, ours)
     with contextlib.ExitStack() as stack:
-        started = {digipeater: stack.enter_context(running(program, folder, digipeater, f'{SETTINGS}KISSPORT 0\n{line}\n'))
-                   for digipeater, line in DIGIPEATERS.items()}
-        for digipeater, direwolf in started.items():
+        wolves = {digipeater: stack.enter_context(running(program, folder, digipeater, f'{SETTINGS}KISSPORT 0\n{line}\n'))
+                  for digipeater, line in DIGIPEATERS.items()}
+        for digipeater, direwolf in wolves.items():
             compare(count, digipeater, direwolf, cases, ours)
     count.end()
 

@@ -35,8 +35,9 @@
 #define REFUSED_INPUT(name, octets, number) {name, octets, number, number, 0, ""}
 #define BEHIND_NULLS(name, octets, old) {name, octets, 10, old, 0, ""}
 
-/* P1 to P13: what document 01 says of each, and document 02 of P13 (M-105) and of P6 (M-108); then reserved bits, bit 6 first, as
-   document 02 has them (M-106), nulls (M-108), and what is left on before and behind a frame, as the header has it. Worked out by hand. */
+/* P1 to P13: what document 01 says of each, and document 02 of P13 (M-105), of P6 (M-108), of P8 and of P9 (M-109); then reserved bits,
+   bit 6 first, as document 02 has them (M-106), nulls (M-108), SREJ, SABME, XID and TEST (M-109), and what is left on before and behind a
+   frame, as the header has it. Worked out by hand. */
 static const struct {
     const char *name, *input;
     unsigned number, old, canonical;
@@ -49,8 +50,8 @@ static const struct {
     CANONICAL_FRAME("P5", FRAME),
     BEHIND_NULLS("P6", "00 " FRAME, 0),
     REFUSED_INPUT("P7", ADDRESS "03", 5),
-    REFUSED_INPUT("P8", ADDRESS "0D", 6),
-    REFUSED_INPUT("P9", ADDRESS "6F", 7),
+    CANONICAL_FRAME("P8", ADDRESS "0D"),
+    CANONICAL_FRAME("P9", ADDRESS "6F"),
     REFUSED_INPUT("P10", ADDRESS "87 01 02", 8),
     OTHER_FRAME("P11", ADDRESS "87 F1 03 44", ADDRESS "87 01 02 44"),
     OTHER_FRAME("P12", ADDRESS "01 AA", ADDRESS "01"),
@@ -82,19 +83,33 @@ static const struct {
     BEHIND_NULLS("a null before P3, which makes 14 octets up to the end, and content", "00 " SHORT "01", 3),
     BEHIND_NULLS("a null before P4", "00 " ADDRESS, 4),
     BEHIND_NULLS("a null before P7", "00 " ADDRESS "03", 5),
-    BEHIND_NULLS("a null before P8", "00 " ADDRESS "0D", 6),
-    BEHIND_NULLS("a null before P9", "00 " ADDRESS "6F", 7),
+    BEHIND_NULLS("a null before P8", "00 " ADDRESS "0D", 0),
+    BEHIND_NULLS("a null before P9", "00 " ADDRESS "6F", 0),
+    BEHIND_NULLS("a null before a U frame that is none of AX.25's", "00 " ADDRESS "07", 7),
     BEHIND_NULLS("a null before P10", "00 " ADDRESS "87 01 02", 8),
     BEHIND_NULLS("a null before nine repeaters", "00 " GAUGE "E0 " BOX12 "66 " THREE THREE HILL1 "64 " HILL1 "64 " HILL1 "65 01", 9),
     BEHIND_NULLS("a null before P12, a tail behind it", "00 " ADDRESS "01 AA", 0),
     BEHIND_NULLS("seven nulls before P5, as many as an address has octets", "00 00 00 00 00 00 00 " FRAME, 0),
     BEHIND_NULLS("a null in the place of the first character", "00 82 AA 8E 8A 40 E0 " BOX12 "67 01", 3),
     CANONICAL_FRAME("nulls that are not the first octet", "8E 00 00 00 00 00 E0 00 00 00 00 00 00 61 00 00 00"),
+    CANONICAL_FRAME("SREJ, N(R) 7, P/F set", ADDRESS "FD"),
+    OTHER_FRAME("SREJ with a tail", ADDRESS "ED 00", ADDRESS "ED"),
+    CANONICAL_FRAME("SABME, P/F set", ADDRESS "7F"),
+    OTHER_FRAME("SABME with a tail, as Response", GAUGE "60 " BOX12 "E7 6F 03 F0", GAUGE "60 " BOX12 "E7 6F"),
+    CANONICAL_FRAME("XID without info", ADDRESS "AF"),
+    CANONICAL_FRAME("XID, P/F set, its info behind the control octet", ADDRESS "BF 82 80 00 00"),
+    CANONICAL_FRAME("TEST without info, P/F set", ADDRESS "F3"),
+    CANONICAL_FRAME("TEST with one octet of info, behind a repeater", ROUTED "E3 F0"),
+    OTHER_FRAME("TEST with info, both marks set", GAUGE "E0 " BOX12 "E7 E3 41 42", ADDRESS "E3 41 42"),
+    REFUSED_INPUT("a U frame that is none of AX.25's", ADDRESS "07", 7),
+    REFUSED_INPUT("a U frame of all ones", ADDRESS "FF", 7),
     CANONICAL_FRAME("left on UI: the check sequence", FRAME " 90 05"),
     CANONICAL_FRAME("left on UI: the check sequence and the closing flag", FRAME " 90 05 7E"),
     CANONICAL_FRAME("left on I: the check sequence", ADDRESS "00 F0 4F 4B 5D 20"),
     OTHER_FRAME("left on RR: the check sequence", ADDRESS "01 F3 AF", ADDRESS "01"),
     OTHER_FRAME("left on SABM: the check sequence", ADDRESS "3F 0E 77", ADDRESS "3F"),
+    OTHER_FRAME("left on SREJ: the check sequence", ADDRESS "0D 9F 65", ADDRESS "0D"),
+    CANONICAL_FRAME("left on XID: the check sequence", ADDRESS "AF 82 80 62 20"),
     REFUSED_INPUT("left on FRMR: the check sequence", ADDRESS "87 01 02 44 13 82", 8),
     OTHER_FRAME("left on UI: both flags", "7E " FRAME " 7E", SHIFTED_BY_ONE("7E ", UI "7E")),
     OTHER_FRAME("left on UI: both flags and the check sequence", "7E " FRAME " 90 05 7E", SHIFTED_BY_ONE("7E ", UI "90 05 7E")),
@@ -270,7 +285,7 @@ static void run_contents(void) {
     set_end();
 }
 
-static const uint8_t known_controls[] = {0x00, 0x01, 0x05, 0x09, 0x2F, 0x43, 0x0F, 0x63, 0x87, 0x03};
+static const uint8_t known_controls[] = {0x00, 0x01, 0x05, 0x09, 0x0D, 0x2F, 0x6F, 0x43, 0x0F, 0x63, 0x87, 0x03, 0xAF, 0xE3};
 static const uint8_t known_pids[] = {0x01, 0x06, 0x07, 0x08, 0xC3, 0xC4, 0xCA, 0xCB, 0xCC, 0xCD, 0xCE, 0xCF, 0xF0, 0xFF, 0x10, 0x20, 0x9A, 0xA5};
 
 enum { SCRATCH = 1024 };
@@ -291,12 +306,13 @@ static size_t random_content(uint8_t *out) {
     size_t len = 0;
     out[len++] = (uint8_t)control;
     int has_pid = (control & 1) == 0 || (control & 0xEF) == 0x03;
+    int has_info = has_pid || (control & 0xEF) == 0xAF || (control & 0xEF) == 0xE3;
     if (has_pid && !one_in(8)) out[len++] = one_in(3) ? (uint8_t)below(256) : known_pids[below(sizeof known_pids)];
     if ((control & 0xEF) == 0x87 && !one_in(4)) {
         out[len++] = (uint8_t)(one_in(2) ? below(256) : below(16));
         out[len++] = (uint8_t)(one_in(2) ? below(256) : below(128) << 1);
         out[len++] = (uint8_t)below(256);
-    } else if (has_pid ? !one_in(4) : one_in(4)) {
+    } else if (has_info ? !one_in(4) : one_in(4)) {
         for (size_t n = one_in(8) ? below(400) : below(24); n > 0; n--) out[len++] = (uint8_t)below(256);
     }
     return len;
@@ -331,7 +347,7 @@ static size_t random_octets(uint8_t *out) {
     return len;
 }
 
-enum { NUMBERS = 11 }; /* decoding gives 0 to 10 */
+enum { NUMBERS = 11 }; /* decoding gives 0 to 10, but no 6 */
 static unsigned long seen[NUMBERS], seen_behind[NUMBERS], seen_canonical, seen_rewritten, seen_clear;
 
 /* Whether some address of a canonical frame has a reserved bit that is clear. */
@@ -351,11 +367,12 @@ static void examine_one(const uint8_t *in, size_t len) {
     examine(in, len, &want, below(3));
 }
 
-/* Prints how often each number up to the last was met; gives whether each was, so often or more. */
+/* Prints how often each number up to the last was met; gives whether each but 6, which is owed to no input, was, so often or more. */
 static int print_met(const char *what, const unsigned long *met, int last, unsigned long least) {
     int all = 1;
     printf("  %s:", what);
     for (int n = 0; n <= last; n++) {
+        if (n == 6) continue;
         printf(" %d: %lu%s", n, met[n], n < last ? "," : "\n");
         all = all && met[n] >= least;
     }
@@ -423,6 +440,12 @@ static void run_long(void) {
         want = model(in, all);
         examine_everywhere(in, all, &want);
         in[control] = 0x87;
+        want = model(in, all);
+        examine_everywhere(in, all, &want);
+        in[control] = 0x0D; /* a long tail once more, and info without a PID */
+        want = model(in, all);
+        examine_everywhere(in, all, &want);
+        in[control] = 0xAF;
         want = model(in, all);
         examine_everywhere(in, all, &want);
     }

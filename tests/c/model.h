@@ -1,12 +1,18 @@
-/* Document 01's rules of reading and writing, with document 02's of the layer 3 PID (M-105), of the reserved bits (M-106) and of leading
-   nulls (M-108), and document 02's of relaying, written once more in C from their words: what the calls must say of any octets. */
+/* Document 01's rules of reading and writing, with document 02's of the layer 3 PID (M-105), of the reserved bits (M-106), of leading
+   nulls (M-108) and of long sequence numbers (M-109), and document 02's of relaying, written once more in C from their words: what the
+   calls must say of any octets. */
 #ifndef MODEL_H
 #define MODEL_H
 
 #include <stddef.h>
 #include <stdint.h>
 
+#include "record.h"
+
 #define LONGEST ((size_t)1 << 20) /* no test input is longer */
+
+/* Sequence numbers modulo 8, and modulo 128. The calls for C have the first alone. */
+enum mode { SHORT_MODE, LONG_MODE, MODES };
 
 struct answer {
     unsigned number;          /* what decoding gives */
@@ -20,7 +26,34 @@ struct answer {
 size_t model_nulls(const uint8_t *in, size_t len);
 
 /* The answer for any octets up to LONGEST. What `reencoded` points to holds until the next call. */
+struct answer model_in(enum mode mode, const uint8_t *in, size_t len);
+
+/* The same in the short mode. */
 struct answer model(const uint8_t *in, size_t len);
+
+/* What a decoder gives: a number, what it tells beside it, and where the number is 0 the record. */
+struct reading {
+    unsigned number;
+    size_t details[DETAILS];
+    uint8_t record[RECORD];
+};
+
+struct reading model_decode(enum mode mode, const uint8_t *in, size_t len);
+struct reading model_decode_old(enum mode mode, const uint8_t *in, size_t len);
+
+/* Content alone: of the record its last twelve octets. */
+struct reading model_content(enum mode mode, const uint8_t *in, size_t len);
+
+/* What writing gives where there is room: a number, and where that is 0 the octets, which hold until the next call of the model. */
+struct written {
+    unsigned number;
+    size_t length;
+    const uint8_t *octets;
+};
+
+/* A record, or its first octets, and info of up to LONGEST - RECORD octets; content alone likewise. */
+struct written model_encode(enum mode mode, const uint8_t *record, size_t len, const uint8_t *info, size_t info_len);
+struct written model_encode_content(enum mode mode, const uint8_t *content, size_t len, const uint8_t *info, size_t info_len);
 
 /* A station's address, as ax25_relay is given its own. */
 struct address {

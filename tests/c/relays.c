@@ -15,7 +15,7 @@
 /* The frame that M-102 reports: of three repeaters the first and the third are marked, and the second is not. */
 #define REPORTED PEERS HILL5 "E2 " HILL1 "64 " HILL6 "E3 03 F0"
 
-/* Document 02, M-100, M-102, M-106 and M-108: what they say of each, worked out by hand. A refusal leaves the frame as it was. */
+/* Document 02, M-100, M-102, M-106, M-108 and M-109: what they say of each, worked out by hand. A refusal leaves the frame as it was. */
 static const struct {
     const char *name, *input, *callsign;
     uint8_t ssid;
@@ -36,6 +36,10 @@ static const struct {
     {"relayed: ours twice, with other reserved bits", GAUGE "A0 " BOX12 "06 " HILL1 "44 " HILL1 "25 01", "HILL1", 2, 0,
      GAUGE "A0 " BOX12 "06 " HILL1 "C4 " HILL1 "25 01"},
     {"relayed: FRMR's unnamed bits stay", PEERS HILL1 "65 87 F1 03 44", "HILL1", 2, 0, PEERS HILL1 "E5 87 F1 03 44"},
+    {"relayed: SREJ", PEERS HILL1 "65 0D", "HILL1", 2, 0, PEERS HILL1 "E5 0D"},
+    {"relayed: SABME, a tail stays", PEERS HILL1 "65 6F AA", "HILL1", 2, 0, PEERS HILL1 "E5 6F AA"},
+    {"relayed: XID with info", PEERS HILL1 "65 BF 82 80", "HILL1", 2, 0, PEERS HILL1 "E5 BF 82 80"},
+    {"relayed: TEST without info", PEERS HILL1 "65 E3", "HILL1", 2, 0, PEERS HILL1 "E5 E3"},
     {"relayed: a callsign with its padding", PEERS HILL1 "65 01", "HILL1 ", 2, 0, PEERS HILL1 "E5 01"},
     {"relayed: a callsign of spaces, as an empty one", PEERS SPACES "65 01", "", 2, 0, PEERS SPACES "E5 01"},
     {"relayed: a check sequence that is left on stays", PEERS HILL1 "65 03 F0 4F 4B EA 5B", "HILL1", 2, 0,
@@ -63,8 +67,9 @@ static const struct {
     {"not relayed: no content", PEERS HILL1 "65", "HILL1", 2, 4, NULL},
     {"not relayed: nine repeaters", PEERS FOUR FOUR HILL1 "65 01", "HILL1", 2, 9, NULL},
     {"not relayed: UI without PID", PEERS HILL1 "65 03", "HILL1", 2, 5, NULL},
-    {"not relayed: SREJ", PEERS HILL1 "65 0D", "HILL1", 2, 6, NULL},
-    {"not relayed: SABME", PEERS HILL1 "65 6F", "HILL1", 2, 7, NULL},
+    {"not relayed: a U frame that is none of AX.25's", PEERS HILL1 "65 07", "HILL1", 2, 7, NULL},
+    {"not relayed: SREJ of another station", PEERS HILL2 "65 0D", "HILL1", 2, 42, NULL},
+    {"not relayed: XID without a repeater", GAUGE "E0 " BOX12 "67 AF 82", "BOX12", 3, 41, NULL},
     {"not relayed: FRMR of three octets", PEERS HILL1 "65 87 01 02", "HILL1", 2, 8, NULL},
     {"not relayed: no repeater", "8E 82 AA 8E 8A 40 E0 84 9E B0 62 64 40 67 03 20", "BOX12", 3, 41, NULL},
     {"not relayed: six octets left over are no repeater", PEERS "90 92 98 98 62 41 03 20", "HILL1", 2, 41, NULL},
@@ -229,7 +234,7 @@ static void run_reserved(void) {
 /* Frames with so many nulls before them, and what re-encoding changes: leftover octets, tails and FRMR's unnamed bits; and layer 3 PIDs
    and reserved bits, which it keeps. */
 static void relay_all(size_t nulls) {
-    static const char *const contents[] = {"03 20 67", "00 9A", "21", "09 AA 55", "63 00", "3F FF", "87 F1 03 44"};
+    static const char *const contents[] = {"03 20 67", "00 9A", "21", "09 AA 55", "63 00", "3F FF", "87 F1 03 44", "AD 01", "6F 67", "BF 82 80", "E3"};
     struct frame f = {nulls, 0, 0, 0, 0, NULL};
     for (f.repeaters = 1; f.repeaters <= 8; f.repeaters += 7)
         for (f.leftover = 0; f.leftover <= 6; f.leftover++)
