@@ -16,7 +16,10 @@ import struct
 import sys
 
 # Control octets with P/F and the numbers zero. I is any even octet.
-KINDS = {'I': 0x00, 'RR': 0x01, 'RNR': 0x05, 'REJ': 0x09, 'SABM': 0x2F, 'DISC': 0x43, 'DM': 0x0F, 'UA': 0x63, 'FRMR': 0x87, 'UI': 0x03}
+KINDS = {'I': 0x00, 'RR': 0x01, 'RNR': 0x05, 'REJ': 0x09, 'SREJ': 0x0D, 'SABM': 0x2F, 'SABME': 0x6F, 'DISC': 0x43, 'DM': 0x0F, 'UA': 0x63,
+         'FRMR': 0x87, 'UI': 0x03, 'XID': 0xAF, 'TEST': 0xE3}
+SUPERVISORY = ('RR', 'RNR', 'REJ', 'SREJ')
+HAS_INFO = ('I', 'UI', 'XID', 'TEST')
 P_F = 0x10
 # How direwolf names the protocol identifiers; it names the layer 3 class without its octet, and gives the octet of an unknown one.
 DIREWOLF_PIDS = {
@@ -53,7 +56,7 @@ class Dice:
 
 
 def made_contents(dice):
-    """Every control octet of the ten kinds, and every PID in an I frame."""
+    """Every control octet of every kind, and every PID in an I frame."""
     info = lambda: b'LEVEL 3.20 M'[:dice.roll(13)]
     ours = []
     controls = dice.shuffled(range(0, 256, 2)) * 2
@@ -61,10 +64,12 @@ def made_contents(dice):
     named = [*DIREWOLF_PIDS.values(), 0x10]
     for pid in named + [dice.roll(256) for _ in range(49)]:
         ours += [bytes([KINDS['UI'] | p_f, pid]) + info() for p_f in (0, P_F)]
-    for kind in ('RR', 'RNR', 'REJ'):
+    for kind in SUPERVISORY:
         ours += [bytes([number << 5 | p_f | KINDS[kind]]) for number in range(8) for p_f in (0, P_F)]
-    for kind in ('SABM', 'DISC', 'DM', 'UA') * 4:
+    for kind in ('SABM', 'SABME', 'DISC', 'DM', 'UA') * 4:
         ours += [bytes([p_f | KINDS[kind]]) for p_f in (0, P_F)]
+    for kind in ('XID', 'TEST'):
+        ours += [bytes([p_f | KINDS[kind]]) + octets for octets in (b'', b'\x82', *(info() for _ in range(6))) for p_f in (0, P_F)]
     for _ in range(4):
         ours += [bytes([p_f | KINDS['FRMR'], dice.roll(16), dice.roll(128) << 1, dice.roll(256)]) for p_f in (0, P_F)]
     return dice.shuffled(ours)
@@ -107,7 +112,7 @@ def spoilt_frames():
     """Frames made as above with one thing that the port accepts and does not call canonical (A12, A4)."""
     dice = Dice(52)
     frames = made_frames()
-    short = [frame for frame in frames if Layout(frame).kind() not in ('I', 'UI', 'FRMR')]
+    short = [frame for frame in frames if Layout(frame).kind() not in (*HAS_INFO, 'FRMR')]
     spoilt = []
     for spoil, whole in ((equal_marks, frames[::6]), (tail, short[::2])):
         for frame in map(bytearray, whole):
@@ -228,7 +233,7 @@ def by_dumper(text):
         return REFUSED
     route = [entry for entry in said['route'].split(',') if entry]
     kind, control, pid = said['kind'], int(said['control'], 16), said['pid']
-    numbered = kind in ('I', 'RR', 'RNR', 'REJ')
+    numbered = kind in ('I', *SUPERVISORY)
     return {
         'accepted': 'yes', 'destination': unescaped(said['destination']), 'source': unescaped(said['source']),
         'repeaters': listed(unescaped(entry.rstrip('*')) for entry in route),
@@ -236,7 +241,7 @@ def by_dumper(text):
         'mark': said['mark'], 'kind': kind, 'control': said['control'],
         'nr': str(control >> 5) if numbered else '-', 'ns': str(control >> 1 & 7) if kind == 'I' else '-', 'pf': str(control >> 4 & 1),
         **dumper_pid(pid), 'frmr': None if kind == 'FRMR' else '-',
-        'info_length': said['info_length'] if pid != '-' else '-', 'canonical': said['canonical']}
+        'info_length': said['info_length'] if kind in HAS_INFO else '-', 'canonical': said['canonical']}
 
 
 def answered(printed, lines):
@@ -259,7 +264,7 @@ def canonical(groups, kind, stray):
 def common(groups, kind, pid, after):
     """What is made alike of both programs' reports. `after` is how many octets follow the control octet, and the PID if there is one; None
     where a program looks for no PID."""
-    has_info = kind in ('I', 'UI')
+    has_info = kind in HAS_INFO
     return {
         'accepted': 'yes', 'destination': groups[0].address, 'source': groups[1].address, 'kind': kind,
         'repeaters': listed(group.address for group in groups[2:]), 'marks': listed(str(group.mark) for group in groups[2:]),
@@ -353,6 +358,7 @@ def by_direwolf(report):
     if not found:
         return REFUSED
     information, kind, nr, pf, ns, words, length = found.groups()
+    kind = {'sREJ': 'SREJ'}.get(kind, kind)
     groups = direwolf_groups(report)
     marks = (groups[0].mark, groups[1].mark)
     pid = direwolf_pid(words)
@@ -397,8 +403,6 @@ def odd_character(lowest):
 
 
 BOTH = [
-    (REFUSAL, ['accepted'], lambda frame, field: frame.content and frame.kind() is None,
-     'a kind that the program knows and the port does not (A8), or one of HDLC alone'),
     (REFUSAL, ['accepted'], lambda frame, field: frame.kind() == 'FRMR' and len(frame.content) != 4,
      "FRMR's length: the program does not look at it"),
     (SILENCE, ['frmr'], of_kind('FRMR'),
@@ -407,6 +411,8 @@ BOTH = [
      "whether FRMR's bits without a name are zero: the program does not say (A10)"),
 ]
 TSHARK = BOTH + [
+    (REFUSAL, ['accepted'], lambda frame, field: frame.content and frame.kind() is None,
+     'a kind that HDLC has and AX.25 has not: tshark knows it'),
     (REFUSAL, ['accepted'], lambda frame, field: len(frame.groups) > 10,
      'nine repeaters: tshark shows eight and passes over the rest (B1)'),
     (SILENCE, ['pid', 'layer_3', 'info_length'], lambda frame, field: frame.kind() == 'UI' and frame.p_f(),
@@ -415,7 +421,7 @@ TSHARK = BOTH + [
      'whether a PID is of the layer 3 class: tshark gives its octet alone, which is compared'),
     (SILENCE, ['mark'], of_kind('I'),
      'I: tshark does not say whether Command or Response, since an I frame is a Command (A15)'),
-    (SILENCE, ['mark'], lambda frame, field: frame.kind() in ('RR', 'RNR', 'REJ') and not frame.p_f(),
+    (SILENCE, ['mark'], lambda frame, field: frame.kind() in SUPERVISORY and not frame.p_f(),
      'S without P/F: tshark does not say whether Command or Response'),
     (ANOTHER, ['kind'], lambda frame, field: (frame.kind(), frame.is_response()) in (('DISC', True), ('DM', False)),
      "DISC as Response and DM as Command (A15): tshark gives HDLC's names for these, RD and SARM"),
