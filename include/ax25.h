@@ -14,8 +14,8 @@
      its address field. The type octet alone shifts by one; that of port 0 is AX25_LEADING_NULL_BYTES.
    - The escapes of a KISS packet, DB DC for C0 and DB DD for DB, are two octets each where they are left in. In info that is all; in
      an address DB ends the address field, since its low bit is set.
-   - A check sequence, a flag or a C0 behind the frame is more info of an I or UI frame, which is as canonical as it was without.
-     Of an FRMR it is AX25_WRONG_SIZE_FRMR_INFO. Of any other kind it is a tail: ignored, dropped by re-encoding, and not canonical.
+   - A check sequence, a flag or a C0 behind the frame is more info of an I, UI, XID or TEST frame, which is as canonical as it was
+     without. Of an FRMR it is AX25_WRONG_SIZE_FRMR_INFO. Of any other kind it is a tail: ignored, dropped by re-encoding, and not canonical.
      ax25_relay leaves it where it is, so that a check sequence no longer fits what was marked.
 
    What every call asks of its caller:
@@ -76,23 +76,27 @@ extern "C" {
 /* No call uses more stack than this, in octets, its return address included. What memcpy and memset use comes on top. */
 #define AX25_STACK 1024
 
-/* Every number that the component gives. The calls give 0 to 10, 22, 24, 41 to 43 and 51 to 56; the others belong to parts
-   that C does not reach: writing records, text and the dumper. */
+/* Every number that the component gives. The calls give 0 to 5, 7 to 10, 22, 24, 41 to 43 and 51 to 56; the others belong to parts
+   that C does not reach: the long mode, writing records, text and the dumper. All calls read and write frames in the short mode, in
+   which sequence numbers are taken modulo 8; the long mode takes them modulo 128. */
 enum ax25_number {
     AX25_ACCEPTED = 0,
 
     /* Reading a frame. The end is the first octet with its low bit set, and the span is how many octets there are up to it, itself
-       included. The first of 1, 10, 2, 3, 4, 9 that holds is given, and where none does, the one of 5 to 8 that does. */
+       included. The first of 1, 10, 2, 3, 4, 9 that holds is given, and where none does, the one of 5, 7, 8 that does; in the long mode
+       the first of 11, 12, 5, 7 that does. 6 is no longer given: every supervisory frame is known. */
     AX25_ONLY_NULL_BYTES = 1,          /* no nonzero octet; the empty input too */
     AX25_NO_END_TO_ADDRESS_FIELD = 2,  /* no octet with its low bit set */
     AX25_ADDRESS_FIELD_TOO_SHORT = 3,  /* the span is below 14 */
     AX25_FRAME_TOO_SHORT = 4,          /* nothing after the end */
     AX25_MISSING_PID_FIELD = 5,        /* an I or UI frame without its PID octet */
-    AX25_UNRECOGNISED_S_FIELD = 6,     /* a supervisory frame other than RR, RNR, REJ */
-    AX25_UNRECOGNISED_U_FIELD = 7,     /* an unnumbered frame other than SABM, DISC, DM, UA, FRMR, UI */
+    AX25_UNRECOGNISED_S_FIELD = 6,     /* no longer given; it was SREJ */
+    AX25_UNRECOGNISED_U_FIELD = 7,     /* an unnumbered frame other than SABM, SABME, DISC, DM, UA, FRMR, UI, XID, TEST */
     AX25_WRONG_SIZE_FRMR_INFO = 8,     /* an FRMR whose content is not four octets */
     AX25_TOO_MANY_REPEATERS = 9,       /* nine or more repeaters */
     AX25_LEADING_NULL_BYTES = 10,      /* the first octet is zero, and not all are */
+    AX25_FRMR_IN_LONG_MODE = 11,       /* an FRMR in the long mode, whatever its size; read, or to be written */
+    AX25_MISSING_CONTROL_OCTET = 12,   /* an I or supervisory frame of the long mode without its second control octet */
 
     /* Writing a frame, printing an address, and our own address when relaying; 24 also of KISS packets and their data. */
     AX25_ROUTE_TOO_LONG = 21,          /* a route count over 8 */
@@ -126,7 +130,8 @@ enum ax25_number {
     AX25_KISS_PORT_TOO_HIGH = 56       /* a port over 11 */
 };
 
-/* Whether the input can be read as a frame: AX25_ACCEPTED, or the first of 1, 10, 2, 3, 4, 9, 5, 6, 7, 8 that holds. */
+/* Whether the input can be read as a frame, of the short mode: AX25_ACCEPTED, or the first of 1, 10, 2, 3, 4, 9, 5, 7, 8 that holds. A
+   frame of the long mode is mostly accepted too, and read as another one: nothing in a frame tells its mode. */
 uint32_t ax25_decode(const uint8_t *in, size_t in_len);
 
 /* The same of a frame from an old capture, one that was taken while the box skipped null octets before a frame: they are skipped here,
@@ -171,7 +176,7 @@ size_t ax25_reencoded_length(const uint8_t *in, size_t in_len);
    received, by ax25_relay. Re-encoding
    - drops octets left over between the last whole address and the end of the address field,
    - writes an absent command/response mark (both bits equal) as Command,
-   - drops the octets after the control octet of RR, RNR, REJ, SABM, DISC, DM and UA frames,
+   - drops the octets after the control octet of RR, RNR, REJ, SREJ, SABM, SABME, DISC, DM and UA frames,
    - clears FRMR's unnamed bits: the high four of its first info octet and the low one of its second.
    All else is kept, every PID and the two reserved bits of every address too. A canonical frame has none of these and re-encodes as
    itself. */

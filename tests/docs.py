@@ -395,7 +395,8 @@ def numbers():
         [row[0] for row in table if len(row) != 4 or not all(sentence.fullmatch(re.sub(r'\bax25_\w+', '', cell)) for cell in row[2:])],
     )
     dumped = {row[0]: row[1] for table in tables(sections(read('README.md'))['Looking at a frame']) if table[0][0] == 'answer' for row in table[1:]}
-    owed = {row[0]: row[2] for row in table if int(row[0]) in (*range(11), 50)}
+    # The dumper reads in the short mode, which has no 11 and 12; and 6 is no longer given.
+    owed = {row[0]: row[2] for row in table if int(row[0]) in (*range(6), *range(7, 11), 50)}
     check("README's table of the dumper's answers has its words", [n for n in dumped | owed if dumped.get(n) != owed.get(n)])
     octets = {row[0]: row[1].removeprefix('F ') for row in rows(page['What looks like a broken frame and is none'])}
     frame, left_on = (bytes.fromhex(octets[name]) for name in ('F, a frame as it should be', 'a frame with its check sequence'))
