@@ -1,6 +1,6 @@
 /* Both modes of the port (document 02, M-109): what the crate `probe` shows of reading and writing, held to the model on every content of
    one and two octets, every two control octets, every sequence number, records that break one rule or several, random and damaged frames,
-   and on frames that direwolf sent in connected mode.
+   and on frames that direwolf sent in connected mode; and canonical frames beside themselves with one bit changed (M-107).
    usage: long FRAMES [THOUSANDS [SEED]]: FRAMES is connected.txt; that many thousand random inputs */
 #include <stdio.h>
 #include <stdlib.h>
@@ -507,6 +507,68 @@ static void run_orders(void) {
     set_end();
 }
 
+/* Document 02's M-107 with M-109: the bits of content that no frame shows, by the place in it. */
+static unsigned excepted(unsigned kind, size_t place) {
+    if (kind == FRMR) return place == 1 ? 0xF0 : place == 2 ? 0x01 : 0;
+    return mode == LONG_MODE && kind >= RR && kind <= SREJ && place == 0 ? 0xF0 : 0;
+}
+
+/* Whether the port shows two inputs of one length as the same frame with the same info octets. */
+static int shown_alike(const struct reading *one, const uint8_t *octets, const struct reading *other, const uint8_t *others) {
+    size_t info_len = one->details[INFO_LENGTH];
+    return one->number == 0 && other->number == 0 && memcmp(one->record, other->record, RECORD) == 0 && other->details[INFO_LENGTH] == info_len &&
+           (info_len == 0 || memcmp(octets + one->details[INFO_START], others + other->details[INFO_START], info_len) == 0);
+}
+
+static unsigned long excepted_bits, other_bits;
+
+static void examine_bits(uint8_t *octets, size_t len, unsigned kind, size_t control) {
+    uint8_t changed[256];
+    count_input();
+    next_turn();
+    look_from(octets, len, show_mode);
+    struct reading want = by_port(octets, len);
+    look(IS_CANONICAL, probe_canonical(asked, octets, len) == 1, 1, 0);
+    for (size_t bit = 0; bit < 8 * len; bit++) {
+        size_t at = bit / 8;
+        unsigned mask = 1u << bit % 8, unseen = at >= control && excepted(kind, at - control) & mask ? 1 : 0;
+        memcpy(changed, octets, len);
+        changed[at] ^= (uint8_t)mask;
+        struct reading got = by_port(changed, len);
+        unsigned alike = (unsigned)shown_alike(&want, octets, &got, changed);
+        look(UNSEEN, alike == unseen, unseen, alike);
+        if (unseen) look(IS_CANONICAL, probe_canonical(asked, changed, len) == 0, 0, 1);
+        excepted_bits += unseen;
+        other_bits += !unseen;
+    }
+}
+
+/* Canonical frames of every kind, with none to eight repeaters, and every one of their bits changed alone. */
+static void run_unseen(void) {
+    uint8_t record[RECORD], octets[256];
+    char line[160];
+    draw_from(0x107);
+    excepted_bits = other_bits = 0;
+    begin("every bit of canonical frames changed alone");
+    for (unsigned kind = 0; kind < UNKNOWN_KIND; kind++)
+        for (unsigned times = 0; times < 54; times++) {
+            plain_record(record, kind);
+            record[ROUTE_COUNT] = (uint8_t)(times % 9);
+            record[MARK] = (uint8_t)(times % 2);
+            for (size_t i = 0; i < 8; i++) record[ROUTE + ENTRY * i + ADDRESS] = (uint8_t)below(2);
+            for (size_t i = POLL; i < RECORD; i++) record[i] = (uint8_t)(i == RECEIVE || i == SEND || i == REJECTED_CONTROL ? below(256) : below(2));
+            record[PID_CASE] = (uint8_t)below(16);
+            record[PID_OCTET] = (uint8_t)(record[PID_CASE] == LAYER_3 ? 0x10 << below(2) : 0x80);
+            struct written frame = model_encode(mode, record, RECORD, text, kind == I || kind >= UI ? below(4) : 0);
+            if (frame.number != 0) continue;
+            memcpy(octets, frame.octets, frame.length);
+            examine_bits(octets, frame.length, kind, 14 + 7 * (size_t)record[ROUTE_COUNT]);
+        }
+    set_end();
+    snprintf(line, sizeof line, "%s: of these bits some are excepted, %lu, and the others not, %lu", mode_names[mode], excepted_bits, other_bits);
+    say(excepted_bits > 200 && other_bits > 100000, line);
+}
+
 /* Too little room for what a call leaves beside its octets: one of the calls, with so many octets and so few sizes. */
 static unsigned cramped(unsigned call, const uint8_t *octets, size_t len, struct output *out, struct sizes *sizes) {
     uint8_t record[RECORD], *at = out->lent.at;
@@ -631,7 +693,9 @@ static void run_random(unsigned long thousands, uint64_t seed) {
 }
 
 /* What direwolf calls a kind. */
-static const char *const kind_names[UNKNOWN_KIND] = {"I", "RR", "RNR", "REJ", "SREJ", "SABM", "SABME", "DISC", "DM", "UA", "FRMR", "UI", "XID", "TEST"};
+static const char *const kind_names[UNKNOWN_KIND] = {
+    "I", "RR", "RNR", "REJ", "SREJ", "SABM", "SABME", "DISC", "DM", "UA", "FRMR", "UI", "XID", "TEST",
+};
 
 /* The number behind these words, which are direwolf's; `none` where they are not there. */
 static unsigned behind(const char *words, const char *name, unsigned none) {
@@ -641,9 +705,11 @@ static unsigned behind(const char *words, const char *name, unsigned none) {
 
 static unsigned kind_in(const char *words) {
     const char *at = strchr(words, '(');
-    unsigned kind = 0;
-    while (at && kind < UNKNOWN_KIND && !(strncmp(at + 1, kind_names[kind], strlen(kind_names[kind])) == 0 && at[1 + strlen(kind_names[kind])] == ' ')) kind++;
-    return at ? kind : UNKNOWN_KIND;
+    for (unsigned kind = 0; at && kind < UNKNOWN_KIND; kind++) {
+        size_t len = strlen(kind_names[kind]);
+        if (strncmp(at + 1, kind_names[kind], len) == 0 && at[1 + len] == ' ') return kind;
+    }
+    return UNKNOWN_KIND;
 }
 
 static unsigned long met_connected[MODES][UNKNOWN_KIND];
@@ -723,6 +789,7 @@ int main(int argc, char **argv) {
         run_records();
         run_pids();
         run_orders();
+        run_unseen();
         run_cramped();
         run_random(thousands, seed);
     }

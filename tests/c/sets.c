@@ -51,6 +51,7 @@ static const char *const names[CHECKS] = {
     "writing content alone gives the octets",
     "too little room for a record, its details or a length is 24, and nothing is touched",
     "what is written of a record is decoded as that record, its numbers modulo 8 or 128",
+    "a changed bit of a canonical frame shows, in the frame or in its info, just where it is not excepted",
     "the fields are as they were told",
 };
 
