@@ -201,18 +201,18 @@ def real(work):
 
 def of_a_log(work, log, count, nulls):
     page, made = of_captures(work, [log])
-    again = 'the same octets: 51, the same but for excepted bits: 1, another frame: 2, another length with the same frame and info: 6'
-    met = 'the same but for excepted bits: 1, another length with the same frame and info: 5'
+    again = 'the same octets: 60, the same but for excepted bits: 1, another frame: 2, another length with the same frame and info: 8'
+    met = 'the same but for excepted bits: 1, another length with the same frame and info: 6'
     for what, words in (
-        ('counts the KISS packets by number', f'- {count + 21} KISS packets read: {count} accepted, 10 refused by 54, 11 refused by 56.\n'),
+        ('counts the KISS packets by number', f'- {count + 23} KISS packets read: {count} accepted, 11 refused by 54, 12 refused by 56.\n'),
         ('says how frames stand to one another',
-         f'- Beside what it is re-encoded as each accepted frame is: {again}. 7 frames met with the frame and info of an earlier one, which for 1 '
+         f'- Beside what it is re-encoded as each accepted frame is: {again}. 8 frames met with the frame and info of an earlier one, which for 1 '
          f'of them is no more canonical than they are; beside the canonical one of the two the other is: {met}.\n'),
         ('says how many had leading nulls',
          f'- {nulls} of {count} frames had leading nulls: the decoder refuses them by 10, and the entry for old captures answers as the Rust '
          'does, but for the listed differences.\n'),
         ('counts what it gives out as a stream',
-         f'- 1 KISS stream of {os.path.getsize(log):,} octets read in pieces: {count} packets given out, 21 dropped.\n'),
+         f'- 1 KISS stream of {os.path.getsize(log):,} octets read in pieces: {count} packets given out, 23 dropped.\n'),
     ):
         check(f'of frames.kiss the report {what}', words in page, page.partition('What came of them:')[2][:2000])
     part = made['verdict']['parts'][2]
