@@ -68,8 +68,8 @@ extern "C" {
 
 /* The version of the component: header and archive belong together. A step of the first number changes an answer of a call, one of
    the second adds something, one of the third does neither. */
-#define AX25_VERSION "1.0.0"
-#define AX25_VERSION_MAJOR 1
+#define AX25_VERSION "2.0.0"
+#define AX25_VERSION_MAJOR 2
 #define AX25_VERSION_MINOR 0
 #define AX25_VERSION_PATCH 0
 

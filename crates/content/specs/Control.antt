@@ -1,6 +1,7 @@
 -- AX.25's tables of control fields, a line a kind, bit 7 first as they draw it: r is N(R), s is N(S), P is the poll or final bit. A
 -- kind's number is its octet with all of these zero. The lines are those of the short mode (modulo 8). In the long mode (modulo 128) an I
 -- or S control is two octets, the second r r r r r r r P; the first is s s s s s s s 0 in an I frame, and the kind's number in an S frame.
+-- The long mode, SREJ, SABME, XID and TEST are document 02's (M-109; docs/DIFFERENCES.md, B9).
 use Prim.Native.Nat.{ℕ, _+_, _*_}
 use mathlib.Core.Bool.{Bool}
 use mathlib.Core.List.{List}
