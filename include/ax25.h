@@ -84,7 +84,7 @@ enum ax25_number {
 
     /* Reading a frame. The end is the first octet with its low bit set, and the span is how many octets there are up to it, itself
        included. The first of 1, 10, 2, 3, 4, 9 that holds is given, and where none does, the one of 5, 7, 8 that does; in the long mode
-       the first of 11, 12, 5, 7 that does. 6 is no longer given: every supervisory frame is known. */
+       the first of 12, 5, 7, 11 that does. 6 is no longer given: every supervisory frame is known. */
     AX25_ONLY_NULL_BYTES = 1,          /* no nonzero octet; the empty input too */
     AX25_NO_END_TO_ADDRESS_FIELD = 2,  /* no octet with its low bit set */
     AX25_ADDRESS_FIELD_TOO_SHORT = 3,  /* the span is below 14 */
