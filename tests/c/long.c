@@ -122,7 +122,7 @@ static void reencode_into(const struct written *want, const uint8_t *octets, siz
     struct lent in = lend_input(octets, len);
     struct output out = lend_output(room);
     struct sizes length = lend_sizes(1 + turn % 2);
-    unsigned due = fitting(want, room), number = probe_reencode(asked, in.at, len, out.lent.at, room, length.at, length.count);
+    unsigned due = fitting(want, room), number = probe_reencode(asked, in.at, len, out.lent.at, room, length.at);
     look(REWRITTEN, number == due, due, number);
     look_at_input(&in, octets);
     look_at_output(RESPELLED, &out, due != 0, want->octets, want->length);
@@ -332,7 +332,7 @@ static void run_examples(void) {
         look_at_told(&told, &modelled, control, len);
         size_t again_len = from_hex(PEERS, again) + from_hex(examples[i].again, again + control);
         if (told.number != 0) continue;
-        unsigned number = probe_reencode(asked, octets, len, written, sizeof written, &length, 1);
+        unsigned number = probe_reencode(asked, octets, len, written, sizeof written, &length);
         look(SAID, number == 0 && length == again_len && memcmp(written, again, again_len) == 0, again_len, length);
         int same = len == again_len && memcmp(octets, again, len) == 0;
         look(SAID, (int)probe_canonical(asked, octets, len) == same, (unsigned)same, (unsigned)!same);

@@ -20,8 +20,6 @@ ghost use Rattle.parse.specs.Content.{contentOf};
 ghost use Rattle.parse.specs.Content.{numberOf as contentNumber};
 ghost use Rattle.content.specs.Mode.{modeOf};
 ghost use Rattle.content.specs.Encode.{encodeNumber, encodeOf, encoded};
-ghost use Rattle.spelling.specs.Canonical.{canonical};
-ghost use Rattle.respelling.specs.Reencode.{reencode, reencoded, reportOf as reencodeReport};
 ghost use Rattle.hops.specs.Station.{sameStation};
 ghost use Rattle.octets.specs.Splice.{splice};
 ghost use Rattle.flat.specs.Laid.{addressFlat, flatOf};
@@ -106,34 +104,6 @@ pub extern "C" fn probe_decode_old(
         flat,
         places,
     )
-}
-
-// 1 where the input is canonical, else 0.
-#[no_mangle]
-pub extern "C" fn probe_canonical(mode: u32, input: &[u8]) -> u32
-    ensures { λ r. ⌜ r ≡ cond (canonical (modeOf mode) (now (input .entry))) 1 0 ⌝ }
-{
-    if spelling::is_canonical(Mode::of_number(mode), input) {
-        1
-    } else {
-        0
-    }
-}
-
-// Re-encodes: the number, the octets, and their count.
-#[no_mangle]
-pub extern "C" fn probe_reencode(mode: u32, input: &[u8], out: &mut [u8], len: &mut [usize]) -> u32
-    ensures { λ r. ⌜ r ≡ answers (lacks (now (len .entry)) 1) (reencodeReport (reencode (modeOf mode) (now (input .entry)) (length (now (out .entry))) .answer) .number) ⌝ }
-    ensures { λ r. ⌜ now (out .exit) ≡ leaves (lacks (now (len .entry)) 1) (now (out .entry)) (reencoded (modeOf mode) (now (input .entry)) (length (now (out .entry)))) ⌝ }
-    ensures { λ r. ⌜ now (len .exit) ≡ leaves (lacks (now (len .entry)) 1) (now (len .entry)) (reencode (modeOf mode) (now (input .entry)) (length (now (out .entry))) .length ∷ []) ⌝ }
-{
-    if len.len() < 1 {
-        return NO_ROOM;
-    }
-    let done = respelling::reencode(Mode::of_number(mode), input, out);
-    let answer = done.answer;
-    len[0] = done.length;
-    answer.number()
 }
 
 // Writes the frame of a flat record: the number, the octets, and their count.

@@ -3,8 +3,8 @@ use mathlib.Core.Path.{_≡_, refl, sym}
 use Rattle.content.specs.Mode.{modeOf}
 use Rattle.spelling.specs.Canonical.{canonical}
 use borrow.Author.Needs.{needs}
-use Rattle.probe.proofs.probe_canonical.Statement.{statement}
-use Rattle.probe.proofs.probe_canonical.Tie as tie
+use Rattle.probe_spelling.proofs.probe_canonical.Statement.{statement}
+use Rattle.probe_spelling.proofs.probe_canonical.Tie as tie
 
 checked : (c : tie.After-is-canonical) →
     let a = c .before .before .before .args in
