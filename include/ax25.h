@@ -155,7 +155,8 @@ uint32_t ax25_canonical(const uint8_t *in, size_t in_len);
    Our own station is `callsign`, 0 to 6 octets below 128, and `ssid`, 0 to 15. The octets are taken as they are, lower case too,
    and padded with spaces to six. The due place, counted from 0, is the first repeater that is not marked, or the number of
    repeaters where all are. The repeater there is our own station where its six characters and its SSID are ours, whatever its reserved
-   bits are. A frame with broken marks, one of them after a repeater without, is never relayed, whoever is due.
+   bits are. A frame with broken marks, one of them after a repeater without, is never relayed, whoever is due. The mode of a frame does
+   not matter: whatever is a frame in the long mode is accepted here too, with the same stations and marks, and stays as received.
 
    Otherwise the answer is the first of these that holds, and all of `frame` stays as it was:
    - AX25_NOT_ENCODABLE: our own address has more than six octets, or one of 128 or more, or an SSID over 15, whatever the frame is;
@@ -176,7 +177,8 @@ size_t ax25_reencoded_length(const uint8_t *in, size_t in_len);
    received, by ax25_relay. Re-encoding
    - drops octets left over between the last whole address and the end of the address field,
    - writes an absent command/response mark (both bits equal) as Command,
-   - drops the octets after the control octet of RR, RNR, REJ, SREJ, SABM, SABME, DISC, DM and UA frames,
+   - drops the octets after the control octet of RR, RNR, REJ, SREJ, SABM, SABME, DISC, DM and UA frames; so the second control octet of
+     such frames of the long mode,
    - clears FRMR's unnamed bits: the high four of its first info octet and the low one of its second.
    All else is kept, every PID and the two reserved bits of every address too. A canonical frame has none of these and re-encodes as
    itself. */

@@ -55,7 +55,7 @@ given-append (row ∷ a) b e =
     by (row .1) (λ t. rw (t, nonzero) refl) (λ t. rw t (given-append a b rest))
 
 -- a decode is accepted where its number is 0
-zero-accepted : (a : DecodeAnswer) → eqb (numberOf a) 0 ≡ isAccepted a
+pub zero-accepted : (a : DecodeAnswer) → eqb (numberOf a) 0 ≡ isAccepted a
 zero-accepted read.Accepted = refl
 zero-accepted read.OnlyNullBytes = refl
 zero-accepted read.NoEndToAddressField = refl

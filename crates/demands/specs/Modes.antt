@@ -1,12 +1,22 @@
 -- Document 02, M-109: settled cases of the long mode, and of the kinds that both modes gained.
 use Prim.Native.Nat.{ℕ}
+use mathlib.Core.Path.{_≡_}
 use mathlib.Core.Bool.{true, false}
 use mathlib.Core.List.{List, [], _∷_, _++_}
 use Rattle.protocol.specs.declared.ProtocolIdentifier.the-variants.{None}
 use Rattle.content.specs.declared.FrameContent.{FrameContent}
 use Rattle.content.specs.declared.FrameContent.the-variants as kind
 use Rattle.decode.specs.Answer.{number}
+use Rattle.frame.specs.declared.Ax25Frame.{Ax25Frame}
 use Rattle.demands.specs.Examples.{Outcome, addresses, with, refused}
+
+-- two frames that differ in their content alone
+pub record AllButContent (f g : Ax25Frame) : Type 0 where
+  pub source : f .source ≡ g .source
+  pub destination : f .destination ≡ g .destination
+  pub route : f .route ≡ g .route
+  pub count : f .«route_count» ≡ g .«route_count»
+  pub mark : f .«command_or_response» ≡ g .«command_or_response»
 
 -- document 01's address octets with this content
 abbrev pub content : List ℕ → List ℕ
