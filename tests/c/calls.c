@@ -290,15 +290,6 @@ static const uint8_t known_pids[] = {0x01, 0x06, 0x07, 0x08, 0xC3, 0xC4, 0xCA, 0
 
 enum { SCRATCH = 1024 };
 
-/* One address group: mostly letters, now and then with spaces after them; the reserved bits are often both set, as most stations have
-   them. */
-static size_t random_group(uint8_t *out) {
-    unsigned characters = one_in(3) ? below(6) : 6;
-    for (unsigned i = 0; i < 6; i++) out[i] = (uint8_t)((i >= characters ? ' ' : one_in(6) ? below(128) : 'A' + below(26)) << 1);
-    out[6] = (uint8_t)(below(2) << 7 | (one_in(2) ? below(4) << 5 : 0x60) | below(16) << 1);
-    return 7;
-}
-
 static size_t random_content(uint8_t *out) {
     unsigned control = one_in(4) ? below(256) : known_controls[below(sizeof known_controls)];
     if (one_in(2)) control ^= 0x10;

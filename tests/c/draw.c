@@ -85,3 +85,10 @@ static uint8_t filler(enum filling filling, size_t i) {
 void fill(uint8_t *out, size_t len, enum filling filling) {
     for (size_t i = 0; i < len; i++) out[i] = filler(filling, i);
 }
+
+size_t random_group(uint8_t *out) {
+    unsigned characters = one_in(3) ? below(6) : 6;
+    for (unsigned i = 0; i < 6; i++) out[i] = (uint8_t)((i >= characters ? ' ' : one_in(6) ? below(128) : 'A' + below(26)) << 1);
+    out[6] = (uint8_t)(below(2) << 7 | (one_in(2) ? below(4) << 5 : 0x60) | below(16) << 1);
+    return 7;
+}

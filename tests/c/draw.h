@@ -26,4 +26,8 @@ void fill_special(uint8_t *out, size_t len);
 enum filling { TEXT, ANY_OCTETS, ALL_C0, ALL_DB, FILLINGS };
 void fill(uint8_t *out, size_t len, enum filling filling);
 
+/* One address group: mostly letters, now and then with spaces after them; the reserved bits are often both set, as most stations have
+   them. */
+size_t random_group(uint8_t *out);
+
 #endif

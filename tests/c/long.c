@@ -578,8 +578,7 @@ static unsigned cramped(unsigned call, const uint8_t *octets, size_t len, struct
     case 0: return probe_decode(asked, octets, len, at, room, sizes->at, sizes->count);
     case 1: return probe_decode_old(asked, octets, len, at, room, sizes->at, sizes->count);
     case 2: return probe_content(asked, octets + 14, len - 14, at, room % CONTENT);
-    case 3: return probe_reencode(asked, octets, len, at, room, sizes->at, 0);
-    case 4: return probe_encode(asked, record, RECORD, text, 2, at, room, sizes->at, 0);
+    case 3: return probe_encode(asked, record, RECORD, text, 2, at, room, sizes->at, 0);
     default: return probe_content_encode(asked, record + KIND, CONTENT, text, 2, at, room, sizes->at, 0);
     }
 }
@@ -590,7 +589,7 @@ static void run_cramped(void) {
     begin("too little room for a record, its details or a length");
     look_from(octets, len, show_mode);
     for (size_t room = 0; room <= RECORD + DETAILS; room++)
-        for (unsigned call = 0; call < 6; call++) {
+        for (unsigned call = 0; call < 5; call++) {
             count_input();
             next_turn();
             struct output out = lend_output(room);
@@ -603,14 +602,6 @@ static void run_cramped(void) {
 }
 
 /* Random frames: near to good ones in either mode, with nulls, octets left over and too many repeaters now and then. */
-
-static size_t random_group(uint8_t *out) {
-    unsigned characters = one_in(3) ? below(6) : 6;
-    for (unsigned i = 0; i < 6; i++) out[i] = (uint8_t)((i >= characters ? ' ' : one_in(6) ? below(128) : 'A' + below(26)) << 1);
-    out[6] = (uint8_t)(below(2) << 7 | (one_in(2) ? below(4) << 5 : 0x60) | below(16) << 1);
-    return 7;
-}
-
 static size_t random_content(uint8_t *out) {
     static const uint8_t controls[] = {0x00, 0x01, 0x05, 0x09, 0x0D, 0x2F, 0x6F, 0x43, 0x0F, 0x63, 0x87, 0x03, 0xAF, 0xE3};
     unsigned control = one_in(5) ? below(256) : controls[below(sizeof controls)];

@@ -1,7 +1,7 @@
-/* The calls of the crates `probe` and `probe_spelling` that read and write frames, in a mode: 0 is the short one, every other number the long one. Slices are a
-   pointer and how many there are. A decoder leaves a record of 102 octets and five details (record.h), or at a refusal the details
-   alone; a writer its octets from the start of `out` on, and their number in `length`, which is 0 at a refusal. Where a record, its content,
-   the details or `length` have too little room the answer is 24, and nothing is touched. */
+/* The calls of the crates `probe` and `probe_spelling` that read and write frames, in a mode: 0 is the short one, every other number the
+   long one. Slices are a pointer and how many there are. A decoder leaves a record of 102 octets and five details (record.h), or at a
+   refusal the details alone; a writer its octets from the start of `out` on, and their number in `length`, which is 0 at a refusal. Where a
+   record, its content, the details or, but for re-encoding, `length` have too little room the answer is 24, and nothing is touched. */
 #ifndef PROBE_H
 #define PROBE_H
 

@@ -88,16 +88,16 @@ i-back Long n h p v l c s =
     ∙ simp (two, three, own, received-back n h p, final-back n h p)
 
 -- what the low four bits tell hangs on nothing else
-kind-low : (c t : ℕ) → sKind c ≡ t → t < 16 → (n : ℕ) (p : Bool) → sKindOf c n p ≡ sKindOf t n p
+pub same-kind : (c d : ℕ) → sKind c ≡ sKind d → (n : ℕ) (p : Bool) → sKindOf c n p ≡ sKindOf d n p
 unfolding sKindOf
-kind-low c t e h n p = let own : sKind t ≡ t = omega arith in rw (e, own) refl
+same-kind c d e n p = rw e refl
 
 pub s-back : (m : Mode) (n : ℕ) → n < limit m → (p : Bool) (t : ℕ) → t < 16 → t % 4 ≡ 1 → (s : List ℕ)
     → contentOf m (sequenced m n p t ++ s) ≡ Accepted (sKindOf t n p)
 unfolding sOf
 s-back Short n h p t l e s =
     s-way Short (numbered n p t) s (omega (arith, low-back n t l p))
-    ∙ rw (receive-back n t l h p, poll-back n t l p) (ap Accepted (kind-low (numbered n p t) t (low-back n t l p) l n p))
+    ∙ rw (receive-back n t l h p, poll-back n t l p) (ap Accepted (same-kind (numbered n p t) t (low-back n t l p ∙ omega arith) n p))
 s-back Long n h p t l e s =
     s-way Long t (received n p ∷ s) (omega arith) ∙ rw (two t (received n p) s, received-back n h p, final-back n h p) refl
 

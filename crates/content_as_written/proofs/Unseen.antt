@@ -24,7 +24,7 @@ use Rattle.parse.proofs.Read.{Reads, accepted}
 use Rattle.parse.proofs.Read.Reads.{i-frame, rr-frame, rnr-frame, rej-frame, srej-frame, sabm-frame, sabme-frame, disc-frame, dm-frame, ua-frame, frmr-frame, ui-frame, xid-frame, test-frame}
 use Rattle.content_as_written.specs.AsWritten.{infoOf}
 use Rattle.content_as_written.specs.Unseen.{unseenS, unseen, hasUnseen}
-use Rattle.content_as_written.proofs.Back.{z-back, y-back, x-back, w-back}
+use Rattle.content_as_written.proofs.Back.{same-kind, z-back, y-back, x-back, w-back}
 use Rattle.content_as_written.proofs.AsWritten.{numbered-again, received-again, unnumbered-again, copy-even, info-exact}
 use Rattle.content_as_written.proofs.Laws.{content-kept}
 
@@ -132,11 +132,6 @@ long-s-read s n t =
       eq-eqb (field 0 2 c) 1 t,
       le-ltb (length s) 2 n,
     )
-
--- what the low four bits tell hangs on nothing else
-same-kind : (c d : ℕ) → sKind c ≡ sKind d → (n : ℕ) (p : Bool) → sKindOf c n p ≡ sKindOf d n p
-unfolding sKindOf
-same-kind c d e n p = rw e refl
 
 -- the fields of FRMR's second info octet hang on all bits but the low one
 even-fields : (b : ℕ) → (field 5 3 (b / 2 * 2) ≡ field 5 3 b) × (field 4 1 (b / 2 * 2) ≡ field 4 1 b) × (field 1 3 (b / 2 * 2) ≡ field 1 3 b)

@@ -1,4 +1,4 @@
--- The protocol identifier octet (PID), the second octet of the content of I and UI frames: AX.25's table of PID values (rule 7).
+-- The protocol identifier octet (PID), which follows the control field of I and UI frames: AX.25's table of PID values (rule 7).
 use Prim.Native.Nat.{ℕ}
 use mathlib.Core.Bool.{Bool, true, false, cond, not, _&&_, _||_}
 use mathlib.Core.List.{List, [], _∷_}
