@@ -10,11 +10,11 @@ use Rattle.octets.specs.Splice.{splice}
 use Rattle.octets.proofs.Choice.{by}
 use Rattle.octets.proofs.Splice.{splice-more}
 use Rattle.protocol.proofs.Laws.{plain-inside}
-use Rattle.content.specs.Spell.{hasInfo, sequenced, front, spellContent, PlainContent}
-use Rattle.content.specs.Mode.{controls}
-use Rattle.content.specs.Encode.{longFrmr, strayInfo, strayPid, lacksRoom, answerOf, encodeNumber, encodeOf, encoded, writtenLength, writtenOctets, four}
-use Rattle.content.specs.declared.Mode.{Mode}
-use Rattle.content.specs.declared.Mode.the-variants.{Short, Long}
+use Rattle.control.specs.Spell.{four}
+use Rattle.content.specs.Spell.{hasInfo, front, spellContent, PlainContent}
+use Rattle.content.specs.Encode.{longFrmr, strayInfo, strayPid, lacksRoom, answerOf, encodeNumber, encodeOf, encoded, writtenLength, writtenOctets}
+use Rattle.control.specs.declared.Mode.{Mode}
+use Rattle.control.specs.declared.Mode.the-variants.{Short, Long}
 use Rattle.content.specs.declared.FrameContent.{FrameContent}
 use Rattle.content.specs.declared.FrameContent.the-variants as kind
 use Rattle.content.specs.declared.EncodeAnswer.{EncodeAnswer}
@@ -129,15 +129,6 @@ plain-frmr Long (kind.UnnumberedInformation k) h = refl
 plain-frmr Long (kind.ExchangeIdentification k) h = refl
 plain-frmr Long (kind.Test k) h = refl
 plain-frmr Long kind.UnknownContent h = refl
-
--- how long the control field of an I or S frame is, and what stands before an I frame's info
-pub sequenced-length : (m : Mode) (receive : ℕ) (on : Bool) (low : ℕ) → length (sequenced m receive on low) ≡ controls m
-sequenced-length Short receive on low = refl
-sequenced-length Long receive on low = refl
-
-pub before-info : (m : Mode) (receive : ℕ) (on : Bool) (low pid : ℕ) → length (sequenced m receive on low ++ (pid ∷ [])) ≡ controls m + 1
-before-info Short receive on low pid = refl
-before-info Long receive on low pid = refl
 
 -- at most four octets stand before the info
 pub front-short : (m : Mode) (k : FrameContent) → length (front m k) ≤ 4

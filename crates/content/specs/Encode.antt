@@ -1,13 +1,13 @@
 -- What writing content into a lent buffer gives and leaves there (document 01, Writing and Numbers; document 02, M-105 and M-109).
 use Prim.Native.Nat.{ℕ, _+_}
 use mathlib.Core.Bool.{Bool, true, false, not, _&&_, cond}
-use mathlib.Core.List.{List, [], _∷_}
+use mathlib.Core.List.{List, []}
 use lib.Dec.{eqb, ltb}
-use lib.ListN.{length, getD}
+use lib.ListN.{length}
 use Rattle.protocol.specs.Pid.{outsideClass}
-use Rattle.content.specs.Mode.{isLong}
+use Rattle.control.specs.Mode.{isLong}
 use Rattle.content.specs.Spell.{hasInfo, front, spellContent}
-use Rattle.content.specs.declared.Mode.{Mode}
+use Rattle.control.specs.declared.Mode.{Mode}
 use Rattle.content.specs.declared.FrameContent.{FrameContent}
 use Rattle.content.specs.declared.FrameContent.the-variants as kind
 use Rattle.content.specs.declared.EncodeAnswer.{EncodeAnswer}
@@ -100,7 +100,3 @@ writtenOctets NoRoom s = []
 
 abbrev pub encoded : Mode → FrameContent → List ℕ → ℕ → List ℕ
 encoded m k info room = writtenOctets (answerOf m k (length info) room) (spellContent m k info)
-
--- a list of up to four octets, zeros after it: what a function can return of `front` by value
-abbrev pub four : List ℕ → List ℕ
-four s = getD s 0 0 ∷ getD s 1 0 ∷ getD s 2 0 ∷ getD s 3 0 ∷ []

@@ -1,4 +1,2 @@
-pub mod Mode
-pub mod Control
 pub mod Spell
 pub mod Encode

@@ -1,45 +1,19 @@
 -- Writing content: the octets that each kind spells, and which content is plain (document 01, Writing and Plain frames).
-use Prim.Native.Nat.{ℕ, _+_, _*_, _%_, _<_}
+use Prim.Native.Nat.{ℕ, _<_}
 use mathlib.Core.Path.{_≡_}
 use mathlib.Core.Bool.{Bool, true, false}
 use mathlib.Core.List.{List, [], _∷_, _++_}
-use Rattle.octets.specs.Octet.{flag}
 use Rattle.protocol.specs.Pid.{octetOf, plainPid}
-use Rattle.content.specs.Mode.{limit}
-use Rattle.content.specs.Control.{rr, rnr, rej, srej, sabm, sabme, disc, dm, ua, frmr, ui, xid, test}
-use Rattle.content.specs.declared.Mode.{Mode}
-use Rattle.content.specs.declared.Mode.the-variants.{Short, Long}
+use Rattle.control.specs.Mode.{limit}
+use Rattle.control.specs.Control.{rr, rnr, rej, srej, sabm, sabme, disc, dm, ua, frmr, ui, xid, test}
+use Rattle.control.specs.Spell.{numbered, sent, sequenced, unnumbered, flags}
+use Rattle.control.specs.declared.Mode.{Mode}
+use Rattle.control.specs.declared.Mode.the-variants.{Short, Long}
 use Rattle.content.specs.declared.CommandResponse.{CommandResponse}
 use Rattle.content.specs.declared.CommandResponse.the-variants.{Command, Response}
 use Rattle.content.specs.declared.FrameReject.{FrameReject}
 use Rattle.content.specs.declared.FrameContent.{FrameContent}
 use Rattle.content.specs.declared.FrameContent.the-variants as kind
-
--- N(R) modulo 8 (docs/DIFFERENCES.md, A13) in bits 5 to 7, the poll, final or response bit in bit 4, and the low four bits: a short
--- control field, and FRMR's copies
-abbrev pub numbered : ℕ → Bool → ℕ → ℕ
-numbered receive on low = receive % 8 * 32 + flag 4 on + low
-
--- the second octet of a long control field: N(R) modulo 128 in bits 1 to 7, the poll or final bit in bit 0
-abbrev pub received : ℕ → Bool → ℕ
-received receive on = receive % 128 * 2 + flag 0 on
-
--- N(S) modulo 8 or 128, from bit 1 on
-abbrev pub sent : Mode → ℕ → ℕ
-sent m send = send % limit m * 2
-
--- the control field of I and S frames: N(R), the poll or final bit, and what the low bits are
-abbrev pub sequenced : Mode → ℕ → Bool → ℕ → List ℕ
-sequenced Short receive on low = numbered receive on low ∷ []
-sequenced Long receive on low = low ∷ received receive on ∷ []
-
--- an unnumbered kind with its poll or final bit
-abbrev pub unnumbered : ℕ → Bool → ℕ
-unnumbered low on = low + flag 4 on
-
--- FRMR's Z Y X W in bits 3 to 0
-abbrev pub flags : FrameReject → ℕ
-flags k = flag 3 (k .z) + flag 2 (k .y) + flag 1 (k .x) + flag 0 (k .w)
 
 abbrev pub isResponse : CommandResponse → Bool
 isResponse Command = false
@@ -60,7 +34,7 @@ front m (kind.DisconnectedMode k) = unnumbered dm (k .«final_bit») ∷ []
 front m (kind.UnnumberedAcknowledge k) = unnumbered ua (k .«final_bit») ∷ []
 front m (kind.FrameReject k) =
     unnumbered frmr (k .«final_bit»)
-    ∷ flags k
+    ∷ flags (k .z) (k .y) (k .x) (k .w)
     ∷ numbered (k .«receive_sequence») (isResponse (k .«command_response»)) (sent Short (k .«send_sequence»))
     ∷ k .«rejected_control_field_raw»
     ∷ []
@@ -86,24 +60,6 @@ hasInfo (kind.UnnumberedInformation k) = true
 hasInfo (kind.ExchangeIdentification k) = true
 hasInfo (kind.Test k) = true
 hasInfo kind.UnknownContent = true
-
--- the kinds that have a PID: I and UI
-abbrev pub hasPid : FrameContent → Bool
-hasPid (kind.Information k) = true
-hasPid (kind.ReceiveReady k) = false
-hasPid (kind.ReceiveNotReady k) = false
-hasPid (kind.Reject k) = false
-hasPid (kind.SelectiveReject k) = false
-hasPid (kind.SetAsynchronousBalancedMode k) = false
-hasPid (kind.SetAsynchronousBalancedModeExtended k) = false
-hasPid (kind.Disconnect k) = false
-hasPid (kind.DisconnectedMode k) = false
-hasPid (kind.UnnumberedAcknowledge k) = false
-hasPid (kind.FrameReject k) = false
-hasPid (kind.UnnumberedInformation k) = true
-hasPid (kind.ExchangeIdentification k) = false
-hasPid (kind.Test k) = false
-hasPid kind.UnknownContent = false
 
 -- all octets of content with this info; of `UnknownContent` the info alone
 abbrev pub spellContent : Mode → FrameContent → List ℕ → List ℕ

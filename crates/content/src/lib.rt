@@ -1,17 +1,9 @@
 // The content of a frame, which is everything after the address field: its kinds, and writing them. The crate `parse` reads them.
 use protocol::ProtocolIdentifier;
 ghost use mathlib.Core.Path.{_≡_};
-ghost use Rattle.content.specs.Mode.{modeOf, controls};
 ghost use Rattle.content.specs.Encode.{encodeNumber};
 
 mod writing; // writing.rt: from a kind and its info to octets
-
-// How the sequence numbers of I and S frames are counted: modulo 8, in one control octet, or modulo 128, in two. A frame does not tell
-// which; the caller knows it.
-pub enum Mode {
-    Short,
-    Long,
-}
 
 // Indicates whether a given frame is a Command or a Response.
 pub enum CommandResponse {
@@ -142,25 +134,6 @@ pub enum EncodeAnswer {
 pub struct ContentWritten {
     pub answer: EncodeAnswer,
     pub length: usize,
-}
-
-impl Mode {
-    // The mode by its number: 0 is the short one, any other the long one.
-    pub fn of_number(number: u32) -> Mode
-        ensures { λ r. ⌜ r ≡ modeOf number ⌝ }
-    {
-        if number == 0 { Mode::Short } else { Mode::Long }
-    }
-
-    // How many control octets an I or S frame has.
-    pub fn controls(self) -> usize
-        ensures { λ r. ⌜ r ≡ controls self ⌝ }
-    {
-        match self {
-            Mode::Short => 1,
-            Mode::Long => 2,
-        }
-    }
 }
 
 impl EncodeAnswer {

@@ -1,77 +1,16 @@
-// Writing content: masks and shifts put the control octet and FRMR's octets together.
+// Writing content: the octets of each kind, then the info.
 use super::CommandResponse;
 use super::ContentWritten;
 use super::EncodeAnswer;
 use super::FrameContent;
 use super::FrameReject;
-use super::Mode;
+use control::Mode;
 ghost use mathlib.Core.Path.{_≡_};
-ghost use mathlib.Core.Bool.{cond};
-ghost use mathlib.Core.List.{[], _∷_, _++_};
-ghost use Prim.Native.Nat.{_%_};
 ghost use lib.ListN.{length};
 ghost use Rattle.octets.specs.Splice.{splice};
-ghost use Rattle.content.specs.Control.{uKind};
-ghost use Rattle.content.specs.Spell.{hasInfo, hasPid, numbered, received, sent, sequenced, unnumbered, flags, isResponse, front};
-ghost use Rattle.content.specs.Encode.{isFrameReject, longFrmr, strayInfo, strayPid, lacksRoom, encodeOf, encoded, four};
-
-fn bit_if(on: bool, value: u8) -> u8
-    ensures { λ r. ⌜ r ≡ cond on value 0 ⌝ }
-{
-    if on { value } else { 0 }
-}
-
-// N(R) in bits 5 to 7, the bit 4, and the low four bits of `low`.
-fn numbered(receive: u8, on: bool, low: u8) -> u8
-    ensures { λ r. ⌜ r ≡ numbered receive on (low % 16) ⌝ }
-{
-    ((receive & 0b0000_0111) << 5) | bit_if(on, 1 << 4) | (low & 0b0000_1111)
-}
-
-// N(R) in bits 1 to 7, the bit 0.
-fn received(receive: u8, on: bool) -> u8
-    ensures { λ r. ⌜ r ≡ received receive on ⌝ }
-{
-    ((receive & 0b0111_1111) << 1) | bit_if(on, 1)
-}
-
-// N(S) from bit 1 on.
-fn sent(mode: Mode, send: u8) -> u8
-    ensures { λ r. ⌜ r ≡ sent mode send ⌝ }
-{
-    match mode {
-        Mode::Short => (send & 0b0000_0111) << 1,
-        Mode::Long => (send & 0b0111_1111) << 1,
-    }
-}
-
-// The octets before the info of an I frame, zeros after them.
-fn i_front(mode: Mode, receive: u8, on: bool, send: u8, pid: u8) -> [u8; 4]
-    ensures { λ r. ⌜ r ≡ four (sequenced mode receive on (sent mode send) ++ (pid ∷ [])) ⌝ }
-{
-    let low = sent(mode, send);
-    match mode {
-        Mode::Short => [numbered(receive, on, low), pid, 0, 0],
-        Mode::Long => [low, received(receive, on), pid, 0],
-    }
-}
-
-// The control field of an S frame whose type is the low four bits of `kind`, zeros after it.
-fn s_front(mode: Mode, receive: u8, on: bool, kind: u8) -> [u8; 4]
-    ensures { λ r. ⌜ r ≡ four (sequenced mode receive on (kind % 16)) ⌝ }
-{
-    match mode {
-        Mode::Short => [numbered(receive, on, kind), 0, 0, 0],
-        Mode::Long => [kind & 0b0000_1111, received(receive, on), 0, 0],
-    }
-}
-
-// The kind's bits with the bit 4.
-fn unnumbered(kind: u8, on: bool) -> u8
-    ensures { λ r. ⌜ r ≡ unnumbered (uKind kind) on ⌝ }
-{
-    (kind & 0b1110_1111) | bit_if(on, 1 << 4)
-}
+ghost use Rattle.control.specs.Spell.{four};
+ghost use Rattle.content.specs.Spell.{hasInfo, isResponse, front};
+ghost use Rattle.content.specs.Encode.{isFrameReject, longFrmr, strayInfo, strayPid, lacksRoom, encodeOf, encoded};
 
 fn is_response(c: CommandResponse) -> bool
     ensures { λ r. ⌜ r ≡ isResponse c ⌝ }
@@ -83,12 +22,6 @@ fn is_response(c: CommandResponse) -> bool
 }
 
 impl FrameReject {
-    fn flags(self) -> u8
-        ensures { λ r. ⌜ r ≡ flags self ⌝ }
-    {
-        bit_if(self.z, 1 << 3) | bit_if(self.y, 1 << 2) | bit_if(self.x, 1 << 1) | bit_if(self.w, 1)
-    }
-
     // The four octets of an FRMR.
     fn front(self) -> [u8; 4]
         ensures { λ r. ⌜ r ≡ front Mode.Short (FrameContent.FrameReject self) ⌝ }
@@ -96,13 +29,9 @@ impl FrameReject {
         let command_response = self.command_response;
         let response = is_response(command_response);
         [
-            unnumbered(0b1000_0111, self.final_bit),
-            self.flags(),
-            numbered(
-                self.receive_sequence,
-                response,
-                sent(Mode::Short, self.send_sequence),
-            ),
+            control::unnumbered(0b1000_0111, self.final_bit),
+            control::flags(self.z, self.y, self.x, self.w),
+            control::i_octet(self.receive_sequence, response, self.send_sequence),
             self.rejected_control_field_raw,
         ]
     }
@@ -128,28 +57,6 @@ impl FrameContent {
             FrameContent::ExchangeIdentification(_) => true,
             FrameContent::Test(_) => true,
             FrameContent::UnknownContent => true,
-        }
-    }
-
-    pub fn has_pid(self) -> bool
-        ensures { λ r. ⌜ r ≡ hasPid self ⌝ }
-    {
-        match self {
-            FrameContent::Information(_) => true,
-            FrameContent::ReceiveReady(_) => false,
-            FrameContent::ReceiveNotReady(_) => false,
-            FrameContent::Reject(_) => false,
-            FrameContent::SelectiveReject(_) => false,
-            FrameContent::SetAsynchronousBalancedMode(_) => false,
-            FrameContent::SetAsynchronousBalancedModeExtended(_) => false,
-            FrameContent::Disconnect(_) => false,
-            FrameContent::DisconnectedMode(_) => false,
-            FrameContent::UnnumberedAcknowledge(_) => false,
-            FrameContent::FrameReject(_) => false,
-            FrameContent::UnnumberedInformation(_) => true,
-            FrameContent::ExchangeIdentification(_) => false,
-            FrameContent::Test(_) => false,
-            FrameContent::UnknownContent => false,
         }
     }
 
@@ -184,45 +91,60 @@ impl FrameContent {
             FrameContent::Information(i) => {
                 let pid = i.pid;
                 let octet = pid.to_byte();
-                i_front(mode, i.receive_sequence, i.poll, i.send_sequence, octet)
+                control::i_front(mode, i.receive_sequence, i.poll, i.send_sequence, octet)
             }
             FrameContent::ReceiveReady(rr) => {
-                s_front(mode, rr.receive_sequence, rr.poll_or_final, 0b0000_0001)
+                control::s_front(mode, rr.receive_sequence, rr.poll_or_final, 0b0000_0001)
             }
             FrameContent::ReceiveNotReady(rnr) => {
-                s_front(mode, rnr.receive_sequence, rnr.poll_or_final, 0b0000_0101)
+                control::s_front(mode, rnr.receive_sequence, rnr.poll_or_final, 0b0000_0101)
             }
             FrameContent::Reject(rej) => {
-                s_front(mode, rej.receive_sequence, rej.poll_or_final, 0b0000_1001)
+                control::s_front(mode, rej.receive_sequence, rej.poll_or_final, 0b0000_1001)
             }
             FrameContent::SelectiveReject(srej) => {
-                s_front(mode, srej.receive_sequence, srej.poll_or_final, 0b0000_1101)
+                control::s_front(mode, srej.receive_sequence, srej.poll_or_final, 0b0000_1101)
             }
             FrameContent::SetAsynchronousBalancedMode(sabm) => {
-                [unnumbered(0b0010_1111, sabm.poll), 0, 0, 0]
+                [control::unnumbered(0b0010_1111, sabm.poll), 0, 0, 0]
             }
             FrameContent::SetAsynchronousBalancedModeExtended(sabme) => {
-                [unnumbered(0b0110_1111, sabme.poll), 0, 0, 0]
+                [control::unnumbered(0b0110_1111, sabme.poll), 0, 0, 0]
             }
-            FrameContent::Disconnect(disc) => [unnumbered(0b0100_0011, disc.poll), 0, 0, 0],
-            FrameContent::DisconnectedMode(dm) => [unnumbered(0b0000_1111, dm.final_bit), 0, 0, 0],
+            FrameContent::Disconnect(disc) => [
+                control::unnumbered(0b0100_0011, disc.poll),
+                0,
+                0,
+                0,
+            ],
+            FrameContent::DisconnectedMode(dm) => [
+                control::unnumbered(0b0000_1111, dm.final_bit),
+                0,
+                0,
+                0,
+            ],
             FrameContent::UnnumberedAcknowledge(ua) => {
-                [unnumbered(0b0110_0011, ua.final_bit), 0, 0, 0]
+                [control::unnumbered(0b0110_0011, ua.final_bit), 0, 0, 0]
             }
             FrameContent::FrameReject(fr) => fr.front(),
             FrameContent::UnnumberedInformation(ui) => {
                 let pid = ui.pid;
                 [
-                    unnumbered(0b0000_0011, ui.poll_or_final),
+                    control::unnumbered(0b0000_0011, ui.poll_or_final),
                     pid.to_byte(),
                     0,
                     0,
                 ]
             }
             FrameContent::ExchangeIdentification(xid) => {
-                [unnumbered(0b1010_1111, xid.poll_or_final), 0, 0, 0]
+                [control::unnumbered(0b1010_1111, xid.poll_or_final), 0, 0, 0]
             }
-            FrameContent::Test(test) => [unnumbered(0b1110_0011, test.poll_or_final), 0, 0, 0],
+            FrameContent::Test(test) => [
+                control::unnumbered(0b1110_0011, test.poll_or_final),
+                0,
+                0,
+                0,
+            ],
             FrameContent::UnknownContent => [0, 0, 0, 0],
         }
     }
@@ -231,21 +153,8 @@ impl FrameContent {
         ensures { λ r. ⌜ r ≡ isFrameReject self ⌝ }
     {
         match self {
-            FrameContent::Information(_) => false,
-            FrameContent::ReceiveReady(_) => false,
-            FrameContent::ReceiveNotReady(_) => false,
-            FrameContent::Reject(_) => false,
-            FrameContent::SelectiveReject(_) => false,
-            FrameContent::SetAsynchronousBalancedMode(_) => false,
-            FrameContent::SetAsynchronousBalancedModeExtended(_) => false,
-            FrameContent::Disconnect(_) => false,
-            FrameContent::DisconnectedMode(_) => false,
-            FrameContent::UnnumberedAcknowledge(_) => false,
             FrameContent::FrameReject(_) => true,
-            FrameContent::UnnumberedInformation(_) => false,
-            FrameContent::ExchangeIdentification(_) => false,
-            FrameContent::Test(_) => false,
-            FrameContent::UnknownContent => false,
+            _ => false,
         }
     }
 

@@ -7,22 +7,23 @@ use native.Mathlib.Omega.{arith}
 use borrow.Author.Tests.{eq-eqb, ne-eqb, eqb-true}
 use lib.Dec.{eqb}
 use lib.ListN.{length, getD, drop}
-use Rattle.octets.specs.Octet.{Octets, field, bit, flag}
+use Rattle.octets.specs.Octet.{Octets, field, bit}
 use Rattle.octets.proofs.Choice.{both}
 use Rattle.octets.proofs.Octet.{octet-same, octet-where}
 use Rattle.protocol.specs.Pid.{octetOf}
 use Rattle.protocol.proofs.Laws.{octet-pid}
-use Rattle.content.specs.Mode.{controls}
-use Rattle.content.specs.Control.{rr, rnr, rej, srej, sabm, sabme, disc, dm, ua, frmr, ui, xid, test, receiveOf, sendOf, pollOf, sKind, uKind, receiveIn, pollIn}
+use Rattle.control.specs.Mode.{controls}
+use Rattle.control.specs.Control.{rr, rnr, rej, srej, sabm, sabme, disc, dm, ua, frmr, ui, xid, test, receiveOf, sendOf, pollOf, sKind, uKind, receiveIn, pollIn}
 use Rattle.parse.specs.Content.{iFieldsOf, responseOf}
-use Rattle.content.specs.Spell.{hasInfo, numbered, received, sent, sequenced, unnumbered, flags, isResponse, front, spellContent, PlainContent}
+use Rattle.control.specs.Spell.{numbered, received, sent, sequenced, unnumbered, flags}
+use Rattle.content.specs.Spell.{hasInfo, isResponse, front, spellContent, PlainContent}
 use Rattle.parse.specs.Numbers.{isI}
 use Rattle.content_as_written.specs.AsWritten.{frmrTidy, sTidy, uAsWritten, asWritten, infoOf}
 use Rattle.content_as_written.proofs.Back.{flags-below, low-back}
 use Rattle.parse.proofs.Read.{Reads}
 use Rattle.parse.proofs.Read.Reads.{i-frame, rr-frame, rnr-frame, rej-frame, srej-frame, sabm-frame, sabme-frame, disc-frame, dm-frame, ua-frame, frmr-frame, ui-frame, xid-frame, test-frame}
-use Rattle.content.specs.declared.Mode.{Mode}
-use Rattle.content.specs.declared.Mode.the-variants.{Short, Long}
+use Rattle.control.specs.declared.Mode.{Mode}
+use Rattle.control.specs.declared.Mode.the-variants.{Short, Long}
 use Rattle.content.specs.declared.CommandResponse.the-variants.{Command, Response}
 use Rattle.content.specs.declared.FrameContent.{FrameContent}
 use Rattle.content.specs.declared.FrameContent.the-variants as kind
@@ -43,9 +44,8 @@ received-again b h = octet-same (λ n. received (field 1 7 n) (bit 0 n)) (λ n. 
 pub unnumbered-again : (b : ℕ) → b < 256 → unnumbered (uKind b) (pollOf b) ≡ b
 unnumbered-again b h = octet-same (λ n. unnumbered (uKind n) (pollOf n)) (λ n. n) tt b h
 
-flags-again : (b : ℕ) → b < 256 → field 4 4 b ≡ 0 → flag 3 (bit 3 b) + flag 2 (bit 2 b) + flag 1 (bit 1 b) + flag 0 (bit 0 b) ≡ b
-flags-again b h e =
-    octet-same (λ n. flag 3 (bit 3 n) + flag 2 (bit 2 n) + flag 1 (bit 1 n) + flag 0 (bit 0 n)) (λ n. n % 16) tt b h ∙ omega arith
+flags-again : (b : ℕ) → b < 256 → field 4 4 b ≡ 0 → flags (bit 3 b) (bit 2 b) (bit 1 b) (bit 0 b) ≡ b
+flags-again b h e = octet-same (λ n. flags (bit 3 n) (bit 2 n) (bit 1 n) (bit 0 n)) (λ n. n % 16) tt b h ∙ omega arith
 
 response-again : (b : Bool) → isResponse (cond b Response Command) ≡ b
 response-again true = refl
@@ -235,7 +235,7 @@ module _ (m : Mode) where
   as-written-spelled (kind.FrameReject k) i h e =
       rw (e refl)
       (as-written-frmr m (front m (kind.FrameReject k)) (unnumbered-kind frmr (k .«final_bit») (omega arith) refl)
-      ∙ rw (eq-eqb (field 4 4 (flags k)) 0 (omega (arith, flags-below (k .z) (k .y) (k .x) (k .w))))
+      ∙ rw (eq-eqb (field 4 4 (flags (k .z) (k .y) (k .x) (k .w))) 0 (omega (arith, flags-below (k .z) (k .y) (k .x) (k .w))))
       (eq-eqb _ 0 (low-none (k .«receive_sequence») (isResponse (k .«command_response»)) (k .«send_sequence»))))
   as-written-spelled (kind.UnnumberedInformation k) i h e = u-info ui (k .«poll_or_final») (omega arith) refl refl refl (octetOf (k .pid) ∷ i)
   as-written-spelled (kind.ExchangeIdentification k) i h e = u-info xid (k .«poll_or_final») (omega arith) refl refl refl i

@@ -7,15 +7,16 @@ use native.Mathlib.Omega.{arith}
 use borrow.Author.Tests.{eq-eqb, ne-eqb, le-ltb}
 use lib.Dec.{T, eqb, ltb, ltb→lt}
 use lib.ListN.{length}
-use Rattle.octets.specs.Octet.{field, bit, flag}
+use Rattle.octets.specs.Octet.{field, bit}
 use Rattle.octets.proofs.Octet.{bits-always}
 use Rattle.protocol.specs.Pid.{pidOf}
-use Rattle.content.specs.Mode.{limit}
-use Rattle.content.specs.Control.{sabm, sabme, disc, dm, ua, frmr, ui, xid, test, receiveOf, sendOf, pollOf, sKind}
+use Rattle.control.specs.Mode.{limit}
+use Rattle.control.specs.Control.{sabm, sabme, disc, dm, ua, frmr, ui, xid, test, receiveOf, sendOf, pollOf, sKind}
 use Rattle.parse.specs.Content.{iOf, sKindOf, sOf, uiOf, frmrOf, uOf, contentOf, responseOf}
-use Rattle.content.specs.Spell.{numbered, received, sent, sequenced, unnumbered, isResponse, front, PlainContent}
-use Rattle.content.specs.declared.Mode.{Mode}
-use Rattle.content.specs.declared.Mode.the-variants.{Short, Long}
+use Rattle.control.specs.Spell.{numbered, received, sent, sequenced, unnumbered, flags}
+use Rattle.content.specs.Spell.{isResponse, front, PlainContent}
+use Rattle.control.specs.declared.Mode.{Mode}
+use Rattle.control.specs.declared.Mode.the-variants.{Short, Long}
 use Rattle.content.specs.declared.CommandResponse.{CommandResponse}
 use Rattle.content.specs.declared.CommandResponse.the-variants.{Command, Response}
 use Rattle.content.specs.declared.FrameReject.{FrameReject}
@@ -157,31 +158,28 @@ pub ui-back : (m : Mode) (p : Bool) (c : ℕ) (s : List ℕ)
 unfolding uiOf
 ui-back m p c s = ui-way m (c ∷ s) p ∙ simp (two, u-poll-back p .0)
 
--- FRMR's flags, by one test at each of the sixteen
-abbrev flagged : Bool → Bool → Bool → Bool → ℕ
-flagged z y x w = flag 3 z + flag 2 y + flag 1 x + flag 0 w
-
 same : (a b : Bool) → T (Bool·beq a b) → a ≡ b
 same true true t = refl
 same true false t = absurd t
 same false true t = absurd t
 same false false t = refl
 
+-- FRMR's flags, by one test at each of the sixteen
 module _ (z y x w : Bool) where
-  pub z-back : bit 3 (flagged z y x w) ≡ z
-  z-back = same _ _ (bits-always (λ z y x w. Bool·beq (bit 3 (flagged z y x w)) z) tt z y x w)
+  pub z-back : bit 3 (flags z y x w) ≡ z
+  z-back = same _ _ (bits-always (λ z y x w. Bool·beq (bit 3 (flags z y x w)) z) tt z y x w)
 
-  pub y-back : bit 2 (flagged z y x w) ≡ y
-  y-back = same _ _ (bits-always (λ z y x w. Bool·beq (bit 2 (flagged z y x w)) y) tt z y x w)
+  pub y-back : bit 2 (flags z y x w) ≡ y
+  y-back = same _ _ (bits-always (λ z y x w. Bool·beq (bit 2 (flags z y x w)) y) tt z y x w)
 
-  pub x-back : bit 1 (flagged z y x w) ≡ x
-  x-back = same _ _ (bits-always (λ z y x w. Bool·beq (bit 1 (flagged z y x w)) x) tt z y x w)
+  pub x-back : bit 1 (flags z y x w) ≡ x
+  x-back = same _ _ (bits-always (λ z y x w. Bool·beq (bit 1 (flags z y x w)) x) tt z y x w)
 
-  pub w-back : bit 0 (flagged z y x w) ≡ w
-  w-back = same _ _ (bits-always (λ z y x w. Bool·beq (bit 0 (flagged z y x w)) w) tt z y x w)
+  pub w-back : bit 0 (flags z y x w) ≡ w
+  w-back = same _ _ (bits-always (λ z y x w. Bool·beq (bit 0 (flags z y x w)) w) tt z y x w)
 
-pub flags-below : (z y x w : Bool) → flagged z y x w < 16
-flags-below z y x w = ltb→lt _ 16 (bits-always (λ z y x w. ltb (flagged z y x w) 16) tt z y x w)
+pub flags-below : (z y x w : Bool) → flags z y x w < 16
+flags-below z y x w = ltb→lt _ 16 (bits-always (λ z y x w. ltb (flags z y x w) 16) tt z y x w)
 
 response-back : (c : CommandResponse) → cond (isResponse c) Response Command ≡ c
 response-back Command = refl

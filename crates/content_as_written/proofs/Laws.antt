@@ -10,17 +10,18 @@ use Rattle.octets.specs.Octet.{Octets}
 use Rattle.octets.proofs.Octet.{Each, octets-each}
 use Rattle.protocol.specs.Pid.{octetOf}
 use Rattle.protocol.proofs.Laws.{pid-plain, pid-octet, octet-below}
-use Rattle.content.specs.Mode.{limit}
-use Rattle.content.specs.Control.{rr, rnr, rej, srej, sabm, sabme, disc, dm, ua, frmr, ui, xid, test, receiveIn, sendIn}
+use Rattle.control.specs.Mode.{limit}
+use Rattle.control.specs.Control.{rr, rnr, rej, srej, sabm, sabme, disc, dm, ua, frmr, ui, xid, test, receiveIn, sendIn}
 use Rattle.parse.specs.Content.{sKindOf, contentOf}
-use Rattle.content.specs.Spell.{hasInfo, numbered, received, sent, sequenced, unnumbered, isResponse, front, spellContent, PlainContent}
+use Rattle.control.specs.Spell.{numbered, received, sent, sequenced, unnumbered}
+use Rattle.content.specs.Spell.{hasInfo, isResponse, front, spellContent, PlainContent}
 use Rattle.content_as_written.specs.AsWritten.{asWritten, infoOf}
 use Rattle.content_as_written.proofs.AsWritten.{info-exact, as-written-exact, as-written-spelled}
 use Rattle.content_as_written.proofs.Back.{flags-below, i-back, s-back, sabm-back, sabme-back, disc-back, dm-back, ua-back, frmr-way, frmr-back, ui-back, xid-back, test-back}
 use Rattle.parse.proofs.Read.{Reads, accepted, sized}
 use Rattle.parse.proofs.Read.Reads.{i-frame, rr-frame, rnr-frame, rej-frame, srej-frame, sabm-frame, sabme-frame, disc-frame, dm-frame, ua-frame, frmr-frame, ui-frame, xid-frame, test-frame}
-use Rattle.content.specs.declared.Mode.{Mode}
-use Rattle.content.specs.declared.Mode.the-variants.{Short, Long}
+use Rattle.control.specs.declared.Mode.{Mode}
+use Rattle.control.specs.declared.Mode.the-variants.{Short, Long}
 use Rattle.content.specs.declared.FrameContent.{FrameContent}
 use Rattle.content.specs.declared.FrameContent.the-variants as kind
 use Rattle.parse.specs.declared.ContentAnswer.the-variants.{Accepted}

@@ -10,11 +10,12 @@ use lib.ListN.{length, getD, List·getD-append, List·getD-eq-default}
 use Rattle.octets.specs.Octet.{Octets, field, bit, flag}
 use Rattle.octets.proofs.Choice.{by, neither}
 use Rattle.octets.proofs.Octet.{octet-same, upper-bits, all-bits, octets-same}
-use Rattle.content.specs.Mode.{isLong, controls}
-use Rattle.content.specs.Control.{rr, rnr, rej, srej, frmr, pollOf, sKind, uKind, receiveIn, pollIn}
-use Rattle.content.specs.Spell.{hasInfo, flags, sequenced, unnumbered, front, spellContent}
-use Rattle.content.specs.declared.Mode.{Mode}
-use Rattle.content.specs.declared.Mode.the-variants.{Short, Long}
+use Rattle.control.specs.Mode.{isLong, controls}
+use Rattle.control.specs.Control.{rr, rnr, rej, srej, frmr, pollOf, sKind, uKind, receiveIn, pollIn}
+use Rattle.control.specs.Spell.{flags, sequenced, unnumbered}
+use Rattle.content.specs.Spell.{hasInfo, front, spellContent}
+use Rattle.control.specs.declared.Mode.{Mode}
+use Rattle.control.specs.declared.Mode.the-variants.{Short, Long}
 use Rattle.content.specs.declared.FrameReject.{FrameReject}
 use Rattle.content.specs.declared.FrameContent.{FrameContent}
 use Rattle.content.specs.declared.FrameContent.the-variants as kind
@@ -75,7 +76,7 @@ module _ (m : Mode) (s : List ℕ) (o : Octets s) where
   b = getD s 1 0
 
   -- FRMR's flags have the bits that they were read from
-  flag-bits : (j : ℕ) → j < 4 → bit j (flags (frmrFieldsOf s)) ≡ bit j b
+  flag-bits : (j : ℕ) → j < 4 → bit j (flags (bit 3 b) (bit 2 b) (bit 1 b) (bit 0 b)) ≡ bit j b
   flag-bits zero h = w-back (bit 3 b) (bit 2 b) (bit 1 b) (bit 0 b)
   flag-bits (suc zero) h = x-back (bit 3 b) (bit 2 b) (bit 1 b) (bit 0 b)
   flag-bits (suc (suc zero)) h = y-back (bit 3 b) (bit 2 b) (bit 1 b) (bit 0 b)

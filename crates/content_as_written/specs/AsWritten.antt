@@ -5,11 +5,11 @@ use mathlib.Core.List.{List, []}
 use lib.Dec.{eqb}
 use lib.ListN.{length, getD, drop}
 use Rattle.octets.specs.Octet.{field}
-use Rattle.content.specs.Mode.{controls}
+use Rattle.control.specs.Mode.{controls}
 use Rattle.content.specs.Spell.{hasInfo, front}
 use Rattle.parse.specs.Numbers.{isI, isS, isUi, isFrmr, isXid, isTest}
-use Rattle.content.specs.declared.Mode.{Mode}
-use Rattle.content.specs.declared.Mode.the-variants.{Short, Long}
+use Rattle.control.specs.declared.Mode.{Mode}
+use Rattle.control.specs.declared.Mode.the-variants.{Short, Long}
 use Rattle.content.specs.declared.FrameContent.{FrameContent}
 
 -- FRMR's unnamed bits are zero: the high four of its flags, the low one of its sequence numbers

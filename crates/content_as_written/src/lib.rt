@@ -1,10 +1,10 @@
 // Whether content is just as writing gives it.
-use content::Mode;
+use control::Mode;
 ghost use mathlib.Core.Path.{_≡_};
 ghost use mathlib.Core.Bool.{_&&_};
 ghost use lib.Dec.{eqb};
 ghost use lib.ListN.{getD};
-ghost use Rattle.content.specs.Mode.{controls};
+ghost use Rattle.control.specs.Mode.{controls};
 ghost use Rattle.parse.specs.Numbers.{isI, isS};
 ghost use Rattle.content_as_written.specs.AsWritten.{frmrTidy, sTidy, uAsWritten, asWritten};
 

@@ -11,7 +11,7 @@ use Rattle.octets.specs.Octet.{bit}
 use Rattle.octets.proofs.First.{first-le, first-passes}
 use Rattle.parse.specs.Content.{contentOf}
 use Rattle.content.specs.declared.FrameContent.{FrameContent}
-use Rattle.content.specs.declared.Mode.{Mode}
+use Rattle.control.specs.declared.Mode.{Mode}
 use Rattle.parse.specs.declared.ContentAnswer.{ContentAnswer}
 use Rattle.parse.specs.declared.ContentAnswer.the-variants as content
 use Rattle.decode.specs.Answer.{isAccepted}

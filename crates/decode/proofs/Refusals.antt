@@ -6,7 +6,7 @@ use mathlib.Core.List.{List}
 use lib.Dec.{eqb, ltb}
 use lib.ListN.{length, drop}
 use Rattle.octets.proofs.Choice.{either}
-use Rattle.content.specs.declared.Mode.{Mode}
+use Rattle.control.specs.declared.Mode.{Mode}
 use Rattle.parse.specs.Content.{contentOf}
 use Rattle.parse.specs.declared.ContentAnswer.{ContentAnswer}
 use Rattle.parse.specs.declared.ContentAnswer.the-variants as content

@@ -6,7 +6,7 @@ use lib.Dec.{eqb, ltb, leb}
 use lib.ListN.{length, getD, drop}
 use Rattle.octets.specs.Octet.{bit}
 use Rattle.octets.specs.All.{all}
-use Rattle.content.specs.declared.Mode.{Mode}
+use Rattle.control.specs.declared.Mode.{Mode}
 use Rattle.parse.specs.Numbers.{rows}
 use Rattle.decode.specs.Answer.{Report, number}
 use Rattle.decode.specs.Read.{nonzero, endOf, repeatersOf}

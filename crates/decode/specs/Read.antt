@@ -9,7 +9,7 @@ use Rattle.octets.specs.Octet.{bit}
 use Rattle.octets.specs.First.{first}
 use Rattle.address.specs.Group.{addressOf, markOf}
 use Rattle.address.specs.declared.group.ParsedAddress.{ParsedAddress}
-use Rattle.content.specs.declared.Mode.{Mode}
+use Rattle.control.specs.declared.Mode.{Mode}
 use Rattle.content.specs.declared.FrameContent.{FrameContent}
 use Rattle.parse.specs.declared.ContentAnswer.{ContentAnswer}
 use Rattle.parse.specs.declared.ContentAnswer.the-variants as content

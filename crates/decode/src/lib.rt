@@ -1,6 +1,6 @@
 // What reading a frame gives, and its outline: the answer, told from the octets before anything is taken apart. The crate `reading`
 // goes on from there.
-use content::Mode;
+use control::Mode;
 use frame::Ax25Frame;
 ghost use mathlib.Core.Path.{_≡_};
 ghost use Prim.Native.Nat.{_≤_, _<_};

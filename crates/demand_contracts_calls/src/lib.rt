@@ -4,7 +4,7 @@ ghost use mathlib.Core.Bool.{true, false};
 ghost use mathlib.Core.Logic.{_↔_};
 ghost use Prim.Native.Nat.{_≤_, _<_};
 ghost use lib.ListN.{length};
-ghost use Rattle.content.specs.declared.Mode.the-variants.{Short};
+ghost use Rattle.control.specs.declared.Mode.the-variants.{Short};
 ghost use Rattle.decode.specs.Answer.{numberOf, isAccepted};
 ghost use Rattle.decode.specs.Read.{decode};
 ghost use Rattle.old_captures.specs.Old.{former};

@@ -1,6 +1,6 @@
 // The demands as contracts of the code: each function only calls the product's, and its contract is the demand. Together the
 // clauses of a contract fix the result, and what is left in a lent buffer, for every input in either mode.
-use content::Mode;
+use control::Mode;
 use decode::Decoded;
 use frame::Ax25Frame;
 use frame::Written;

@@ -1,6 +1,6 @@
 // What document 02, M-100 and M-102, asks of relaying as contracts of the code, as in `demand_contracts_frames`.
 use address::Address;
-use content::Mode;
+use control::Mode;
 use decode::Decoded;
 use frame::Ax25Frame;
 use relay::RelayAnswer;

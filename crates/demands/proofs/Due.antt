@@ -13,7 +13,7 @@ use Rattle.octets.specs.All.{all}
 use Rattle.octets.specs.First.{first}
 use Rattle.octets.specs.Same.{same}
 use Rattle.octets.proofs.Choice.{by}
-use Rattle.content.specs.declared.Mode.the-variants.{Short}
+use Rattle.control.specs.declared.Mode.the-variants.{Short}
 use Rattle.protocol.specs.Pid.{among, pidOf}
 use Rattle.address.specs.Address.{noCall, encodable}
 use Rattle.address.specs.Group.{addressOf, markOf}

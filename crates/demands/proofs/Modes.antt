@@ -13,8 +13,8 @@ use Rattle.octets.proofs.Choice.{by, either, neither, and-false}
 use Rattle.protocol.specs.Pid.{among, pidOf}
 use Rattle.address.specs.Address.{noCall}
 use Rattle.address.specs.Group.{addressOf, markOf, ssidOctet, groupOf}
-use Rattle.content.specs.declared.Mode.{Mode}
-use Rattle.content.specs.declared.Mode.the-variants.{Short, Long}
+use Rattle.control.specs.declared.Mode.{Mode}
+use Rattle.control.specs.declared.Mode.the-variants.{Short, Long}
 use Rattle.parse.specs.Content.{iOf, sKindOf, sOf, uiOf, responseOf, frmrOf, uOf, contentOf}
 use Rattle.parse.specs.Numbers.{isI, isS, isUi, isFrmr, lacksControl, lacksPid, strangeU, frmrInLong, wrongFrmr}
 use Rattle.frame.specs.Frame.{noEntry, noRoute, simpleUi, defaultFrame}

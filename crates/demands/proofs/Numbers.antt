@@ -15,7 +15,7 @@ use Rattle.text.proofs.Laws.{text-numbers, parts-numbers}
 use Rattle.printing.proofs.Laws.{print-numbers}
 use Rattle.content.specs.Encode.{strayInfo, strayPid}
 use Rattle.content.proofs.Encode.{stray-one}
-use Rattle.content.specs.declared.Mode.{Mode}
+use Rattle.control.specs.declared.Mode.{Mode}
 use Rattle.decode.specs.Answer.{numberOf}
 use Rattle.frame.specs.Frame.{writeNumber}
 use Rattle.decode.specs.Read.{decode}

@@ -3,7 +3,7 @@ use Prim.Native.Nat.{ℕ}
 use mathlib.Core.Path.{_≡_, refl}
 use mathlib.Core.List.{List, map}
 use Rattle.octets.specs.First.{first}
-use Rattle.content.specs.declared.Mode.{Mode}
+use Rattle.control.specs.declared.Mode.{Mode}
 use Rattle.protocol.specs.Pid.{among, pidOf}
 use Rattle.address.specs.Address.{noCall}
 use Rattle.address.specs.Group.{addressOf, markOf}

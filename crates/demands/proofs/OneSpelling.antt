@@ -18,7 +18,7 @@ use Rattle.respelling.proofs.Laws.{again-room, refused-answer, again-short, aga
 use Rattle.octets.specs.Lent.{starting}
 use Rattle.demands.specs.OneSpelling.{OneSpelling}
 use Rattle.octets.proofs.Lent.{splice-start}
-use Rattle.content.specs.declared.Mode.{Mode}
+use Rattle.control.specs.declared.Mode.{Mode}
 
 pub one-spelling : (mode : Mode) (s : List ℕ) → Octets s → OneSpelling mode s
 one-spelling mode s o = record {

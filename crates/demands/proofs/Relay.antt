@@ -39,7 +39,7 @@ use Rattle.octets.specs.Table.{Table, given, FirstRow}
 use Rattle.demands.specs.Numbers.{decodeTable}
 use Rattle.demands.specs.Relay.{dueRows, relayRows, relayTable, badStation, placeMarked, frameMarked, Relayed, Again}
 use Rattle.octets.proofs.Table.{exactly}
-use Rattle.content.specs.declared.Mode.the-variants.{Short}
+use Rattle.control.specs.declared.Mode.the-variants.{Short}
 
 -- the number of an answer
 abbrev numbered : RelayAnswer → ℕ

@@ -8,10 +8,10 @@ use lib.Seq.{getD-drop}
 use Rattle.octets.specs.Octet.{bit}
 use Rattle.octets.proofs.First.{first-before, first-passes}
 use Rattle.protocol.specs.Pid.{octetOf}
-use Rattle.content.specs.Mode.{controls}
+use Rattle.control.specs.Mode.{controls}
 use Rattle.content.specs.Spell.{front}
-use Rattle.content.specs.declared.Mode.{Mode}
-use Rattle.content.specs.declared.Mode.the-variants.{Short, Long}
+use Rattle.control.specs.declared.Mode.{Mode}
+use Rattle.control.specs.declared.Mode.the-variants.{Short, Long}
 use Rattle.content.specs.declared.Information.{Information}
 use Rattle.content.specs.declared.FrameContent.{FrameContent}
 use Rattle.content.specs.declared.FrameContent.the-variants as kind

@@ -16,8 +16,8 @@ use Rattle.octets.proofs.Octet.{all-bits, octets-same}
 use Rattle.protocol.specs.Pid.{among, pidOf}
 use Rattle.address.specs.Address.{noCall}
 use Rattle.address.specs.Group.{addressOf, markOf, ssidOctet, groupOf}
-use Rattle.content.specs.declared.Mode.the-variants.{Short, Long}
-use Rattle.content.specs.declared.Mode.{Mode}
+use Rattle.control.specs.declared.Mode.the-variants.{Short, Long}
+use Rattle.control.specs.declared.Mode.{Mode}
 use Rattle.parse.specs.Content.{iOf, sKindOf, sOf, uiOf, responseOf, frmrOf, uOf, contentOf}
 use Rattle.content_as_written.specs.Unseen.{unseen, hasUnseen}
 use Rattle.content_as_written.proofs.Unseen.{none-unseen}

@@ -7,7 +7,7 @@ use lib.ListN.{take}
 use Rattle.protocol.specs.declared.ProtocolIdentifier.{ProtocolIdentifier}
 use Rattle.protocol.specs.declared.ProtocolIdentifier.the-variants.{None, Layer3Impl}
 use Rattle.content.specs.declared.CommandResponse.the-variants as fault
-use Rattle.content.specs.declared.Mode.{Mode}
+use Rattle.control.specs.declared.Mode.{Mode}
 use Rattle.content.specs.declared.FrameContent.{FrameContent}
 use Rattle.content.specs.declared.FrameContent.the-variants.{UnnumberedInformation, ReceiveReady, SelectiveReject, SetAsynchronousBalancedModeExtended, FrameReject}
 use Rattle.decode.specs.Answer.{Report, number, reportOf}

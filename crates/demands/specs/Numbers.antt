@@ -10,7 +10,7 @@ use Rattle.text.specs.Text.{high, manyHyphens, badSsid, empty, long, strange, w
 use Rattle.printing.specs.Print.{short}
 use Rattle.address.specs.declared.Address.{Address}
 use Rattle.content.specs.Encode.{longFrmr, strayInfo, strayPid}
-use Rattle.content.specs.declared.Mode.{Mode}
+use Rattle.control.specs.declared.Mode.{Mode}
 use Rattle.parse.specs.Numbers.{lacksControl, lacksPid, strangeU, frmrInLong, wrongFrmr}
 use Rattle.decode.specs.Read.{endOf}
 use Rattle.decode.specs.Numbers.{noStart, leadingNull, noEnd, shortField, noContent, manyRepeaters}

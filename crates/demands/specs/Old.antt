@@ -5,8 +5,8 @@ use mathlib.Core.Bool.{false}
 use mathlib.Core.List.{List, [], _∷_, _++_}
 use lib.ListN.{take}
 use Rattle.protocol.specs.declared.ProtocolIdentifier.the-variants.{None}
-use Rattle.content.specs.declared.Mode.{Mode}
-use Rattle.content.specs.declared.Mode.the-variants.{Short}
+use Rattle.control.specs.declared.Mode.{Mode}
+use Rattle.control.specs.declared.Mode.the-variants.{Short}
 use Rattle.content.specs.declared.FrameContent.the-variants.{ReceiveReady}
 use Rattle.decode.specs.Answer.{Report, number, numberOf, reportOf}
 use Rattle.decode.specs.Read.{decode}

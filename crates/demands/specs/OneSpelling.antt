@@ -6,7 +6,7 @@ use mathlib.Core.List.{List}
 use mathlib.Core.Logic.{_↔_}
 use lib.ListN.{length, drop}
 use Rattle.content.specs.Spell.{hasInfo}
-use Rattle.content.specs.declared.Mode.{Mode}
+use Rattle.control.specs.declared.Mode.{Mode}
 use Rattle.decode.specs.Answer.{isAccepted}
 use Rattle.decode.specs.Read.{endOf, decode, infoIn}
 use Rattle.frame.specs.Spell.{spell, Plain, withMark, inUse}

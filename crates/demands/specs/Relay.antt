@@ -18,7 +18,7 @@ use Rattle.hops.specs.Station.{sameStation}
 use Rattle.relay.specs.Relay.{usedUp, ours, dueMark}
 use Rattle.spelling.specs.Canonical.{canonical}
 use Rattle.octets.specs.Table.{Table}
-use Rattle.content.specs.declared.Mode.the-variants.{Short}
+use Rattle.control.specs.declared.Mode.the-variants.{Short}
 use Rattle.demands.specs.Numbers.{decodeTable}
 
 -- the rows of a frame that decodes: 41, 43, 42

@@ -7,8 +7,8 @@ use lib.ListN.{getD}
 use Rattle.octets.specs.Octet.{bit}
 use Rattle.protocol.specs.Pid.{octetOf}
 use Rattle.address.specs.Group.{markOf}
-use Rattle.content.specs.Mode.{controls}
-use Rattle.content.specs.declared.Mode.{Mode}
+use Rattle.control.specs.Mode.{controls}
+use Rattle.control.specs.declared.Mode.{Mode}
 use Rattle.content.specs.declared.Information.{Information}
 use Rattle.content.specs.declared.UnnumberedInformation.{UnnumberedInformation}
 use Rattle.content.specs.declared.FrameContent.the-variants as kind

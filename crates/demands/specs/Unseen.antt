@@ -7,7 +7,7 @@ use mathlib.Core.List.{List, [], _∷_, _++_}
 use lib.Dec.{leb}
 use lib.ListN.{length, getD, take}
 use Rattle.octets.specs.Octet.{bit}
-use Rattle.content.specs.declared.Mode.{Mode}
+use Rattle.control.specs.declared.Mode.{Mode}
 use Rattle.content_as_written.specs.Unseen.{unseen}
 use Rattle.frame.specs.Spell.{inUse}
 use Rattle.frame.specs.declared.Ax25Frame.{Ax25Frame}

@@ -13,10 +13,9 @@ use Rattle.text.specs.Text.{alphanumeric}
 use Rattle.printing.specs.Print.{trimmed}
 use Rattle.address.specs.declared.Address.{Address}
 use Rattle.printing.proofs.Laws.{used-le, trimmed-length}
-use Rattle.content.specs.Spell.{hasPid}
 use Rattle.content.specs.declared.FrameContent.{FrameContent}
 use Rattle.content.specs.declared.FrameContent.the-variants as kind
-use Rattle.content.specs.declared.Mode.the-variants.{Short}
+use Rattle.control.specs.declared.Mode.the-variants.{Short}
 use Rattle.decode.specs.Answer.{isAccepted, numberOf}
 use Rattle.decode.specs.Read.{decode}
 use Rattle.frame.specs.Spell.{repeaterAt}
@@ -31,7 +30,7 @@ use Rattle.grammar.proofs.Plain.{Stations, stations, inside}
 use Rattle.spelling.specs.Canonical.{canonical}
 use Rattle.dump.specs.Ascii.{ascii}
 use Rattle.dump.specs.Text.{fourDigits, leading, decimal, character, characters, ssidText, addressText, entryText, routeText}
-use Rattle.dump.specs.Dump.{markText, kindText, controlText, pidText, yesNo, stationLines, contentLines, frameText, detailText, refusalText, decodedText, dumpText}
+use Rattle.dump.specs.Dump.{hasPid, markText, kindText, controlText, pidText, yesNo, stationLines, contentLines, frameText, detailText, refusalText, decodedText, dumpText}
 
 pub decimal-short : (n : ℕ) → length (decimal n) ≤ 4
 decimal-short n = omega (arith, length-drop (leading n) (fourDigits n))

@@ -1,12 +1,12 @@
 -- What the dumper prints (document 01, Loader calls and dumper): key=value lines in a fixed order. It reads in the short mode.
 use Prim.Native.Nat.{ℕ}
 use Prim.Native.String.{String}
-use mathlib.Core.Bool.{Bool, cond}
+use mathlib.Core.Bool.{Bool, true, false, cond}
 use mathlib.Core.List.{List, [], _++_}
 use lib.Dec.{ltb}
 use lib.ListN.{length, getD}
-use Rattle.content.specs.Spell.{hasPid, front}
-use Rattle.content.specs.declared.Mode.the-variants.{Short}
+use Rattle.content.specs.Spell.{front}
+use Rattle.control.specs.declared.Mode.the-variants.{Short}
 use Rattle.content.specs.declared.FrameContent.{FrameContent}
 use Rattle.content.specs.declared.FrameContent.the-variants as kind
 use Rattle.decode.specs.Answer.{numberOf, isAccepted}
@@ -50,6 +50,24 @@ kindText (kind.UnnumberedInformation k) = ascii "UI"
 kindText (kind.ExchangeIdentification k) = ascii "XID"
 kindText (kind.Test k) = ascii "TEST"
 kindText kind.UnknownContent = ascii "-"
+
+-- the kinds that have a PID: I and UI
+abbrev pub hasPid : FrameContent → Bool
+hasPid (kind.Information k) = true
+hasPid (kind.ReceiveReady k) = false
+hasPid (kind.ReceiveNotReady k) = false
+hasPid (kind.Reject k) = false
+hasPid (kind.SelectiveReject k) = false
+hasPid (kind.SetAsynchronousBalancedMode k) = false
+hasPid (kind.SetAsynchronousBalancedModeExtended k) = false
+hasPid (kind.Disconnect k) = false
+hasPid (kind.DisconnectedMode k) = false
+hasPid (kind.UnnumberedAcknowledge k) = false
+hasPid (kind.FrameReject k) = false
+hasPid (kind.UnnumberedInformation k) = true
+hasPid (kind.ExchangeIdentification k) = false
+hasPid (kind.Test k) = false
+hasPid kind.UnknownContent = false
 
 -- control and PID as re-encoded: the first two octets of what the content spells
 abbrev pub controlText : FrameContent → List ℕ

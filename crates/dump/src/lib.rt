@@ -1,5 +1,5 @@
 // What the dumper prints of an octet string, as octets in a lent buffer.
-use content::Mode;
+use control::Mode;
 use decode::DecodeAnswer;
 use decode::Decoded;
 ghost use mathlib.Core.Path.{_≡_};

@@ -1,12 +1,12 @@
 // Short words by value.
 use content::FrameContent;
-use content::Mode;
+use control::Mode;
 use frame::Mark;
 ghost use mathlib.Core.Path.{_≡_};
 ghost use Prim.Native.Nat.{_<_};
 ghost use Rattle.content.specs.Spell.{front};
 ghost use Rattle.dump.specs.Text.{hexDigit, hex, character, wordOf};
-ghost use Rattle.dump.specs.Dump.{markText, kindText, controlText, pidText, yesNo};
+ghost use Rattle.dump.specs.Dump.{markText, kindText, hasPid, controlText, pidText, yesNo};
 
 // Up to eight characters, zeros after them.
 pub struct Word {
@@ -144,11 +144,33 @@ pub(crate) fn control(content: FrameContent) -> Word
     hex(front[0])
 }
 
+fn has_pid(content: FrameContent) -> bool
+    ensures { λ r. ⌜ r ≡ hasPid content ⌝ }
+{
+    match content {
+        FrameContent::Information(_) => true,
+        FrameContent::ReceiveReady(_) => false,
+        FrameContent::ReceiveNotReady(_) => false,
+        FrameContent::Reject(_) => false,
+        FrameContent::SelectiveReject(_) => false,
+        FrameContent::SetAsynchronousBalancedMode(_) => false,
+        FrameContent::SetAsynchronousBalancedModeExtended(_) => false,
+        FrameContent::Disconnect(_) => false,
+        FrameContent::DisconnectedMode(_) => false,
+        FrameContent::UnnumberedAcknowledge(_) => false,
+        FrameContent::FrameReject(_) => false,
+        FrameContent::UnnumberedInformation(_) => true,
+        FrameContent::ExchangeIdentification(_) => false,
+        FrameContent::Test(_) => false,
+        FrameContent::UnknownContent => false,
+    }
+}
+
 // The PID as re-encoded; a hyphen where there is none.
 pub(crate) fn pid(content: FrameContent) -> Word
     ensures { λ r. ⌜ r ≡ wordOf (pidText content) ⌝ }
 {
-    if content.has_pid() {
+    if has_pid(content) {
         let front = content.front(Mode::Short);
         return hex(front[1]);
     }

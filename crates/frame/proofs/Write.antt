@@ -20,7 +20,7 @@ use Rattle.address.specs.Group.{groupOf}
 use Rattle.address.proofs.Laws.{group-length}
 use Rattle.content.specs.Spell.{front}
 use Rattle.content.specs.Encode.{longFrmr, strayInfo, strayPid, answerOf, encodeOf, encoded}
-use Rattle.content.specs.declared.Mode.{Mode}
+use Rattle.control.specs.declared.Mode.{Mode}
 use Rattle.content.specs.declared.EncodeAnswer.the-variants.{Written}
 use Rattle.content.proofs.Encode.{answer-written}
 use Rattle.frame.specs.Spell.{repeaterAt, groupsOf, destinationMark, sourceMark, addressField, spell}

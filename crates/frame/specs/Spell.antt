@@ -9,7 +9,7 @@ use Rattle.octets.specs.Octet.{Octets}
 use Rattle.address.specs.Address.{PlainAddress}
 use Rattle.address.specs.Group.{groupOf}
 use Rattle.content.specs.Spell.{hasInfo, front, PlainContent}
-use Rattle.content.specs.declared.Mode.{Mode}
+use Rattle.control.specs.declared.Mode.{Mode}
 use Rattle.frame.specs.Frame.{noEntry}
 use Rattle.frame.specs.declared.Mark.{Mark}
 use Rattle.frame.specs.declared.Mark.the-variants.{Command, Response, Absent}

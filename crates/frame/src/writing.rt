@@ -4,7 +4,7 @@ use crate::Mark;
 use crate::RouteEntry;
 use crate::WriteAnswer;
 use crate::Written;
-use content::Mode;
+use control::Mode;
 ghost use mathlib.Core.Path.{_≡_};
 ghost use mathlib.Core.Bool.{true};
 ghost use Prim.Native.Nat.{_+_, _*_, _≤_};

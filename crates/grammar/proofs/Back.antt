@@ -16,7 +16,7 @@ use Rattle.address.specs.Group.{groupOf, markOf}
 use Rattle.address.specs.declared.Address.{Address}
 use Rattle.address.proofs.Laws.{group-length, read-written, mark-written}
 use Rattle.content.specs.Spell.{hasInfo, front}
-use Rattle.content.specs.declared.Mode.{Mode}
+use Rattle.control.specs.declared.Mode.{Mode}
 use Rattle.parse.specs.Content.{contentOf}
 use Rattle.parse.specs.declared.ContentAnswer.the-variants.{Accepted}
 use Rattle.content_as_written.proofs.Laws.{content-back, content-some}

@@ -18,7 +18,7 @@ use Rattle.address.proofs.Laws.{mark-written, written-read, mark-last}
 use Rattle.content.specs.Spell.{hasInfo, front}
 use Rattle.content_as_written.specs.AsWritten.{asWritten, infoOf}
 use Rattle.content.specs.declared.FrameContent.{FrameContent}
-use Rattle.content.specs.declared.Mode.{Mode}
+use Rattle.control.specs.declared.Mode.{Mode}
 use Rattle.content_as_written.proofs.Laws.{content-kept, content-exact, front-some}
 use Rattle.content_as_written.proofs.AsWritten.{as-written-spelled}
 use Rattle.decode.specs.Read.{endOf, groupAt, parsedAt, entryAt, placeAt, routeAt, commandOf, frameAt, acceptedWith, decode, infoIn}

@@ -15,7 +15,7 @@ use Rattle.octets.proofs.Place.{getD-part}
 use Rattle.address.specs.Group.{addressOf, markOf, markSet}
 use Rattle.address.proofs.Laws.{address-kept, mark-last}
 use Rattle.content.specs.Spell.{hasInfo, front}
-use Rattle.content.specs.declared.Mode.{Mode}
+use Rattle.control.specs.declared.Mode.{Mode}
 use Rattle.content_as_written.proofs.Laws.{content-some}
 use Rattle.frame.specs.Spell.{repeaterAt, past}
 use Rattle.frame.specs.declared.RouteEntry.{RouteEntry}

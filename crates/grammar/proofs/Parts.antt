@@ -11,7 +11,7 @@ use Rattle.octets.proofs.Octet.{octets-drop}
 use Rattle.address.specs.Group.{addressOf, markSet}
 use Rattle.content.specs.Spell.{hasInfo, front}
 use Rattle.content.specs.declared.FrameContent.{FrameContent}
-use Rattle.content.specs.declared.Mode.{Mode}
+use Rattle.control.specs.declared.Mode.{Mode}
 use Rattle.parse.specs.Content.{contentOf}
 use Rattle.parse.specs.declared.ContentAnswer.the-variants.{Accepted}
 use Rattle.content_as_written.proofs.Laws.{content-fits}

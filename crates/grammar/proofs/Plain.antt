@@ -17,7 +17,7 @@ use Rattle.address.specs.Address.{PlainAddress}
 use Rattle.address.proofs.Laws.{read-plain, no-call-plain, group-character}
 use Rattle.content.specs.Spell.{hasInfo, front, PlainContent}
 use Rattle.content.specs.declared.FrameContent.{FrameContent}
-use Rattle.content.specs.declared.Mode.{Mode}
+use Rattle.control.specs.declared.Mode.{Mode}
 use Rattle.content_as_written.proofs.Laws.{content-plain, content-fits, content-some}
 use Rattle.frame.specs.Frame.{noEntry}
 use Rattle.decode.specs.Answer.{isAccepted}

@@ -8,7 +8,7 @@ use native.Mathlib.Omega.{arith}
 use lib.ListN.{length, drop}
 use Rattle.octets.proofs.Choice.{by}
 use Rattle.content.specs.declared.FrameContent.the-variants as kind
-use Rattle.content.specs.declared.Mode.{Mode}
+use Rattle.control.specs.declared.Mode.{Mode}
 use Rattle.parse.specs.declared.ContentAnswer.the-variants as content
 use Rattle.parse.proofs.Read.{never-unknown}
 use Rattle.decode.specs.Answer.{isAccepted}

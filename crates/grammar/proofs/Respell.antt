@@ -13,7 +13,7 @@ use Rattle.address.specs.Address.{PlainAddress}
 use Rattle.content.specs.Spell.{hasInfo}
 use Rattle.content.specs.Encode.{strayInfo}
 use Rattle.content.proofs.Encode.{plain-pid, plain-frmr}
-use Rattle.content.specs.declared.Mode.{Mode}
+use Rattle.control.specs.declared.Mode.{Mode}
 use Rattle.decode.specs.Answer.{isAccepted}
 use Rattle.decode.specs.Read.{endOf, acceptedWith, decode, infoIn}
 use Rattle.frame.specs.Write.{routeEncodable, frameEncodable, writeAnswer, octetsWritten, written}

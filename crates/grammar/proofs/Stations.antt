@@ -7,7 +7,7 @@ use native.Mathlib.Omega.{arith}
 use lib.ListN.{length, getD}
 use Rattle.octets.specs.Octet.{Octets, field}
 use Rattle.octets.proofs.Place.{getD-part}
-use Rattle.content.specs.declared.Mode.{Mode}
+use Rattle.control.specs.declared.Mode.{Mode}
 use Rattle.address.proofs.Laws.{reserved-last}
 use Rattle.address.specs.declared.Address.{Address}
 use Rattle.decode.specs.Answer.{isAccepted}

@@ -16,7 +16,7 @@ use Rattle.octets.proofs.Octet.{octets-drop, octets-same}
 use Rattle.octets.proofs.Place.{getD-part}
 use Rattle.content.specs.Spell.{hasInfo, front, spellContent}
 use Rattle.content.specs.declared.FrameContent.{FrameContent}
-use Rattle.content.specs.declared.Mode.{Mode}
+use Rattle.control.specs.declared.Mode.{Mode}
 use Rattle.parse.specs.Content.{contentOf}
 use Rattle.parse.specs.declared.ContentAnswer.the-variants.{Accepted}
 use Rattle.content_as_written.specs.AsWritten.{infoOf}

@@ -4,7 +4,7 @@ use mathlib.Core.Bool.{Bool, _&&_}
 use mathlib.Core.List.{List}
 use lib.ListN.{getD, drop}
 use Rattle.octets.specs.Octet.{bit}
-use Rattle.content.specs.declared.Mode.{Mode}
+use Rattle.control.specs.declared.Mode.{Mode}
 use Rattle.content_as_written.specs.AsWritten.{asWritten}
 use Rattle.decode.specs.Read.{parsedAt, commandOf}
 use Rattle.frame.specs.Spell.{marked}

@@ -1,5 +1,5 @@
 // The calls that C links, all in the short mode. A slice is a pointer and a length there; include/ax25.h says what the caller owes.
-use content::Mode;
+use control::Mode;
 use kiss_state::Stream;
 use kiss_stream::Packet;
 ghost use mathlib.Core.Path.{_≡_};

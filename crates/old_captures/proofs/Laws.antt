@@ -11,7 +11,7 @@ use lib.ListN.{length, length-drop, drop}
 use Rattle.octets.specs.Octet.{bit}
 use Rattle.octets.proofs.Choice.{by}
 use Rattle.octets.proofs.First.{first-le, first-skip}
-use Rattle.content.specs.declared.Mode.{Mode}
+use Rattle.control.specs.declared.Mode.{Mode}
 use Rattle.decode.specs.Answer.{reportOf, numberOf, isAccepted}
 use Rattle.decode.specs.Read.{nonzero, startOf, endOf, decode}
 use Rattle.decode.specs.declared.Decoded.{Decoded}

@@ -1,6 +1,6 @@
 // Captures that were taken before a leading null was refused: the nulls before a frame are skipped, and the rest is read as the decoder
 // reads it. Nothing else in the box reads so.
-use content::Mode;
+use control::Mode;
 use decode::DecodeAnswer;
 use decode::Decoded;
 ghost use mathlib.Core.Path.{_≡_};

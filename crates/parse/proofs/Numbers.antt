@@ -9,9 +9,9 @@ use lib.Dec.{eqb, ltb}
 use lib.ListN.{length, getD}
 use Rattle.octets.specs.Octet.{field}
 use Rattle.octets.proofs.Choice.{by, either}
-use Rattle.content.specs.Control.{sabm, sabme, disc, dm, ua, frmr, ui, xid, test, uKind}
-use Rattle.content.specs.declared.Mode.{Mode}
-use Rattle.content.specs.declared.Mode.the-variants.{Short, Long}
+use Rattle.control.specs.Control.{sabm, sabme, disc, dm, ua, frmr, ui, xid, test, uKind}
+use Rattle.control.specs.declared.Mode.{Mode}
+use Rattle.control.specs.declared.Mode.the-variants.{Short, Long}
 use Rattle.content.specs.declared.FrameContent.{FrameContent}
 use Rattle.parse.specs.Content.{iOf, sOf, uiOf, frmrOf, uOf, contentOf, numberOf}
 use Rattle.parse.specs.Numbers.{isI, isS, isU, isUi, isFrmr, lacksControl, lacksPid, strangeU, frmrInLong, wrongFrmr, rows}

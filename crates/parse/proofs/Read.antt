@@ -10,13 +10,14 @@ use lib.ListN.{length, getD}
 use Rattle.octets.specs.Octet.{field}
 use Rattle.octets.proofs.Choice.{either}
 use Rattle.protocol.specs.Pid.{octetOf}
-use Rattle.content.specs.Mode.{isLong, controls}
-use Rattle.content.specs.Control.{rr, rnr, rej, srej, sabm, sabme, disc, dm, ua, frmr, ui, xid, test, pollOf, sKind, uKind, receiveIn, pollIn}
-use Rattle.content.specs.Spell.{sent, sequenced, front}
-use Rattle.content.proofs.Encode.{sequenced-length, before-info}
+use Rattle.control.specs.Mode.{isLong, controls}
+use Rattle.control.specs.Control.{rr, rnr, rej, srej, sabm, sabme, disc, dm, ua, frmr, ui, xid, test, pollOf, sKind, uKind, receiveIn, pollIn}
+use Rattle.control.specs.Spell.{sent, sequenced}
+use Rattle.content.specs.Spell.{front}
+use Rattle.control.proofs.Laws.{some-control, sequenced-length, before-info}
 use Rattle.parse.specs.Content.{iFieldsOf, uiFieldsOf, frmrFieldsOf, iOf, sKindOf, sFrameOf, sOf, uiOf, frmrOf, uOf, contentOf}
-use Rattle.content.specs.declared.Mode.{Mode}
-use Rattle.content.specs.declared.Mode.the-variants.{Short, Long}
+use Rattle.control.specs.declared.Mode.{Mode}
+use Rattle.control.specs.declared.Mode.the-variants.{Short, Long}
 use Rattle.content.specs.declared.FrameContent.{FrameContent}
 use Rattle.content.specs.declared.FrameContent.the-variants as kind
 use Rattle.parse.specs.declared.ContentAnswer.{ContentAnswer}
@@ -120,11 +121,6 @@ module _ (m : Mode) (s : List ℕ) where
 
   pub zero-length : contentOf m s ≡ ContentZeroLength → length s ≡ 0
   zero-length e = subst (Case m s) e content-case
-
--- a control field has one octet or two
-some-control : (m : Mode) → 0 < controls m
-some-control Short = omega arith
-some-control Long = omega arith
 
 -- what stands before the info is something, and no more than was read
 pub sized : (m : Mode) (s : List ℕ) (k : FrameContent) → contentOf m s ≡ Accepted k → (0 < length (front m k)) × (length (front m k) ≤ length s)

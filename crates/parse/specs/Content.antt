@@ -7,10 +7,10 @@ use lib.Dec.{eqb, ltb}
 use lib.ListN.{length, getD}
 use Rattle.octets.specs.Octet.{field, bit}
 use Rattle.protocol.specs.Pid.{pidOf}
-use Rattle.content.specs.Mode.{controls}
-use Rattle.content.specs.Control.{rr, rnr, rej, sabm, sabme, disc, dm, ua, frmr, ui, xid, test, receiveOf, sendOf, pollOf, sKind, uKind, receiveIn, sendIn, pollIn}
-use Rattle.content.specs.declared.Mode.{Mode}
-use Rattle.content.specs.declared.Mode.the-variants.{Short, Long}
+use Rattle.control.specs.Mode.{controls}
+use Rattle.control.specs.Control.{rr, rnr, rej, sabm, sabme, disc, dm, ua, frmr, ui, xid, test, receiveOf, sendOf, pollOf, sKind, uKind, receiveIn, sendIn, pollIn}
+use Rattle.control.specs.declared.Mode.{Mode}
+use Rattle.control.specs.declared.Mode.the-variants.{Short, Long}
 use Rattle.content.specs.declared.CommandResponse.{CommandResponse}
 use Rattle.content.specs.declared.CommandResponse.the-variants.{Command, Response}
 use Rattle.content.specs.declared.Information.{Information}

@@ -5,9 +5,9 @@ use mathlib.Core.List.{List}
 use lib.Dec.{eqb, ltb}
 use lib.ListN.{length, getD}
 use Rattle.octets.specs.Octet.{field}
-use Rattle.content.specs.Mode.{isLong, controls}
-use Rattle.content.specs.Control.{sabm, sabme, disc, dm, ua, frmr, ui, xid, test, uKind}
-use Rattle.content.specs.declared.Mode.{Mode}
+use Rattle.control.specs.Mode.{isLong, controls}
+use Rattle.control.specs.Control.{sabm, sabme, disc, dm, ua, frmr, ui, xid, test, uKind}
+use Rattle.control.specs.declared.Mode.{Mode}
 
 -- the kinds by the control octet: low bit 0 is I, low bits 01 are S, low bits 11 are U
 abbrev pub isI : ℕ → Bool

@@ -1,4 +1,4 @@
-// Reading content: masks and shifts take the control octet and FRMR's octets apart.
+// Reading content: the control octet tells the kind, and each kind has its fields.
 use content::CommandResponse;
 use content::Disconnect;
 use content::DisconnectedMode;
@@ -6,7 +6,6 @@ use content::ExchangeIdentification;
 use content::FrameContent;
 use content::FrameReject;
 use content::Information;
-use content::Mode;
 use content::ReceiveNotReady;
 use content::ReceiveReady;
 use content::Reject;
@@ -16,12 +15,13 @@ use content::SetAsynchronousBalancedModeExtended;
 use content::Test;
 use content::UnnumberedAcknowledge;
 use content::UnnumberedInformation;
+use control::Mode;
 use protocol::ProtocolIdentifier;
 ghost use mathlib.Core.Path.{_≡_};
 ghost use mathlib.Core.Bool.{cond};
 ghost use lib.Dec.{ltb};
 ghost use lib.ListN.{length, getD};
-ghost use Rattle.parse.specs.Content.{iOf, sKindOf, sOf, uOf, uiOf, frmrOf, responseOf, contentOf, reportOf, numberOf};
+ghost use Rattle.parse.specs.Content.{iOf, sKindOf, sOf, uOf, uiOf, frmrOf, contentOf, reportOf, numberOf};
 
 // What reading content gives.
 pub enum ContentAnswer {
@@ -50,13 +50,14 @@ impl ContentAnswer {
     }
 }
 
-// I content of the short mode and UI content is at least this long, and I content of the long mode that.
+// UI content, and I content of the short mode, is at least this long.
 const CONTROL_AND_PID: usize = 2;
 
-const LONG_CONTROL_AND_PID: usize = 3;
-
-// I and S content of the long mode have so many control octets.
+// I and S content of the long mode has so many control octets,
 const LONG_CONTROL: usize = 2;
+
+// and its I content is at least this long.
+const LONG_CONTROL_AND_PID: usize = 3;
 
 fn parse_short_i_frame(bytes: &[u8]) -> ContentAnswer
     ensures { λ r. ⌜ r ≡ iOf Mode.Short (now (bytes .entry)) ⌝ }
@@ -64,13 +65,13 @@ fn parse_short_i_frame(bytes: &[u8]) -> ContentAnswer
     if bytes.len() < CONTROL_AND_PID {
         return ContentAnswer::MissingPidField;
     }
-    let c = bytes[0];
+    let fields = control::short_fields(bytes[0]);
     let pid = ProtocolIdentifier::from_byte(bytes[1]);
     ContentAnswer::Accepted(FrameContent::Information(Information {
         pid,
-        receive_sequence: (c & 0b1110_0000) >> 5,
-        send_sequence: (c & 0b0000_1110) >> 1,
-        poll: (c & 0b0001_0000) != 0,
+        receive_sequence: fields.receive,
+        send_sequence: fields.send,
+        poll: fields.poll,
     }))
 }
 
@@ -83,14 +84,13 @@ fn parse_long_i_frame(bytes: &[u8]) -> ContentAnswer
     if bytes.len() < LONG_CONTROL_AND_PID {
         return ContentAnswer::MissingPidField;
     }
-    let sent = bytes[0];
-    let received = bytes[1];
+    let fields = control::long_fields(bytes[0], bytes[1]);
     let pid = ProtocolIdentifier::from_byte(bytes[2]);
     ContentAnswer::Accepted(FrameContent::Information(Information {
         pid,
-        receive_sequence: received >> 1,
-        send_sequence: sent >> 1,
-        poll: (received & 0b0000_0001) != 0,
+        receive_sequence: fields.receive,
+        send_sequence: fields.send,
+        poll: fields.poll,
     }))
 }
 
@@ -136,8 +136,8 @@ fn parse_long_s_frame(c: u8, bytes: &[u8]) -> ContentAnswer
     if bytes.len() < LONG_CONTROL {
         return ContentAnswer::MissingControlOctet;
     }
-    let received = bytes[1];
-    ContentAnswer::Accepted(s_kind_of(c, received >> 1, (received & 0b0000_0001) != 0))
+    let fields = control::long_fields(c, bytes[1]);
+    ContentAnswer::Accepted(s_kind_of(c, fields.receive, fields.poll))
 }
 
 fn parse_s_frame(mode: Mode, c: u8, bytes: &[u8]) -> ContentAnswer
@@ -146,7 +146,8 @@ fn parse_s_frame(mode: Mode, c: u8, bytes: &[u8]) -> ContentAnswer
 {
     match mode {
         Mode::Short => {
-            ContentAnswer::Accepted(s_kind_of(c, (c & 0b1110_0000) >> 5, (c & 0b0001_0000) != 0))
+            let fields = control::short_fields(c);
+            ContentAnswer::Accepted(s_kind_of(c, fields.receive, fields.poll))
         }
         Mode::Long => parse_long_s_frame(c, bytes),
     }
@@ -166,11 +167,10 @@ fn parse_ui_frame(bytes: &[u8]) -> ContentAnswer
     }))
 }
 
-fn response_of(n: u8) -> CommandResponse
-    ensures { λ r. ⌜ r ≡ responseOf n ⌝ }
+fn response_of(response: bool) -> CommandResponse
+    ensures { λ r. ⌜ r ≡ cond response CommandResponse.Response CommandResponse.Command ⌝ }
 {
-    let response = n & 0b0001_0000;
-    if response != 0 {
+    if response {
         CommandResponse::Response
     } else {
         CommandResponse::Command
@@ -186,9 +186,10 @@ fn parse_short_frmr_frame(bytes: &[u8]) -> ContentAnswer
     }
     let c = bytes[0];
     let flags = bytes[1];
-    let n = bytes[2];
+    // N(R), N(S) and, for the P/F bit, the response bit.
+    let copy = control::short_fields(bytes[2]);
     let rejected_control_field_raw = bytes[3];
-    let command_response = response_of(n);
+    let command_response = response_of(copy.poll);
     ContentAnswer::Accepted(FrameContent::FrameReject(FrameReject {
         final_bit: (c & 0b0001_0000) != 0,
         rejected_control_field_raw,
@@ -196,8 +197,8 @@ fn parse_short_frmr_frame(bytes: &[u8]) -> ContentAnswer
         y: (flags & 0b0000_0100) != 0,
         x: (flags & 0b0000_0010) != 0,
         w: (flags & 0b0000_0001) != 0,
-        receive_sequence: (n & 0b1110_0000) >> 5,
-        send_sequence: (n & 0b0000_1110) >> 1,
+        receive_sequence: copy.receive,
+        send_sequence: copy.send,
         command_response,
     }))
 }

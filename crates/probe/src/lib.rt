@@ -1,7 +1,7 @@
 // Calls on flat octets, for the program that runs the Rust beside the port and for nothing else. The crate
 // `flat` has the layout of a flat address, content and frame. A call that is lent too little answers 24 and touches nothing; no other
 // refusal touches lent octets. A mode is a number: 0 is the short one, any other the long one.
-use content::Mode;
+use control::Mode;
 use decode::Decoded;
 use frame::Ax25Frame;
 use parse::ContentAnswer;
@@ -18,7 +18,7 @@ ghost use Rattle.old_captures.specs.Old.{decodeOld};
 ghost use Rattle.frame.specs.Write.{written, octetsWritten};
 ghost use Rattle.parse.specs.Content.{contentOf};
 ghost use Rattle.parse.specs.Content.{numberOf as contentNumber};
-ghost use Rattle.content.specs.Mode.{modeOf};
+ghost use Rattle.control.specs.Mode.{modeOf};
 ghost use Rattle.content.specs.Encode.{encodeNumber, encodeOf, encoded};
 ghost use Rattle.hops.specs.Station.{sameStation};
 ghost use Rattle.octets.specs.Splice.{splice};

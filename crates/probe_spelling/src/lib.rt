@@ -1,12 +1,12 @@
 // The canonical check and re-encoding in either mode, for the second model in C and for nothing else: the calls of C have the short mode
 // alone. A mode is a number: 0 is the short one, any other the long one. They stand apart from `probe` so that its archive is compiled as
 // it was: whatever else calls the outline keeps the compiler from making it a part of the decoder there.
-use content::Mode;
+use control::Mode;
 ghost use mathlib.Core.Path.{_≡_};
 ghost use mathlib.Core.Bool.{cond};
 ghost use lib.ListN.{length as listLength};
 ghost use Rattle.octets.specs.Splice.{splice};
-ghost use Rattle.content.specs.Mode.{modeOf};
+ghost use Rattle.control.specs.Mode.{modeOf};
 ghost use Rattle.spelling.specs.Canonical.{canonical};
 ghost use Rattle.respelling.specs.Reencode.{reencode, reencoded, reportOf};
 

@@ -1,7 +1,7 @@
 // Reading a frame whole: from its outline to its content and its addresses.
 use address::group::ParsedAddress;
 use content::FrameContent;
-use content::Mode;
+use control::Mode;
 use decode::DecodeAnswer;
 use decode::Decoded;
 use decode::Outline;

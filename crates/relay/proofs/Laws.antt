@@ -13,7 +13,7 @@ use Rattle.octets.specs.All.{all}
 use Rattle.octets.specs.Octet.{field, flag}
 use Rattle.octets.proofs.Choice.{by}
 use Rattle.octets.proofs.Octet.{octet-same}
-use Rattle.content.specs.declared.Mode.the-variants.{Short}
+use Rattle.control.specs.declared.Mode.the-variants.{Short}
 use Rattle.address.specs.Address.{low, encodable}
 use Rattle.address.proofs.Laws.{encodable-is}
 use Rattle.address.specs.Group.{markSet}

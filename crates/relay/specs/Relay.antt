@@ -5,7 +5,7 @@ use mathlib.Core.List.{List, [], _∷_}
 use lib.Dec.{eqb, ltb}
 use lib.ListN.{length, getD, set}
 use Rattle.octets.specs.Octet.{field, flag}
-use Rattle.content.specs.declared.Mode.the-variants.{Short}
+use Rattle.control.specs.declared.Mode.the-variants.{Short}
 use Rattle.address.specs.Address.{withOnes, encodable}
 use Rattle.address.specs.declared.Address.{Address}
 use Rattle.frame.specs.Spell.{repeaterAt}

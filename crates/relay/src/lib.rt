@@ -2,7 +2,7 @@
 // group of the repeater that is due: the outline tells where the groups stand, and the hop set is read off the octets.
 use address::Address;
 use address::group;
-use content::Mode;
+use control::Mode;
 use decode::DecodeAnswer;
 ghost use mathlib.Core.Path.{_≡_};
 ghost use mathlib.Core.Bool.{true};

@@ -13,7 +13,7 @@ use Rattle.address.specs.Group.{markSet, groupOf}
 use Rattle.placing.specs.Put.{respelled}
 use Rattle.placing.proofs.Laws.{respelled-in}
 use Rattle.content.specs.declared.FrameContent.{FrameContent}
-use Rattle.content.specs.declared.Mode.{Mode}
+use Rattle.control.specs.declared.Mode.{Mode}
 use Rattle.decode.specs.Answer.{isAccepted}
 use Rattle.decode.specs.Read.{routeAt, commandOf, decode, infoIn}
 use Rattle.decode.specs.Outline.{outlineOf}

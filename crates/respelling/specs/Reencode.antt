@@ -4,7 +4,7 @@ use mathlib.Core.Bool.{cond}
 use mathlib.Core.List.{List, []}
 use lib.Dec.{ltb}
 use lib.ListN.{length}
-use Rattle.content.specs.declared.Mode.{Mode}
+use Rattle.control.specs.declared.Mode.{Mode}
 use Rattle.decode.specs.Answer.{Report, number, isAccepted}
 use Rattle.decode.specs.Answer as decoding
 use Rattle.decode.specs.Read.{decode}

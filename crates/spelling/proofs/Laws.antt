@@ -8,7 +8,7 @@ use Rattle.octets.specs.Octet.{Octets}
 use Rattle.octets.proofs.Choice.{both, equal}
 use Rattle.octets.proofs.Same.{same-refl, same-eq}
 use Rattle.content.specs.Spell.{hasInfo}
-use Rattle.content.specs.declared.Mode.{Mode}
+use Rattle.control.specs.declared.Mode.{Mode}
 use Rattle.decode.specs.Answer.{isAccepted}
 use Rattle.decode.specs.Read.{endOf, decode, infoIn}
 use Rattle.frame.specs.Spell.{withMark, spell, Plain}

@@ -3,7 +3,7 @@ use Prim.Native.Nat.{ℕ}
 use mathlib.Core.Bool.{Bool, _&&_}
 use mathlib.Core.List.{List}
 use Rattle.octets.specs.Same.{same}
-use Rattle.content.specs.declared.Mode.{Mode}
+use Rattle.control.specs.declared.Mode.{Mode}
 use Rattle.decode.specs.Answer.{isAccepted}
 use Rattle.decode.specs.Read.{decode, infoIn}
 use Rattle.frame.specs.Spell.{spell}

@@ -1,5 +1,5 @@
 // One spelling: the canonical check.
-use content::Mode;
+use control::Mode;
 use decode::DecodeAnswer;
 ghost use mathlib.Core.Path.{_≡_};
 ghost use Prim.Native.Nat.{_+_, _*_, _≤_, _<_};

@@ -2,8 +2,8 @@
 use Prim.Native.Nat.{ℕ}
 use mathlib.Core.Path.{refl, sym, _∙_}
 use borrow.Author.Tests.{ne-eqb}
-use Rattle.content.specs.Control.{uKind}
-use Rattle.content.proofs.Masks.{u-mask}
+use Rattle.control.specs.Control.{uKind}
+use Rattle.control.proofs.Masks.{u-mask}
 use Rattle.content_as_written.specs.AsWritten.{uAsWritten}
 use borrow.Author.Needs.{needs}
 use Rattle.content_as_written.proofs.is_u_as_written.Statement.{statement}

@@ -1,6 +1,6 @@
 -- The number is the definition's, of which the demand is proved.
 use mathlib.Core.Path.{sym, _∙_}
-use Rattle.content.specs.declared.Mode.the-variants.{Short}
+use Rattle.control.specs.declared.Mode.the-variants.{Short}
 use Rattle.demands.proofs.Numbers.{decoding}
 use Rattle.demands.proofs.Modes.{never-six, short-numbers}
 use borrow.Author.Needs.{needs}

@@ -1,6 +1,6 @@
 -- The call's number and buffer are the definition's, of which the demands are proved.
 use mathlib.Core.Path.{_≡_, refl, ap, _∙_}
-use Rattle.content.specs.declared.Mode.the-variants.{Short}
+use Rattle.control.specs.declared.Mode.the-variants.{Short}
 use Rattle.respelling.specs.Reencode.{reportOf}
 use Rattle.respelling.specs.declared.Reencoded.{Reencoded}
 use Rattle.demands.proofs.Numbers.{decoding}

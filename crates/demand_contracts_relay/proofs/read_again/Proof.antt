@@ -1,6 +1,6 @@
 -- What is decoded is what was relayed.
 use mathlib.Core.Path.{refl, ap}
-use Rattle.content.specs.declared.Mode.the-variants.{Short}
+use Rattle.control.specs.declared.Mode.the-variants.{Short}
 use Rattle.decode.specs.Read.{decode}
 use Rattle.demands.proofs.Relay.{refused-relay, relayed-is}
 use borrow.Author.Needs.{needs}

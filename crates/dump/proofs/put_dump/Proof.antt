@@ -4,7 +4,7 @@ use native.Mathlib.Omega.{arith}
 use mathlib.Core.List.{List}
 use borrow.Author.Tests.{lt-ltb, le-ltb}
 use lib.ListN.{length}
-use Rattle.content.specs.declared.Mode.the-variants.{Short}
+use Rattle.control.specs.declared.Mode.the-variants.{Short}
 use Rattle.decode.specs.Read.{decode}
 use Rattle.grammar.proofs.Plain.{inside}
 use Rattle.spelling.specs.Canonical.{canonical}

@@ -1,9 +1,5 @@
 -- N(S) of the first octet, N(R) and the poll bit of the second and the PID of the third, once there are three.
-use Prim.Native.Nat.{ℕ}
 use borrow.Author.Tests.{lt-ltb, le-ltb}
-use lib.ListN.{getD}
-use Rattle.octets.proofs.Bits.{bit-test}
-use Rattle.content.proofs.Masks.{seven-shift}
 use Rattle.parse.specs.Content.{iOf}
 use borrow.Author.Needs.{needs}
 use Rattle.parse.proofs.parse_long_i_frame.Statement.{statement}
@@ -17,11 +13,14 @@ returns-2 : tie.Need-returns-2
 unfolding iOf
 returns-2 c = simp (le-ltb _ _ (c .before .if1 .left), lt-ltb _ _ (c .if2 .taken))
 
-shared-slice-read-sent : tie.Need-shared-slice-read-sent
-shared-slice-read-sent c = search needs
+shared-slice-read-long-fields : tie.Need-shared-slice-read-long-fields
+shared-slice-read-long-fields c = search needs
 
-shared-slice-read-received : tie.Need-shared-slice-read-received
-shared-slice-read-received c = search needs
+shared-slice-read-long-fields-2 : tie.Need-shared-slice-read-long-fields-2
+shared-slice-read-long-fields-2 c = search needs
+
+long-fields-requires : tie.Need-long-fields-requires
+long-fields-requires c κs = search needs
 
 shared-slice-read-from-byte : tie.Need-shared-slice-read-from-byte
 shared-slice-read-from-byte c = search needs
@@ -33,16 +32,7 @@ returns-3 : tie.Need-returns-3
 unfolding iOf
 returns-3 c =
     let b = c .before .before .before .before .before in
-    let k = b .before .shared-slice-known .given in
-    let s = b .before .before .args .bytes .now in
-    simp (
-      le-ltb _ _ (b .if1 .left),
-      le-ltb _ _ (c .before .before .before .before .if2 .left),
-      c .from-byte .ensures,
-      seven-shift (getD s 0 0) (k 0 .fits),
-      seven-shift (getD s 1 0) (k 1 .fits),
-      bit-test (getD s 1 0) 0,
-    )
+    simp (le-ltb _ _ (b .before .if1 .left), le-ltb _ _ (b .if2 .left), c .from-byte .ensures, c .before .before .long-fields .ensures)
 
 pub parse-long-i-frame-spec : {M : Type 1} → statement M
 parse-long-i-frame-spec =
@@ -50,8 +40,9 @@ parse-long-i-frame-spec =
     (tie.spec
     returns
     returns-2
-    shared-slice-read-sent
-    shared-slice-read-received
+    shared-slice-read-long-fields
+    shared-slice-read-long-fields-2
+    long-fields-requires
     shared-slice-read-from-byte
     from-byte-requires
     returns-3)

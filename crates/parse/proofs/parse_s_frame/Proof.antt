@@ -1,6 +1,5 @@
 -- By the mode; the short control field is the first octet.
 use mathlib.Core.Path.{refl}
-use Rattle.content.proofs.Masks.{receive-mask, poll-mask}
 use Rattle.parse.specs.Content.{sOf}
 use borrow.Author.Needs.{needs}
 use Rattle.parse.proofs.parse_s_frame.Statement.{statement}
@@ -8,6 +7,9 @@ use Rattle.parse.proofs.parse_s_frame.Tie as tie
 
 enum-told : tie.Need-enum-told
 enum-told c = search needs
+
+short-fields-requires : tie.Need-short-fields-requires
+short-fields-requires c κs = search needs
 
 s-kind-of-requires : tie.Need-s-kind-of-requires
 s-kind-of-requires c κs = search needs
@@ -21,8 +23,8 @@ parse-long-s-frame-requires c κs = search needs
 returns : tie.Need-returns
 unfolding sOf
 returns c =
-    let a = c .before .before .before .before in
-    rw (c .s-kind-of .ensures, c .before .enum-told .given .1, receive-mask (a .args .c), poll-mask (a .args .c), a .pre) refl
+    let b = c .before .before in
+    rw (c .s-kind-of .ensures, c .before .short-fields .ensures, b .enum-told .given .1, b .before .before .before .pre) refl
 
 returns-2 : tie.Need-returns-2
 returns-2 c = rw (c .parse-long-s-frame .ensures, c .before .enum-told2 .given .1) refl
@@ -32,6 +34,7 @@ parse-s-frame-spec =
     tie.close
     (tie.spec
     enum-told
+    short-fields-requires
     s-kind-of-requires
     enum-told-2
     parse-long-s-frame-requires

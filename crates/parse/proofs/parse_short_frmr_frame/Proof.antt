@@ -4,8 +4,8 @@ use borrow.Author.Needs.{needs}
 use borrow.Author.Tests.{eq-eqb, ne-eqb}
 use lib.ListN.{getD}
 use Rattle.octets.proofs.Bits.{bit-test}
-use Rattle.parse.specs.Content.{frmrOf}
-use Rattle.content.proofs.Masks.{receive-mask, send-mask, poll-mask}
+use Rattle.parse.specs.Content.{frmrOf, responseOf}
+use Rattle.control.proofs.Masks.{poll-mask}
 use Rattle.parse.proofs.parse_short_frmr_frame.Statement.{statement}
 use Rattle.parse.proofs.parse_short_frmr_frame.Tie as tie
 
@@ -19,8 +19,11 @@ shared-slice-read-c c = search needs
 shared-slice-read-flags : tie.Need-shared-slice-read-flags
 shared-slice-read-flags c = search needs
 
-shared-slice-read-n : tie.Need-shared-slice-read-n
-shared-slice-read-n c = search needs
+shared-slice-read-short-fields : tie.Need-shared-slice-read-short-fields
+shared-slice-read-short-fields c = search needs
+
+short-fields-requires : tie.Need-short-fields-requires
+short-fields-requires c κs = search needs
 
 shared-slice-read-rejected-control-field-raw :
     tie.Need-shared-slice-read-rejected-control-field-raw
@@ -30,18 +33,17 @@ response-of-requires : tie.Need-response-of-requires
 response-of-requires c κs = search needs
 
 returns-2 : tie.Need-returns-2
-unfolding frmrOf
+unfolding frmrOf responseOf
 returns-2 c =
-    let f : ℕ = getD (c .before .before .before .before .before .before .before .args .bytes .now) 1 0 in
+    let f : ℕ = getD (c .before .before .before .before .before .before .before .before .args .bytes .now) 1 0 in
     simp (
-      eq-eqb _ _ (c .before .before .before .before .before .if1 .left),
+      eq-eqb _ _ (c .before .before .before .before .before .before .if1 .left),
       c .response-of .ensures,
+      c .before .before .short-fields .ensures,
       bit-test f 3,
       bit-test f 2,
       bit-test f 1,
       bit-test f 0,
-      receive-mask,
-      send-mask,
       poll-mask,
     )
 
@@ -52,7 +54,8 @@ parse-short-frmr-frame-spec =
     returns
     shared-slice-read-c
     shared-slice-read-flags
-    shared-slice-read-n
+    shared-slice-read-short-fields
+    short-fields-requires
     shared-slice-read-rejected-control-field-raw
     response-of-requires
     returns-2)

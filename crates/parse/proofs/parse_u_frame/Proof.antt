@@ -3,9 +3,9 @@ use Prim.Native.Nat.{ℕ}
 use mathlib.Core.Path.{sym, _∙_}
 use borrow.Author.Needs.{needs}
 use borrow.Author.Tests.{ne-eqb}
-use Rattle.content.specs.Control.{uKind}
+use Rattle.control.specs.Control.{uKind}
 use Rattle.parse.specs.Content.{uOf}
-use Rattle.content.proofs.Masks.{poll-mask, u-mask}
+use Rattle.control.proofs.Masks.{poll-mask, u-mask}
 use Rattle.parse.proofs.parse_u_frame.Statement.{statement}
 use Rattle.parse.proofs.parse_u_frame.Tie as tie
 

@@ -2,7 +2,7 @@
 use borrow.Author.Needs.{needs}
 use borrow.Author.Tests.{lt-ltb, le-ltb}
 use Rattle.parse.specs.Content.{uiOf}
-use Rattle.content.proofs.Masks.{poll-mask}
+use Rattle.control.proofs.Masks.{poll-mask}
 use Rattle.parse.proofs.parse_ui_frame.Statement.{statement}
 use Rattle.parse.proofs.parse_ui_frame.Tie as tie
 

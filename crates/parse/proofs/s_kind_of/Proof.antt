@@ -2,8 +2,8 @@
 use Prim.Native.Nat.{ℕ}
 use mathlib.Core.Path.{sym, _∙_}
 use borrow.Author.Tests.{ne-eqb}
-use Rattle.content.specs.Control.{sKind}
-use Rattle.content.proofs.Masks.{s-mask}
+use Rattle.control.specs.Control.{sKind}
+use Rattle.control.proofs.Masks.{s-mask}
 use Rattle.parse.specs.Content.{sKindOf}
 use Rattle.parse.proofs.s_kind_of.Statement.{statement}
 use Rattle.parse.proofs.s_kind_of.Tie as tie

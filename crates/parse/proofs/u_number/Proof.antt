@@ -2,8 +2,8 @@
 use Prim.Native.Nat.{ℕ}
 use mathlib.Core.Path.{sym, _∙_}
 use borrow.Author.Tests.{ne-eqb}
-use Rattle.content.specs.Control.{uKind}
-use Rattle.content.proofs.Masks.{u-mask}
+use Rattle.control.specs.Control.{uKind}
+use Rattle.control.proofs.Masks.{u-mask}
 use Rattle.parse.specs.Content.{uOf}
 use Rattle.parse.proofs.Numbers.{pid-ui}
 use borrow.Author.Needs.{needs}

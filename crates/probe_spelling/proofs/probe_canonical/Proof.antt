@@ -1,6 +1,6 @@
 -- By the check.
 use mathlib.Core.Path.{_≡_, refl, sym}
-use Rattle.content.specs.Mode.{modeOf}
+use Rattle.control.specs.Mode.{modeOf}
 use Rattle.spelling.specs.Canonical.{canonical}
 use borrow.Author.Needs.{needs}
 use Rattle.probe_spelling.proofs.probe_canonical.Statement.{statement}

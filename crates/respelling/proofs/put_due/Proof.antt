@@ -7,7 +7,7 @@ use lib.ListN.{length}
 use Rattle.octets.specs.Octet.{Octets}
 use Rattle.octets.proofs.Splice.{splice-length}
 use Rattle.content.specs.Spell.{front}
-use Rattle.content.specs.declared.Mode.{Mode}
+use Rattle.control.specs.declared.Mode.{Mode}
 use Rattle.content.specs.declared.FrameContent.{FrameContent}
 use Rattle.frame.specs.Write.{Taken}
 use Rattle.frame.proofs.Write.{field-room, content-put}

@@ -1,18 +1,10 @@
 -- I and S frames by the mode; each other kind by its own number.
-use Prim.Native.Nat.{_≤_}
 use mathlib.Core.Path.{sym}
 use native.Mathlib.Omega.{arith}
-use Rattle.content.specs.Mode.{controls}
-use Rattle.content.specs.declared.Mode.{Mode}
-use Rattle.content.specs.declared.Mode.the-variants.{Short, Long}
-use Rattle.content.proofs.Encode.{sequenced-length, before-info}
+use Rattle.control.proofs.Laws.{few-controls, sequenced-length, before-info}
 use borrow.Author.Needs.{needs}
 use Rattle.content.proofs.FrameContent.front_len.Statement.{statement}
 use Rattle.content.proofs.FrameContent.front_len.Tie as tie
-
-few : (m : Mode) → controls m ≤ 2
-few Short = omega arith
-few Long = omega arith
 
 enum-told : tie.Need-enum-told
 enum-told c = search needs
@@ -21,7 +13,7 @@ controls-requires : tie.Need-controls-requires
 controls-requires c κs = search needs
 
 add-result : tie.Need-add-result
-add-result c = omega (arith, c .controls .ensures, few (c .before .before .before .args .mode))
+add-result c = omega (arith, c .controls .ensures, few-controls (c .before .before .before .args .mode))
 
 enum-told-2 : tie.Need-enum-told-2
 enum-told-2 c = search needs

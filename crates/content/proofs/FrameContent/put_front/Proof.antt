@@ -5,8 +5,8 @@ use mathlib.Core.List.{List}
 use lib.ListN.{length, take}
 use Rattle.octets.specs.Splice.{splice}
 use Rattle.content.specs.Spell.{front}
-use Rattle.content.specs.Encode.{four}
-use Rattle.content.specs.declared.Mode.{Mode}
+use Rattle.control.specs.Spell.{four}
+use Rattle.control.specs.declared.Mode.{Mode}
 use Rattle.content.specs.declared.FrameContent.{FrameContent}
 use Rattle.content.proofs.Encode.{front-short, four-take}
 use borrow.Author.Needs.{needs}
