@@ -320,7 +320,7 @@ def rules_ordered():
 
 def octet_values():
     """The octets that docs/RULES.md has of kinds and of PIDs are those of the definitions."""
-    control, pid = read('crates/content/specs/Control.antt'), read('crates/protocol/specs/Pid.antt')
+    control, pid = read('crates/control/specs/Control.antt'), read('crates/protocol/specs/Pid.antt')
     shown = {table[0][0]: table[1:] for table in tables(sections(RULES)['Reading'])}
     kinds = {'i': '00', **dict(re.findall(r'^(\w+) = 0x(\w\w)$', control, re.M))}
     said = {row[0].lower(): row[2] for row in shown['kind']}
