@@ -130,8 +130,8 @@ enum ax25_number {
     AX25_KISS_PORT_TOO_HIGH = 56       /* a port over 11 */
 };
 
-/* Whether the input can be read as a frame, of the short mode: AX25_ACCEPTED, or the first of 1, 10, 2, 3, 4, 9, 5, 7, 8 that holds. A
-   frame of the long mode is mostly accepted too, and read as another one: nothing in a frame tells its mode. */
+/* Whether the input can be read as a frame, of the short mode: AX25_ACCEPTED, or the first of 1, 10, 2, 3, 4, 9, 5, 7, 8 that holds.
+   What is a frame in the long mode is accepted too, but I and S frames are taken for other ones: nothing in a frame tells its mode. */
 uint32_t ax25_decode(const uint8_t *in, size_t in_len);
 
 /* The same of a frame from an old capture, one that was taken while the box skipped null octets before a frame: they are skipped here,
