@@ -1,2 +1,2 @@
 pub mod Spell
-pub mod Encode
+pub mod Refused

@@ -1,7 +1,5 @@
 // The content of a frame, which is everything after the address field: its kinds, and writing them. The crate `parse` reads them.
 use protocol::ProtocolIdentifier;
-ghost use mathlib.Core.Path.{_≡_};
-ghost use Rattle.content.specs.Encode.{encodeNumber};
 
 mod writing; // writing.rt: from a kind and its info to octets
 
@@ -120,32 +118,4 @@ pub enum FrameContent {
     Test(Test),
     // Content that is written as the lent octets alone. Reading never gives it.
     UnknownContent,
-}
-
-// What writing content gives.
-pub enum EncodeAnswer {
-    Written,
-    FrameRejectInLongMode,
-    InfoNotAllowed,
-    PidOutsideClass,
-    NoRoom,
-}
-
-pub struct ContentWritten {
-    pub answer: EncodeAnswer,
-    pub length: usize,
-}
-
-impl EncodeAnswer {
-    pub fn number(self) -> u32
-        ensures { λ r. ⌜ r ≡ encodeNumber self ⌝ }
-    {
-        match self {
-            EncodeAnswer::Written => 0,
-            EncodeAnswer::FrameRejectInLongMode => 11,
-            EncodeAnswer::InfoNotAllowed => 23,
-            EncodeAnswer::PidOutsideClass => 25,
-            EncodeAnswer::NoRoom => 24,
-        }
-    }
 }

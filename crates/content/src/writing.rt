@@ -1,16 +1,13 @@
-// Writing content: the octets of each kind, then the info.
+// What each kind is written as, and what of it is not written at all. The crate `encoding` writes.
 use super::CommandResponse;
-use super::ContentWritten;
-use super::EncodeAnswer;
 use super::FrameContent;
 use super::FrameReject;
 use control::Mode;
 ghost use mathlib.Core.Path.{_≡_};
 ghost use lib.ListN.{length};
-ghost use Rattle.octets.specs.Splice.{splice};
 ghost use Rattle.control.specs.Spell.{four};
 ghost use Rattle.content.specs.Spell.{hasInfo, isResponse, front};
-ghost use Rattle.content.specs.Encode.{isFrameReject, longFrmr, strayInfo, strayPid, lacksRoom, encodeOf, encoded};
+ghost use Rattle.content.specs.Refused.{isFrameReject, longFrmr, strayInfo, strayPid};
 
 fn is_response(c: CommandResponse) -> bool
     ensures { λ r. ⌜ r ≡ isResponse c ⌝ }
@@ -192,72 +189,6 @@ impl FrameContent {
                 pid.outside_class()
             }
             _ => false,
-        }
-    }
-
-    // Too little room for the content with info of this length. The sum of the lengths might not fit a usize, so none is made.
-    fn lacks_room(self, mode: Mode, carried: usize, room: usize) -> bool
-        ensures { λ r. ⌜ r ≡ lacksRoom mode self carried room ⌝ }
-    {
-        let n = self.front_len(mode);
-        if room < n {
-            return true;
-        }
-        room - n < carried
-    }
-
-    // The octets before the info, from the start of `out` on.
-    fn put_front(self, mode: Mode, out: &mut [u8]) -> usize
-        ensures { λ r. ⌜ r ≡ length (front mode self) ⌝ }
-        ensures { λ r. ⌜ now (out .exit) ≡ splice (now (out .entry)) 0 (front mode self) ⌝ }
-    {
-        let n = self.front_len(mode);
-        let octets = self.front(mode);
-        // The usual lengths by their own stores: quicker than a copy whose length is not known.
-        if n == 2 {
-            lent_buffer::put(out, 0, &octets[..2]);
-        } else if n == 1 {
-            lent_buffer::put(out, 0, &octets[..1]);
-        } else {
-            lent_buffer::put(out, 0, &octets[..n]);
-        }
-        n
-    }
-
-    // The content's octets, then the lent info, from the start of `out` on. A refusal writes nothing.
-    pub fn encode(self, mode: Mode, info: &[u8], out: &mut [u8]) -> ContentWritten
-        ensures { λ r. ⌜ r ≡ encodeOf mode self (length (now (info .entry))) (length (now (out .entry))) ⌝ }
-        ensures { λ r. ⌜ now (out .exit) ≡ splice (now (out .entry)) 0 (encoded mode self (now (info .entry)) (length (now (out .entry)))) ⌝ }
-    {
-        if self.long_frmr(mode) {
-            return ContentWritten {
-                answer: EncodeAnswer::FrameRejectInLongMode,
-                length: 0,
-            };
-        }
-        if self.stray_info(info.len()) {
-            return ContentWritten {
-                answer: EncodeAnswer::InfoNotAllowed,
-                length: 0,
-            };
-        }
-        if self.stray_pid() {
-            return ContentWritten {
-                answer: EncodeAnswer::PidOutsideClass,
-                length: 0,
-            };
-        }
-        if self.lacks_room(mode, info.len(), out.len()) {
-            return ContentWritten {
-                answer: EncodeAnswer::NoRoom,
-                length: 0,
-            };
-        }
-        let n = self.put_front(mode, out);
-        lent_buffer::put(out, n, info);
-        ContentWritten {
-            answer: EncodeAnswer::Written,
-            length: n + info.len(),
         }
     }
 }

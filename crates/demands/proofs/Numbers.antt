@@ -13,8 +13,8 @@ use Rattle.printing.specs.Print.{printNumberOf, printed}
 use Rattle.address.specs.declared.Address.{Address}
 use Rattle.text.proofs.Laws.{text-numbers, parts-numbers}
 use Rattle.printing.proofs.Laws.{print-numbers}
-use Rattle.content.specs.Encode.{strayInfo, strayPid}
-use Rattle.content.proofs.Encode.{stray-one}
+use Rattle.content.specs.Refused.{strayInfo, strayPid}
+use Rattle.content.proofs.Laws.{stray-one}
 use Rattle.control.specs.declared.Mode.{Mode}
 use Rattle.decode.specs.Answer.{numberOf}
 use Rattle.frame.specs.Frame.{writeNumber}

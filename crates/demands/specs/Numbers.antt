@@ -9,7 +9,7 @@ use Rattle.address.specs.Address.{encodable}
 use Rattle.text.specs.Text.{high, manyHyphens, badSsid, empty, long, strange, wide, callsignText, ssidValue}
 use Rattle.printing.specs.Print.{short}
 use Rattle.address.specs.declared.Address.{Address}
-use Rattle.content.specs.Encode.{longFrmr, strayInfo, strayPid}
+use Rattle.content.specs.Refused.{longFrmr, strayInfo, strayPid}
 use Rattle.control.specs.declared.Mode.{Mode}
 use Rattle.parse.specs.Numbers.{lacksControl, lacksPid, strangeU, frmrInLong, wrongFrmr}
 use Rattle.decode.specs.Read.{endOf}

@@ -19,10 +19,11 @@ use Rattle.address.specs.Address.{encodable}
 use Rattle.address.specs.Group.{groupOf}
 use Rattle.address.proofs.Laws.{group-length}
 use Rattle.content.specs.Spell.{front}
-use Rattle.content.specs.Encode.{longFrmr, strayInfo, strayPid, answerOf, encodeOf, encoded}
+use Rattle.content.specs.Refused.{longFrmr, strayInfo, strayPid}
+use Rattle.encoding.specs.Encode.{answerOf, encodeOf, encoded}
 use Rattle.control.specs.declared.Mode.{Mode}
-use Rattle.content.specs.declared.EncodeAnswer.the-variants.{Written}
-use Rattle.content.proofs.Encode.{answer-written}
+use Rattle.encoding.specs.declared.EncodeAnswer.the-variants.{Written}
+use Rattle.encoding.proofs.Laws.{answer-written}
 use Rattle.frame.specs.Spell.{repeaterAt, groupsOf, destinationMark, sourceMark, addressField, spell}
 use Rattle.frame.specs.Write.{routeEncodable, frameEncodable, writeAnswer, Taken, octetsBy}
 use Rattle.frame.specs.declared.WriteAnswer.{WriteAnswer}

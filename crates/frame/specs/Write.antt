@@ -7,7 +7,7 @@ use mathlib.Core.List.{List, []}
 use lib.Dec.{ltb}
 use lib.ListN.{length}
 use Rattle.address.specs.Address.{encodable}
-use Rattle.content.specs.Encode.{longFrmr, strayInfo, strayPid}
+use Rattle.content.specs.Refused.{longFrmr, strayInfo, strayPid}
 use Rattle.control.specs.declared.Mode.{Mode}
 use Rattle.frame.specs.Spell.{repeaterAt, spell}
 use Rattle.frame.specs.declared.RouteEntry.{RouteEntry}

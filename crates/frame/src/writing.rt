@@ -131,7 +131,7 @@ fn put_frame(mode: Mode, out: &mut [u8], frame: Ax25Frame, info: &[u8]) -> usize
     put_addresses(out, frame);
     let at = 14 + 7 * frame.route_count;
     let content = frame.content;
-    let after = content.encode(mode, info, &mut out[at..]);
+    let after = encoding::encode(mode, content, info, &mut out[at..]);
     at + after.length
 }
 

@@ -12,7 +12,7 @@ use Rattle.octets.specs.Octet.{bit}
 use Rattle.octets.proofs.Choice.{by, either}
 use Rattle.octets.proofs.First.{first-all, first-le}
 use Rattle.parse.specs.Content as content
-use Rattle.content.specs.Encode.{longFrmr, strayInfo, strayPid}
+use Rattle.content.specs.Refused.{longFrmr, strayInfo, strayPid}
 use Rattle.control.specs.declared.Mode.{Mode}
 use Rattle.parse.specs.Numbers.{lacksControl, lacksPid, strangeU, frmrInLong, wrongFrmr}
 use Rattle.parse.proofs.Numbers.{numbers, rows-some}

@@ -11,8 +11,8 @@ use Rattle.octets.specs.Octet.{Octets}
 use Rattle.octets.proofs.Choice.{by}
 use Rattle.address.specs.Address.{PlainAddress}
 use Rattle.content.specs.Spell.{hasInfo}
-use Rattle.content.specs.Encode.{strayInfo}
-use Rattle.content.proofs.Encode.{plain-pid, plain-frmr}
+use Rattle.content.specs.Refused.{strayInfo}
+use Rattle.content.proofs.Laws.{plain-pid, plain-frmr}
 use Rattle.control.specs.declared.Mode.{Mode}
 use Rattle.decode.specs.Answer.{isAccepted}
 use Rattle.decode.specs.Read.{endOf, acceptedWith, decode, infoIn}

@@ -19,7 +19,7 @@ ghost use Rattle.frame.specs.Write.{written, octetsWritten};
 ghost use Rattle.parse.specs.Content.{contentOf};
 ghost use Rattle.parse.specs.Content.{numberOf as contentNumber};
 ghost use Rattle.control.specs.Mode.{modeOf};
-ghost use Rattle.content.specs.Encode.{encodeNumber, encodeOf, encoded};
+ghost use Rattle.encoding.specs.Encode.{encodeNumber, encodeOf, encoded};
 ghost use Rattle.hops.specs.Station.{sameStation};
 ghost use Rattle.octets.specs.Splice.{splice};
 ghost use Rattle.flat.specs.Laid.{addressFlat, flatOf};
@@ -275,7 +275,7 @@ pub extern "C" fn probe_content_encode(
         return NO_ROOM;
     }
     let given = flat::given::content_from(content);
-    let written = given.encode(Mode::of_number(mode), info, out);
+    let written = encoding::encode(Mode::of_number(mode), given, info, out);
     let answer = written.answer;
     len[0] = written.length;
     answer.number()

@@ -5,7 +5,7 @@ use native.Mathlib.Omega.{arith}
 use lib.ListN.{length}
 use Rattle.octets.proofs.Splice.{splice-length}
 use Rattle.content.specs.Spell.{front}
-use Rattle.content.specs.declared.ContentWritten.{ContentWritten}
+use Rattle.encoding.specs.declared.ContentWritten.{ContentWritten}
 use Rattle.frame.proofs.Write.{spell-length, field-room, content-length, content-put}
 use borrow.Author.Needs.{needs}
 use Rattle.frame.proofs.writing.put_frame.Statement.{statement}

@@ -5,8 +5,8 @@ use native.Mathlib.Omega.{arith}
 use borrow.Author.Tests.{lt-ltb, le-ltb, not-true, not-false}
 use lib.Dec.{ltb}
 use lib.ListN.{length}
-use Rattle.content.proofs.Encode.{front-short}
-use Rattle.content.specs.Encode.{strayInfo, strayPid}
+use Rattle.content.proofs.Laws.{front-short}
+use Rattle.content.specs.Refused.{strayInfo, strayPid}
 use Rattle.frame.specs.Spell.{spell}
 use Rattle.frame.specs.Write.{writeAnswer}
 use Rattle.frame.specs.declared.WriteAnswer.the-variants.{Accepted, InfoNotAllowed, PidOutsideClass, NoRoom}

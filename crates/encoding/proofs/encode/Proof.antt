@@ -6,25 +6,26 @@ use borrow.Author.Needs.{needs}
 use borrow.Author.Tests.{ltb-false}
 use lib.ListN.{length}
 use Rattle.octets.proofs.Splice.{splice-none}
 use Rattle.content.specs.Spell.{front}
-use Rattle.content.specs.Encode.{longFrmr, strayInfo, strayPid, lacksRoom}
-use Rattle.content.proofs.Encode.{answer-long, answer-stray, answer-outside, answer-short, answer-written, info-after}
-use Rattle.content.proofs.FrameContent.encode.Statement.{statement}
-use Rattle.content.proofs.FrameContent.encode.Tie as tie
+use Rattle.content.specs.Refused.{longFrmr, strayInfo, strayPid}
+use Rattle.encoding.specs.Encode.{lacksRoom}
+use Rattle.encoding.proofs.Laws.{answer-long, answer-stray, answer-outside, answer-short, answer-written, info-after}
+use Rattle.encoding.proofs.encode.Statement.{statement}
+use Rattle.encoding.proofs.encode.Tie as tie
 
 -- what each test that is passed says
-no-frmr : (c : tie.Else1) → let a = c .before .before .before .before .args in longFrmr (a .mode) (a .self) ≡ false
+no-frmr : (c : tie.Else1) → let a = c .before .before .before .before .args in longFrmr (a .mode) (a .content) ≡ false
 no-frmr c = sym (c .before .long-frmr .ensures) ∙ c .if1 .left
 
-info-fits : (c : tie.Else2) → let a = c .before .before .before .before .before .before .args in strayInfo (a .self) (length (a .info .now)) ≡ false
+info-fits : (c : tie.Else2) → let a = c .before .before .before .before .before .before .args in strayInfo (a .content) (length (a .info .now)) ≡ false
 info-fits c = sym (c .before .stray-info .ensures) ∙ c .if2 .left
 
-pid-inside : (c : tie.Else3) → strayPid (c .before .before .before .before .before .before .before .before .args .self) ≡ false
+pid-inside : (c : tie.Else3) → strayPid (c .before .before .before .before .before .before .before .before .args .content) ≡ false
 pid-inside c = sym (c .before .stray-pid .ensures) ∙ c .if3 .left
 
 roomy : (c : tie.Else4)
     → let a = c .before .before .before .before .before .before .before .before .before .before .args in
-    lacksRoom (a .mode) (a .self) (length (a .info .now)) (length (a .out .now)) ≡ false
+    lacksRoom (a .mode) (a .content) (length (a .info .now)) (length (a .out .now)) ≡ false
 roomy c = sym (c .before .lacks-room .ensures) ∙ c .if4 .left
 
 long-frmr-requires : tie.Need-long-frmr-requires
@@ -33,7 +34,7 @@ long-frmr-requires c κs = search needs
 returns : tie.Need-returns
 returns c =
     let a = c .before .before .before .before .args in
-    rw (answer-long (a .mode) (a .self) (length (a .info .now)) (length (a .out .now)) (sym (c .before .long-frmr .ensures) ∙ c .if1 .taken))
+    rw (answer-long (a .mode) (a .content) (length (a .info .now)) (length (a .out .now)) (sym (c .before .long-frmr .ensures) ∙ c .if1 .taken))
     (refl, sym (splice-none (a .out .now) 0))
 
 stray-info-requires : tie.Need-stray-info-requires
@@ -44,7 +45,7 @@ returns-2 c =
     let f = c .before .before in
     let a = f .before .before .before .before .args in
     let stray = sym (c .before .stray-info .ensures) ∙ c .if2 .taken in
-    rw (answer-stray (a .mode) (a .self) (length (a .info .now)) (length (a .out .now)) (no-frmr f) stray)
+    rw (answer-stray (a .mode) (a .content) (length (a .info .now)) (length (a .out .now)) (no-frmr f) stray)
     (refl, sym (splice-none (a .out .now) 0))
 
 stray-pid-requires : tie.Need-stray-pid-requires
@@ -56,7 +57,7 @@ returns-3 c =
     let f = e .before .before in
     let a = f .before .before .before .before .args in
     let outside = sym (c .before .stray-pid .ensures) ∙ c .if3 .taken in
-    rw (answer-outside (a .mode) (a .self) (length (a .info .now)) (length (a .out .now)) (no-frmr f) (info-fits e) outside)
+    rw (answer-outside (a .mode) (a .content) (length (a .info .now)) (length (a .out .now)) (no-frmr f) (info-fits e) outside)
     (refl, sym (splice-none (a .out .now) 0))
 
 lacks-room-requires : tie.Need-lacks-room-requires
@@ -69,7 +70,7 @@ returns-4 c =
     let f = e .before .before in
     let a = f .before .before .before .before .args in
     let short = sym (c .before .lacks-room .ensures) ∙ c .if4 .taken in
-    rw (answer-short (a .mode) (a .self) (length (a .info .now)) (length (a .out .now)) (no-frmr f) (info-fits e) (pid-inside p) short)
+    rw (answer-short (a .mode) (a .content) (length (a .info .now)) (length (a .out .now)) (no-frmr f) (info-fits e) (pid-inside p) short)
     (refl, sym (splice-none (a .out .now) 0))
 
 put-front-requires : tie.Need-put-front-requires
@@ -83,8 +84,8 @@ add-t14 c =
     let l = c .before .before .before .before .before .before .before .before in
     let a = l .before .before .before .before .before .before .before .before .before .before .args in
     let n = c .before .before .before .before .before .before .put-front .ensures .0 in
-    let h : length (front (a .mode) (a .self)) + length (a .info .now) ≤ length (a .out .now) =
-    ltb-false (length (a .out .now)) (length (front (a .mode) (a .self)) + length (a .info .now)) (roomy l) in
+    let h : length (front (a .mode) (a .content)) + length (a .info .now) ≤ length (a .out .now) =
+    ltb-false (length (a .out .now)) (length (front (a .mode) (a .content)) + length (a .info .now)) (roomy l) in
     search needs
 
 same-length : tie.Need-same-length
@@ -98,8 +99,8 @@ returns-5 c =
     let e = p .before .before in
     let f = e .before .before in
     let a = f .before .before .before .before .args in
-    rw (answer-written (a .mode) (a .self) (length (a .info .now)) (length (a .out .now)) (no-frmr f) (info-fits e) (pid-inside p) (roomy l))
-    (rw (first .0) refl, c .before .before .put .ensures ∙ rw (first .1, first .0) (info-after (a .out .now) (a .mode) (a .self) (a .info .now) (roomy l)))
+    rw (answer-written (a .mode) (a .content) (length (a .info .now)) (length (a .out .now)) (no-frmr f) (info-fits e) (pid-inside p) (roomy l))
+    (rw (first .0) refl, c .before .before .put .ensures ∙ rw (first .1, first .0) (info-after (a .out .now) (a .mode) (a .content) (a .info .now) (roomy l)))
 
 pub encode-spec : {M : Type 1} → statement M
 encode-spec =

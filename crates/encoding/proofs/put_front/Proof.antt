@@ -4,14 +4,15 @@ use mathlib.Core.Path.{_≡_, refl, ap, sym, _∙_}
 use mathlib.Core.List.{List}
 use lib.ListN.{length, take}
 use Rattle.octets.specs.Splice.{splice}
 use Rattle.content.specs.Spell.{front}
 use Rattle.control.specs.Spell.{four}
 use Rattle.control.specs.declared.Mode.{Mode}
 use Rattle.content.specs.declared.FrameContent.{FrameContent}
-use Rattle.content.proofs.Encode.{front-short, four-take}
+use Rattle.content.proofs.Laws.{front-short}
+use Rattle.encoding.proofs.Laws.{four-take}
 use borrow.Author.Needs.{needs}
-use Rattle.content.proofs.FrameContent.put_front.Statement.{statement}
-use Rattle.content.proofs.FrameContent.put_front.Tie as tie
+use Rattle.encoding.proofs.put_front.Statement.{statement}
+use Rattle.encoding.proofs.put_front.Tie as tie
 
 put-is : (m : Mode) (k : FrameContent) (n : ℕ) (octets l : List ℕ) → n ≡ length (front m k) → octets ≡ four (front m k)
     → splice l 0 (take n octets) ≡ splice l 0 (front m k)
@@ -42,10 +43,10 @@ put-requires-2 : tie.Need-put-requires-2
 put-requires-2 c κs = search needs
 
 array-share-prefix-octets-3 : tie.Need-array-share-prefix-octets-3
-array-share-prefix-octets-3 c = rw (c .before .before .before .before .front-len .ensures, c .before .before .before .front .ensures) (front-short (c .before .before .before .before .before .before .args .mode) (c .before .before .before .before .before .before .args .self))
+array-share-prefix-octets-3 c = rw (c .before .before .before .before .front-len .ensures, c .before .before .before .front .ensures) (front-short (c .before .before .before .before .before .before .args .mode) (c .before .before .before .before .before .before .args .content))
 
 slice-aggregate-put-3 : tie.Need-slice-aggregate-put-3
-slice-aggregate-put-3 c = rw (c .before .before .before .before .before .front-len .ensures, c .before .before .before .before .front .ensures) (sym (ap length (four-take (front (c .before .before .before .before .before .before .before .args .mode) (c .before .before .before .before .before .before .before .args .self)) (front-short (c .before .before .before .before .before .before .before .args .mode) (c .before .before .before .before .before .before .before .args .self)))))
+slice-aggregate-put-3 c = rw (c .before .before .before .before .before .front-len .ensures, c .before .before .before .before .front .ensures) (sym (ap length (four-take (front (c .before .before .before .before .before .before .before .args .mode) (c .before .before .before .before .before .before .before .args .content)) (front-short (c .before .before .before .before .before .before .before .args .mode) (c .before .before .before .before .before .before .before .args .content)))))
 
 put-requires-3 : tie.Need-put-requires-3
 put-requires-3 c κs = search needs
@@ -56,7 +57,7 @@ same-length c = search needs
 returns : tie.Need-returns
 returns c =
     let n = c .before .before .before .before .before .before .before .front-len .ensures in
-    (n, c .before .before .put .ensures ∙ put-is (c .before .before .before .before .before .before .before .before .before .args .mode) (c .before .before .before .before .before .before .before .before .before .args .self) _ _ _ (sym (c .before .before .before .before .before .if1 .taken) ∙ n) (c .before .before .before .before .before .before .front .ensures))
+    (n, c .before .before .put .ensures ∙ put-is (c .before .before .before .before .before .before .before .before .before .args .mode) (c .before .before .before .before .before .before .before .before .before .args .content) _ _ _ (sym (c .before .before .before .before .before .if1 .taken) ∙ n) (c .before .before .before .before .before .before .front .ensures))
 
 same-length-2 : tie.Need-same-length-2
 same-length-2 c = search needs
@@ -64,7 +65,7 @@ same-length-2 c = search needs
 returns-2 : tie.Need-returns-2
 returns-2 c =
     let n = c .before .before .before .before .before .before .before .before .front-len .ensures in
-    (n, c .before .before .put2 .ensures ∙ put-is (c .before .before .before .before .before .before .before .before .before .before .args .mode) (c .before .before .before .before .before .before .before .before .before .before .args .self) _ _ _ (sym (c .before .before .before .before .before .if2 .taken) ∙ n) (c .before .before .before .before .before .before .before .front .ensures))
+    (n, c .before .before .put2 .ensures ∙ put-is (c .before .before .before .before .before .before .before .before .before .before .args .mode) (c .before .before .before .before .before .before .before .before .before .before .args .content) _ _ _ (sym (c .before .before .before .before .before .if2 .taken) ∙ n) (c .before .before .before .before .before .before .before .front .ensures))
 
 same-length-3 : tie.Need-same-length-3
 same-length-3 c = search needs
@@ -72,7 +73,7 @@ same-length-3 c = search needs
 returns-3 : tie.Need-returns-3
 returns-3 c =
     let n = c .before .before .before .before .before .before .before .before .front-len .ensures in
-    (n, c .before .before .put3 .ensures ∙ put-is (c .before .before .before .before .before .before .before .before .before .before .args .mode) (c .before .before .before .before .before .before .before .before .before .before .args .self) _ _ _ n (c .before .before .before .before .before .before .before .front .ensures))
+    (n, c .before .before .put3 .ensures ∙ put-is (c .before .before .before .before .before .before .before .before .before .before .args .mode) (c .before .before .before .before .before .before .before .before .before .before .args .content) _ _ _ n (c .before .before .before .before .before .before .before .front .ensures))
 
 pub put-front-spec : {M : Type 1} → statement M
 put-front-spec =
