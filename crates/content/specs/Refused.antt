@@ -9,6 +9,7 @@ use Rattle.content.specs.Spell.{hasInfo}
 use Rattle.content.specs.declared.FrameContent.{FrameContent}
 use Rattle.content.specs.declared.FrameContent.the-variants as kind
 
+-- FRMR, whatever its fields
 abbrev pub isFrameReject : FrameContent → Bool
 isFrameReject (kind.Information k) = false
 isFrameReject (kind.ReceiveReady k) = false

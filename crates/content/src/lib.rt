@@ -1,7 +1,8 @@
-// The content of a frame, which is everything after the address field: its kinds, and writing them. The crate `parse` reads them.
+// The content of a frame, which is everything after the address field: its kinds, and what each is written as. The crate `encoding` writes
+// them, and `parse` reads them.
 use protocol::ProtocolIdentifier;
 
-mod writing; // writing.rt: from a kind and its info to octets
+mod writing; // writing.rt: the octets of a kind before its info, and what is not written
 
 // Indicates whether a given frame is a Command or a Response.
 pub enum CommandResponse {

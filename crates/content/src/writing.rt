@@ -1,4 +1,4 @@
-// What each kind is written as, and what of it is not written at all. The crate `encoding` writes.
+// What each kind is written as: the octets before its info. And what is not written at all, whatever the room.
 use super::CommandResponse;
 use super::FrameContent;
 use super::FrameReject;

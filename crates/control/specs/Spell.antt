@@ -1,4 +1,4 @@
--- Writing control fields, and FRMR's two octets of named bits (document 01, Writing; document 02, M-109).
+-- Writing control fields, and FRMR's flags (document 01, Writing; document 02, M-109).
 use Prim.Native.Nat.{ℕ, _+_, _*_, _%_}
 use mathlib.Core.Bool.{Bool}
 use mathlib.Core.List.{List, [], _∷_}

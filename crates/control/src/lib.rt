@@ -1,5 +1,5 @@
-// The control field: how its numbers are counted, and its octets, put together and taken apart by masks and shifts. FRMR's octets are
-// put together here too, since they hold copies of control fields.
+// The control field: how its numbers are counted, and its octets, put together and taken apart by masks and shifts. So are FRMR's flags and
+// its copy of a control field's numbers.
 ghost use mathlib.Core.Path.{_≡_};
 ghost use mathlib.Core.Bool.{cond};
 ghost use mathlib.Core.List.{[], _∷_, _++_};
