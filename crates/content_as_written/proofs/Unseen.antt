@@ -1,7 +1,7 @@
 -- Of the octets before info, writing gives back every bit that is not unseen, and reading looks at no bit that is.
 use Prim.Native.Nat.{ℕ, zero, suc, _+_, _*_, _/_, _≤_, _<_}
 use mathlib.Core.Path.{_≡_, refl, ap, sym, _∙_}
-use mathlib.Core.Bool.{Bool, true, false, false≢true, true≢false}
+use mathlib.Core.Bool.{true, false, false≢true, true≢false}
 use mathlib.Core.List.{List, [], _∷_, _++_, append-nil}
 use native.Mathlib.Omega.{arith}
 use borrow.Author.Tests.{eq-eqb, ne-eqb, le-ltb, lt-leb, leb-false, ltb-true, ltb-false, eqb-false}

@@ -7,7 +7,6 @@ use native.Mathlib.Omega.{arith}
 use lib.ListN.{length, length-drop, getD, take, drop}
 use Rattle.octets.specs.Octet.{Octets}
 use Rattle.octets.proofs.Choice.{by}
-use Rattle.octets.proofs.Octet.{octets-drop}
 use Rattle.address.specs.Group.{addressOf, markSet}
 use Rattle.content.specs.Spell.{hasInfo, front}
 use Rattle.content.specs.declared.FrameContent.{FrameContent}
