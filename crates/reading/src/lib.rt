@@ -1,13 +1,10 @@
 // Reading a frame whole: from its outline to its content and its addresses.
-use address::group::ParsedAddress;
 use content::FrameContent;
 use control::Mode;
 use decode::DecodeAnswer;
 use decode::Decoded;
 use decode::Outline;
 use frame::Ax25Frame;
-use frame::Mark;
-use frame::RouteEntry;
 use parse::ContentAnswer;
 ghost use mathlib.Core.Path.{_≡_};
 ghost use mathlib.Core.Bool.{true};
@@ -16,54 +13,7 @@ ghost use lib.ListN.{length, drop};
 ghost use Rattle.parse.specs.Content.{contentOf};
 ghost use Rattle.content.specs.Spell.{hasInfo, front};
 ghost use Rattle.decode.specs.Outline.{holds, decodeBy};
-ghost use Rattle.decode.specs.Read.{parsedAt, routeAt, commandOf, frameAt, refusedWith, acceptedWith, withContent, decode};
-
-// The address and the mark in the seven octets from `at` on.
-fn parse_group(bytes: &[u8], at: usize) -> ParsedAddress
-    requires { ⌜ at + 7 ≤ length (now bytes) ⌝ }
-    ensures { λ r. ⌜ r ≡ parsedAt (now (bytes .entry)) at ⌝ }
-{
-    let group = [
-        bytes[at],
-        bytes[at + 1],
-        bytes[at + 2],
-        bytes[at + 3],
-        bytes[at + 4],
-        bytes[at + 5],
-        bytes[at + 6],
-    ];
-    address::group::parse_address(group)
-}
-
-fn parse_route(bytes: &[u8], at: usize, count: usize) -> [RouteEntry; 8]
-    requires { ⌜ (count ≤ 8) × (at + 7 * count ≤ length (now bytes)) ⌝ }
-    ensures { λ r. ⌜ r ≡ routeAt (now (bytes .entry)) at count ⌝ }
-{
-    let unused = RouteEntry::default();
-    let mut route = [unused; 8];
-    let mut i = 0;
-    while i < count {
-        let parsed = parse_group(bytes, at + 7 * i);
-        let repeater = parsed.address;
-        let has_repeated = parsed.high_bit;
-        route[i] = RouteEntry {
-            repeater,
-            has_repeated,
-        };
-        i += 1;
-    }
-    route
-}
-
-fn command_of(destination: bool, source: bool) -> Mark
-    ensures { λ r. ⌜ r ≡ commandOf destination source ⌝ }
-{
-    if destination {
-        if source { Mark::Absent } else { Mark::Command }
-    } else {
-        if source { Mark::Response } else { Mark::Absent }
-    }
-}
+ghost use Rattle.decode.specs.Read.{refusedWith, acceptedWith, withContent, decode};
 
 fn refused(answer: DecodeAnswer) -> Decoded
     ensures { λ r. ⌜ r ≡ refusedWith answer ⌝ }
@@ -74,26 +24,6 @@ fn refused(answer: DecodeAnswer) -> Decoded
         frame,
         info_start: 0,
         info_len: 0,
-    }
-}
-
-fn parse_frame(bytes: &[u8], count: usize, content: FrameContent) -> Ax25Frame
-    requires { ⌜ (count ≤ 8) × (14 + 7 * count ≤ length (now bytes)) ⌝ }
-    ensures { λ r. ⌜ r ≡ frameAt (now (bytes .entry)) 0 count content ⌝ }
-{
-    let to = parse_group(bytes, 0);
-    let from = parse_group(bytes, 7);
-    let route = parse_route(bytes, 14, count);
-    let command_or_response = command_of(to.high_bit, from.high_bit);
-    let source = from.address;
-    let destination = to.address;
-    Ax25Frame {
-        source,
-        destination,
-        route,
-        route_count: count,
-        command_or_response,
-        content,
     }
 }
 
@@ -153,7 +83,7 @@ fn decode_content(mode: Mode, bytes: &[u8], count: usize, control: usize) -> Dec
     let ContentAnswer::Accepted(content) = answer else {
         return refused(decode::refusal(answer.number()));
     };
-    let frame = parse_frame(bytes, count, content);
+    let frame = address_field::parse_frame(bytes, count, content);
     accepted(mode, frame, control, bytes.len())
 }
 

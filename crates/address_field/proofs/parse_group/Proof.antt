@@ -3,8 +3,8 @@ use mathlib.Core.Path.{refl, _∙_}
 use Rattle.octets.proofs.Place.{seven-at}
 use Rattle.decode.specs.Read.{parsedAt}
 use borrow.Author.Needs.{needs}
-use Rattle.reading.proofs.parse_group.Statement.{statement}
-use Rattle.reading.proofs.parse_group.Tie as tie
+use Rattle.address_field.proofs.parse_group.Statement.{statement}
+use Rattle.address_field.proofs.parse_group.Tie as tie
 
 shared-slice-read-t5 : tie.Need-shared-slice-read-t5
 shared-slice-read-t5 c = search needs

@@ -1,8 +1,8 @@
 -- The groups at 0, 7 and 14.
 use Rattle.decode.specs.Read.{frameAt}
 use borrow.Author.Needs.{needs}
-use Rattle.reading.proofs.parse_frame.Statement.{statement}
-use Rattle.reading.proofs.parse_frame.Tie as tie
+use Rattle.address_field.proofs.parse_groups.Statement.{statement}
+use Rattle.address_field.proofs.parse_groups.Tie as tie
 
 parse-group-requires : tie.Need-parse-group-requires
 parse-group-requires c κs = search needs
@@ -22,8 +22,8 @@ returns c =
     let b = c .before .before in
     simp (b .command-of .ensures, b .before .parse-route .ensures, b .before .before .parse-group2 .ensures, b .before .before .before .parse-group .ensures)
 
-pub parse-frame-spec : {M : Type 1} → statement M
-parse-frame-spec =
+pub parse-groups-spec : {M : Type 1} → statement M
+parse-groups-spec =
     tie.close
     (tie.spec
     parse-group-requires
