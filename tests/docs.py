@@ -101,6 +101,8 @@ def adversary():
     cited = set(re.findall(r'\b([a-z]\w*/[a-z]\w*)\b', ' '.join(row[3] for row in ADVERSARY)))
     check(f'the {len(cited)} wrong versions that the rows name are there', sorted(cited - EDITS))
     elsewhere = set(re.findall(r'\b([a-z]\w*/[a-z]\w*)\b', GUARANTEES['Wrong versions']))
+    tried = {label for label in elsewhere if os.path.isdir(f'crates/{label.split("/")[0]}')}
+    check(f'so are the {len(tried)} that the lists of wrong versions name', sorted(tried - EDITS))
     check(f'each of the {len(EDITS)} wrong versions is named on the page', sorted(EDITS - cited - elsewhere))
     bare = [row for row in ADVERSARY if '/' not in row[3].split('none:')[0]]
     check('a row without a wrong version says why', [row[0] for row in bare if 'none: ' not in row[3]])

@@ -1,10 +1,8 @@
-// The address of a station: a callsign, a numeric SSID and the reserved bits. `group` has its seven octets; the crates `printing` and
-// `text` its text.
+// The address of a station: a callsign, a numeric SSID and the reserved bits. The crate `group` has its seven octets, `printing` and `text`
+// its text.
 ghost use mathlib.Core.Path.{_≡_};
 ghost use Rattle.octets.specs.All.{all};
 ghost use Rattle.address.specs.Address.{low, noCall, encodable};
-
-pub mod group;
 
 // The reserved bits where no network uses them: both ones.
 pub const RESERVED_ONES: u8 = 3;

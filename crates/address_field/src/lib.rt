@@ -1,9 +1,9 @@
 // Reading the address field: the groups of destination, source and repeaters, and what their marks say.
-use address::group::ParsedAddress;
 use content::FrameContent;
 use frame::Ax25Frame;
 use frame::Mark;
 use frame::RouteEntry;
+use group::ParsedAddress;
 ghost use mathlib.Core.Path.{_≡_};
 ghost use Prim.Native.Nat.{_+_, _*_, _≤_};
 ghost use lib.ListN.{length};
@@ -24,7 +24,7 @@ fn parse_group(bytes: &[u8], at: usize) -> ParsedAddress
         bytes[at + 5],
         bytes[at + 6],
     ];
-    address::group::parse_address(group)
+    group::parse_address(group)
 }
 
 fn parse_route(bytes: &[u8], at: usize, count: usize) -> [RouteEntry; 8]

@@ -7,8 +7,8 @@ use lib.Dec.{eqb, ltb}
 use lib.ListN.{length, take, drop}
 use Rattle.octets.specs.Octet.{bit}
 use Rattle.octets.specs.First.{first}
-use Rattle.address.specs.Group.{addressOf, markOf}
-use Rattle.address.specs.declared.group.ParsedAddress.{ParsedAddress}
+use Rattle.group.specs.Group.{addressOf, markOf}
+use Rattle.group.specs.declared.ParsedAddress.{ParsedAddress}
 use Rattle.control.specs.declared.Mode.{Mode}
 use Rattle.content.specs.declared.FrameContent.{FrameContent}
 use Rattle.parse.specs.declared.ContentAnswer.{ContentAnswer}

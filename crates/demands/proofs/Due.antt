@@ -16,7 +16,7 @@ use Rattle.octets.proofs.Choice.{by}
 use Rattle.control.specs.declared.Mode.the-variants.{Short}
 use Rattle.protocol.specs.Pid.{among, pidOf}
 use Rattle.address.specs.Address.{noCall, encodable}
-use Rattle.address.specs.Group.{addressOf, markOf}
+use Rattle.group.specs.Group.{addressOf, markOf}
 use Rattle.parse.specs.Content.{iOf, sKindOf, sOf, uiOf, uOf, contentOf}
 use Rattle.frame.specs.Frame.{noEntry, noRoute, simpleUi, defaultFrame}
 use Rattle.frame.specs.declared.Ax25Frame.{Ax25Frame}

@@ -5,7 +5,7 @@ use Rattle.octets.specs.First.{first}
 use Rattle.octets.specs.Same.{same}
 use Rattle.protocol.specs.Pid.{among, pidOf}
 use Rattle.address.specs.Address.{noCall}
-use Rattle.address.specs.Group.{addressOf, markOf, ssidOctet, groupOf}
+use Rattle.group.specs.Group.{addressOf, markOf, ssidOctet, groupOf}
 use Rattle.control.specs.declared.Mode.the-variants.{Short}
 use Rattle.parse.specs.Content.{iOf, sKindOf, sOf, uiOf, responseOf, frmrOf, uOf, contentOf}
 use Rattle.frame.specs.Frame.{noEntry, noRoute, simpleUi, defaultFrame}

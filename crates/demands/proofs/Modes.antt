@@ -12,7 +12,7 @@ use Rattle.octets.specs.Same.{same}
 use Rattle.octets.proofs.Choice.{by, either, neither, and-false}
 use Rattle.protocol.specs.Pid.{among, pidOf}
 use Rattle.address.specs.Address.{noCall}
-use Rattle.address.specs.Group.{addressOf, markOf, ssidOctet, groupOf}
+use Rattle.group.specs.Group.{addressOf, markOf, ssidOctet, groupOf}
 use Rattle.control.specs.declared.Mode.{Mode}
 use Rattle.control.specs.declared.Mode.the-variants.{Short, Long}
 use Rattle.parse.specs.Content.{iOf, sKindOf, sOf, uiOf, responseOf, frmrOf, uOf, contentOf}

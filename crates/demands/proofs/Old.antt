@@ -6,7 +6,7 @@ use Rattle.octets.specs.First.{first}
 use Rattle.control.specs.declared.Mode.{Mode}
 use Rattle.protocol.specs.Pid.{among, pidOf}
 use Rattle.address.specs.Address.{noCall}
-use Rattle.address.specs.Group.{addressOf, markOf}
+use Rattle.group.specs.Group.{addressOf, markOf}
 use Rattle.parse.specs.Content.{sKindOf, sOf, uiOf, uOf, contentOf}
 use Rattle.frame.specs.Frame.{noEntry, noRoute, simpleUi, defaultFrame}
 use Rattle.decode.specs.Read.{parsedAt, entryAt, placeAt, routeAt, frameAt, refusedWith, acceptedWith, withContent, decodeField, decode}

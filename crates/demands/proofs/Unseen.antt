@@ -15,7 +15,7 @@ use Rattle.octets.proofs.Choice.{by, and-false}
 use Rattle.octets.proofs.Octet.{all-bits, octets-same}
 use Rattle.protocol.specs.Pid.{among, pidOf}
 use Rattle.address.specs.Address.{noCall}
-use Rattle.address.specs.Group.{addressOf, markOf, ssidOctet, groupOf}
+use Rattle.group.specs.Group.{addressOf, markOf, ssidOctet, groupOf}
 use Rattle.control.specs.declared.Mode.the-variants.{Short, Long}
 use Rattle.control.specs.declared.Mode.{Mode}
 use Rattle.parse.specs.Content.{iOf, sKindOf, sOf, uiOf, responseOf, frmrOf, uOf, contentOf}

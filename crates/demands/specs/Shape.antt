@@ -6,7 +6,7 @@ use mathlib.Core.List.{List}
 use lib.ListN.{getD}
 use Rattle.octets.specs.Octet.{bit}
 use Rattle.protocol.specs.Pid.{octetOf}
-use Rattle.address.specs.Group.{markOf}
+use Rattle.group.specs.Group.{markOf}
 use Rattle.control.specs.Mode.{controls}
 use Rattle.control.specs.declared.Mode.{Mode}
 use Rattle.content.specs.declared.Information.{Information}

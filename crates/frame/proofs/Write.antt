@@ -16,8 +16,8 @@ use Rattle.octets.specs.Splice.{splice}
 use Rattle.octets.proofs.Choice.{both, either, and-false}
 use Rattle.octets.proofs.Splice.{part-from, splice-length, splice-more, splice-then, splice-part}
 use Rattle.address.specs.Address.{encodable}
-use Rattle.address.specs.Group.{groupOf}
-use Rattle.address.proofs.Laws.{group-length}
+use Rattle.group.specs.Group.{groupOf}
+use Rattle.group.proofs.Laws.{group-length}
 use Rattle.content.specs.Spell.{front}
 use Rattle.content.specs.Refused.{longFrmr, strayInfo, strayPid}
 use Rattle.encoding.specs.Encode.{answerOf, encodeOf, encoded}

@@ -7,7 +7,7 @@ use lib.Dec.{eqb, ltb}
 use lib.ListN.{length, getD}
 use Rattle.octets.specs.Octet.{Octets}
 use Rattle.address.specs.Address.{PlainAddress}
-use Rattle.address.specs.Group.{groupOf}
+use Rattle.group.specs.Group.{groupOf}
 use Rattle.content.specs.Spell.{hasInfo, front, PlainContent}
 use Rattle.control.specs.declared.Mode.{Mode}
 use Rattle.frame.specs.Frame.{noEntry}

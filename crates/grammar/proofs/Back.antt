@@ -12,9 +12,9 @@ use lib.ListN.{length, length-append, drop}
 use lib.Seq.{take-at, drop-at, drop-drop, take-all}
 use Rattle.octets.proofs.Choice.{by}
 use Rattle.address.specs.Address.{PlainAddress}
-use Rattle.address.specs.Group.{groupOf, markOf}
+use Rattle.group.specs.Group.{groupOf, markOf}
 use Rattle.address.specs.declared.Address.{Address}
-use Rattle.address.proofs.Laws.{group-length, read-written, mark-written}
+use Rattle.group.proofs.Laws.{group-length, read-written, mark-written}
 use Rattle.content.specs.Spell.{hasInfo, front}
 use Rattle.control.specs.declared.Mode.{Mode}
 use Rattle.parse.specs.Content.{contentOf}

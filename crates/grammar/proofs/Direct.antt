@@ -13,8 +13,8 @@ use Rattle.octets.proofs.Choice.{by, both}
 use Rattle.octets.proofs.Octet.{octets-drop, octets-take}
 use Rattle.octets.proofs.First.{first-passes, first-before}
 use Rattle.octets.proofs.Place.{getD-part, of-eight}
-use Rattle.address.specs.Group.{groupOf, markOf, markSet}
-use Rattle.address.proofs.Laws.{mark-written, written-read, mark-last}
+use Rattle.group.specs.Group.{groupOf, markOf, markSet}
+use Rattle.group.proofs.Laws.{mark-written, written-read, mark-last}
 use Rattle.content.specs.Spell.{hasInfo, front}
 use Rattle.content_as_written.specs.AsWritten.{asWritten, infoOf}
 use Rattle.content.specs.declared.FrameContent.{FrameContent}

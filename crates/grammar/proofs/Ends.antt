@@ -12,9 +12,9 @@ use lib.ListN.{length-append, getD, List·getD-append}
 use Rattle.octets.specs.Octet.{bit}
 use Rattle.octets.proofs.First.{first-past, first-is}
 use Rattle.address.specs.Address.{PlainAddress}
-use Rattle.address.specs.Group.{groupOf}
+use Rattle.group.specs.Group.{groupOf}
 use Rattle.address.specs.declared.Address.{Address}
-use Rattle.address.proofs.Laws.{group-length, group-even, group-end, group-starts}
+use Rattle.group.proofs.Laws.{group-length, group-even, group-end, group-starts}
 use Rattle.decode.specs.Read.{nonzero, startOf, endOf}
 use Rattle.frame.specs.Spell.{groupsOf}
 use Rattle.frame.specs.declared.RouteEntry.{RouteEntry}

@@ -12,8 +12,8 @@ use Rattle.octets.specs.Octet.{field, bit}
 use Rattle.octets.proofs.Choice.{by}
 use Rattle.octets.proofs.First.{first-passes, first-before, first-is}
 use Rattle.octets.proofs.Place.{getD-part}
-use Rattle.address.specs.Group.{addressOf, markOf, markSet}
-use Rattle.address.proofs.Laws.{address-kept, mark-last}
+use Rattle.group.specs.Group.{addressOf, markOf, markSet}
+use Rattle.group.proofs.Laws.{address-kept, mark-last}
 use Rattle.content.specs.Spell.{hasInfo, front}
 use Rattle.control.specs.declared.Mode.{Mode}
 use Rattle.content_as_written.proofs.Laws.{content-some}

@@ -7,7 +7,7 @@ use native.Mathlib.Omega.{arith}
 use lib.ListN.{length, length-drop, getD, take, drop}
 use Rattle.octets.specs.Octet.{Octets}
 use Rattle.octets.proofs.Choice.{by}
-use Rattle.address.specs.Group.{addressOf, markSet}
+use Rattle.group.specs.Group.{addressOf, markSet}
 use Rattle.content.specs.Spell.{hasInfo, front}
 use Rattle.content.specs.declared.FrameContent.{FrameContent}
 use Rattle.control.specs.declared.Mode.{Mode}

@@ -14,7 +14,8 @@ use Rattle.octets.proofs.Octet.{octets-drop, octets-take}
 use Rattle.octets.proofs.First.{first-before}
 use Rattle.octets.proofs.Place.{getD-part}
 use Rattle.address.specs.Address.{PlainAddress}
-use Rattle.address.proofs.Laws.{read-plain, no-call-plain, group-character}
+use Rattle.address.proofs.Laws.{no-call-plain}
+use Rattle.group.proofs.Laws.{read-plain, group-character}
 use Rattle.content.specs.Spell.{hasInfo, front, PlainContent}
 use Rattle.content.specs.declared.FrameContent.{FrameContent}
 use Rattle.control.specs.declared.Mode.{Mode}

@@ -8,7 +8,7 @@ use lib.ListN.{length, getD}
 use Rattle.octets.specs.Octet.{Octets, field}
 use Rattle.octets.proofs.Place.{getD-part}
 use Rattle.control.specs.declared.Mode.{Mode}
-use Rattle.address.proofs.Laws.{reserved-last}
+use Rattle.group.proofs.Laws.{reserved-last}
 use Rattle.address.specs.declared.Address.{Address}
 use Rattle.decode.specs.Answer.{isAccepted}
 use Rattle.decode.specs.Read.{endOf, groupAt, parsedAt, frameAt, acceptedWith, decode, infoIn}

@@ -10,9 +10,9 @@ use Rattle.octets.specs.Splice.{splice}
 use Rattle.octets.proofs.Choice.{by}
 use Rattle.octets.proofs.Splice.{splice-out, splice-none}
 use Rattle.address.specs.Address.{encodable}
-use Rattle.address.specs.Group.{addressOf, groupOf}
+use Rattle.group.specs.Group.{addressOf, groupOf}
 use Rattle.address.specs.declared.Address.{Address}
-use Rattle.address.proofs.Laws.{group-length}
+use Rattle.group.proofs.Laws.{group-length}
 use Rattle.placing.specs.declared.PutAnswer.the-variants.{Written}
 use Rattle.placing.specs.Put.{putNumber, putAnswer, putOctets, respelled}
 

@@ -5,7 +5,7 @@ use mathlib.Core.List.{List, []}
 use lib.Dec.{leb}
 use lib.ListN.{length, take, drop}
 use Rattle.address.specs.Address.{encodable}
-use Rattle.address.specs.Group.{addressOf, groupOf}
+use Rattle.group.specs.Group.{addressOf, groupOf}
 use Rattle.address.specs.declared.Address.{Address}
 use Rattle.placing.specs.declared.PutAnswer.{PutAnswer}
 use Rattle.placing.specs.declared.PutAnswer.the-variants.{Written, NotEncodable, NoRoom}

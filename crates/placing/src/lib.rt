@@ -1,6 +1,5 @@
 // The group of an address written straight into lent octets: from the address, or from the octets of a group that was read.
 use address::Address;
-use address::group;
 ghost use mathlib.Core.Path.{_≡_};
 ghost use mathlib.Core.List.{[], _∷_};
 ghost use Prim.Native.Nat.{_+_};

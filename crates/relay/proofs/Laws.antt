@@ -16,7 +16,7 @@ use Rattle.octets.proofs.Octet.{octet-same}
 use Rattle.control.specs.declared.Mode.the-variants.{Short}
 use Rattle.address.specs.Address.{low, encodable}
 use Rattle.address.proofs.Laws.{encodable-is}
-use Rattle.address.specs.Group.{markSet}
+use Rattle.group.specs.Group.{markSet}
 use Rattle.address.specs.declared.Address.{Address}
 use Rattle.frame.specs.Spell.{repeaterAt}
 use Rattle.frame.specs.declared.Ax25Frame.{Ax25Frame}

@@ -1,7 +1,6 @@
 // Relaying: a frame goes on as it was received, with our own mark set in it. Nothing is rebuilt, and nothing is taken apart but the
 // group of the repeater that is due: the outline tells where the groups stand, and the hop set is read off the octets.
 use address::Address;
-use address::group;
 use control::Mode;
 use decode::DecodeAnswer;
 ghost use mathlib.Core.Path.{_≡_};

@@ -4,7 +4,6 @@ use crate::words::first;
 use crate::words::show_lent;
 use crate::words::show_number;
 use address::Address;
-use address::group;
 
 // The list is of the short mode, the Rust's.
 const SHORT: u32 = 0;

@@ -9,7 +9,7 @@ use lib.Dec.{eqb, ltb}
 use lib.ListN.{length, getD}
 use Rattle.octets.specs.Octet.{Octets}
 use Rattle.octets.specs.Splice.{splice}
-use Rattle.address.specs.Group.{markSet, groupOf}
+use Rattle.group.specs.Group.{markSet, groupOf}
 use Rattle.placing.specs.Put.{respelled}
 use Rattle.placing.proofs.Laws.{respelled-in}
 use Rattle.content.specs.declared.FrameContent.{FrameContent}

@@ -1,5 +1,5 @@
 // Re-encoding: what a frame decoded and written again would be, from the input's octets straight into the output's. No frame is built.
-use address::group;
+
 use content::FrameContent;
 use control::Mode;
 use decode::DecodeAnswer;

@@ -26,8 +26,8 @@ fn is_direct(mode: Mode, bytes: &[u8], count: usize) -> bool
     if low == 0 {
         return false;
     }
-    let to = address::group::mark_set(bytes[6]);
-    let from = address::group::mark_set(bytes[13]);
+    let to = group::mark_set(bytes[6]);
+    let from = group::mark_set(bytes[13]);
     if !is_marked(to, from) {
         return false;
     }

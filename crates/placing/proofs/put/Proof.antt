@@ -5,7 +5,7 @@ use borrow.Author.Tests.{not-true, not-false}
 use Rattle.octets.specs.Splice.{splice}
 use Rattle.octets.proofs.Splice.{splice-none}
 use Rattle.address.specs.Address.{encodable}
-use Rattle.address.proofs.Laws.{group-is}
+use Rattle.group.proofs.Laws.{group-is}
 use Rattle.placing.specs.Put.{putAnswer, putOctets}
 use borrow.Author.Needs.{needs}
 use Rattle.placing.proofs.put.Statement.{statement}

@@ -11,8 +11,8 @@ use Rattle.octets.specs.Splice.{splice}
 use Rattle.octets.proofs.Octet.{octet-same}
 use Rattle.octets.proofs.Place.{seven-at}
 use Rattle.octets.proofs.Splice.{splice-none}
-use Rattle.address.specs.Group.{ssidOctet}
-use Rattle.address.proofs.Laws.{group-again}
+use Rattle.group.specs.Group.{ssidOctet}
+use Rattle.group.proofs.Laws.{group-again}
 use Rattle.placing.specs.Put.{respelled}
 use Rattle.placing.proofs.Laws.{respelled-in, respelled-out}
 use borrow.Author.Needs.{needs}

@@ -8,7 +8,7 @@ use Rattle.octets.specs.Octet.{bit}
 use Rattle.octets.proofs.Bits.{bit-test}
 use Rattle.octets.proofs.Splice.{part-from}
 use Rattle.frame.specs.Spell.{marked}
-use Rattle.address.specs.Group.{markSet}
+use Rattle.group.specs.Group.{markSet}
 use Rattle.decode.specs.Read.{commandOf}
 use Rattle.grammar.proofs.Direct.{direct-is}
 use borrow.Author.Needs.{needs}

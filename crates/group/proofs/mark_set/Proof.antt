@@ -1,7 +1,7 @@
 -- The mask's test is that of the bit.
 use Rattle.octets.proofs.Bits.{bit-test}
-use Rattle.address.proofs.group.mark_set.Statement.{statement}
-use Rattle.address.proofs.group.mark_set.Tie as tie
+use Rattle.group.proofs.mark_set.Statement.{statement}
+use Rattle.group.proofs.mark_set.Tie as tie
 
 returns : tie.Need-returns
 returns c = bit-test (c .args .last) 7

@@ -1,8 +1,8 @@
 // The seven octets of an address, and back: six characters, then the octet of the SSID.
 ghost use mathlib.Core.Path.{_≡_};
 ghost use mathlib.Core.Bool.{cond};
-ghost use Rattle.address.specs.Group.{addressOf, markOf, markSet, ssidOctet, groupOf, writeGroup, groupNumberOf};
-use crate::Address;
+ghost use Rattle.group.specs.Group.{addressOf, markOf, markSet, ssidOctet, groupOf, writeGroup, groupNumberOf};
+use address::Address;
 
 pub struct ParsedAddress {
     pub address: Address,

@@ -1,8 +1,8 @@
 -- `group_of` puts together the seven octets.
 use borrow.Author.Needs.{needs}
-use Rattle.address.specs.Group.{groupOf}
-use Rattle.address.proofs.group.group_of.Statement.{statement}
-use Rattle.address.proofs.group.group_of.Tie as tie
+use Rattle.group.specs.Group.{groupOf}
+use Rattle.group.proofs.group_of.Statement.{statement}
+use Rattle.group.proofs.group_of.Tie as tie
 
 array-read-t7 : tie.Need-array-read-t7
 array-read-t7 c = search needs

@@ -7,9 +7,9 @@ use mathlib.Core.Bool.{Bool, true, false, cond}
 use borrow.Author.Needs.{needs}
 use lib.Bits.{bitAnd, bitOr, and-mask}
 use Rattle.octets.proofs.Octet.{octet-same}
-use Rattle.address.specs.Group.{ssidOctet}
-use Rattle.address.proofs.group.ssid_octet.Statement.{statement}
-use Rattle.address.proofs.group.ssid_octet.Tie as tie
+use Rattle.group.specs.Group.{ssidOctet}
+use Rattle.group.proofs.ssid_octet.Statement.{statement}
+use Rattle.group.proofs.ssid_octet.Tie as tie
 
 -- the code's octet, of the SSID's four bits and the two reserved bits as one number
 octet : Bool → Bool → ℕ → ℕ

@@ -2,9 +2,9 @@
 use mathlib.Core.Path.{sym, _∙_}
 use borrow.Author.Needs.{needs}
 use borrow.Author.Tests.{not-true, not-false}
-use Rattle.address.specs.Group.{writeGroup}
-use Rattle.address.proofs.group.to_bytes.Statement.{statement}
-use Rattle.address.proofs.group.to_bytes.Tie as tie
+use Rattle.group.specs.Group.{writeGroup}
+use Rattle.group.proofs.to_bytes.Statement.{statement}
+use Rattle.group.proofs.to_bytes.Tie as tie
 
 is-encodable-requires : tie.Need-is-encodable-requires
 is-encodable-requires c κs = search needs

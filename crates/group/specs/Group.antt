@@ -5,11 +5,11 @@ use mathlib.Core.Bool.{Bool, cond}
 use mathlib.Core.List.{List, [], _∷_}
 use lib.ListN.{getD}
 use Rattle.octets.specs.Octet.{field, bit, flag}
 use Rattle.address.specs.declared.Address.{Address}
-use Rattle.address.specs.declared.group.GroupAnswer.{GroupAnswer}
-use Rattle.address.specs.declared.group.GroupAnswer.the-variants.{Written, NotEncodable}
-use Rattle.address.specs.declared.group.WrittenGroup.{WrittenGroup}
+use Rattle.group.specs.declared.GroupAnswer.{GroupAnswer}
+use Rattle.group.specs.declared.GroupAnswer.the-variants.{Written, NotEncodable}
+use Rattle.group.specs.declared.WrittenGroup.{WrittenGroup}
 use Rattle.address.specs.Address.{encodable}
 
 -- the character in octet k of a group: the octet shifted right by one
 abbrev pub characterAt : List ℕ → ℕ → ℕ

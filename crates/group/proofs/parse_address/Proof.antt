@@ -4,9 +4,9 @@ use borrow.Author.Needs.{needs}
 use lib.Bits.{and-mask}
 use lib.ListN.{getD}
 use Rattle.octets.proofs.Bits.{bit-test}
-use Rattle.address.specs.Group.{addressOf, markOf}
-use Rattle.address.proofs.group.parse_address.Statement.{statement}
-use Rattle.address.proofs.group.parse_address.Tie as tie
+use Rattle.group.specs.Group.{addressOf, markOf}
+use Rattle.group.proofs.parse_address.Statement.{statement}
+use Rattle.group.proofs.parse_address.Tie as tie
 
 array-read-t7 : tie.Need-array-read-t7
 array-read-t7 c = search needs
