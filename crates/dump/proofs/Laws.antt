@@ -15,9 +15,9 @@ use Rattle.printing.specs.Print.{trimmed}
 use Rattle.address.specs.declared.Address.{Address}
 use Rattle.frame.specs.Spell.{repeaterAt}
 use Rattle.frame.specs.declared.RouteEntry.{RouteEntry}
-use Rattle.dump.specs.Ascii.{ascii}
-use Rattle.dump.specs.declared.words.Word.{Word}
-use Rattle.dump.specs.Text.{decimal, character, characters, ssidText, addressText, entryText, routeText, wordOf, textIn, Put}
+use Rattle.words.specs.Ascii.{ascii}
+use Rattle.words.specs.Words.{character}
+use Rattle.dump.specs.Text.{decimal, characters, ssidText, addressText, entryText, routeText, Put}
 
 pub put-none : (l : List ℕ) (at : ℕ) → Put l l at at []
 put-none l at = (sym (splice-none l at), omega arith)
@@ -60,22 +60,6 @@ module _ (l : List ℕ) (at : ℕ) (a b c : List ℕ) (fits : at + length (a ++ 
 
   pub put-three : {m n o : List ℕ} {r q e : ℕ} → Put l m at r a → Put m n r q b → Put n o q e c → Put l o at e (a ++ (b ++ c))
   put-three {m} {n} {o} {r} {q} {e} p s t = put-then l at a (b ++ c) fits p (put-then m r b c (fits-next l at a (b ++ c) fits p) s t)
-
--- a word holds a text of up to eight characters
-pub word-text : (t : List ℕ) → length t ≤ 8 → textIn (wordOf t) ≡ t
-word-text [] h = refl
-word-text (a ∷ []) h = refl
-word-text (a ∷ b ∷ []) h = refl
-word-text (a ∷ b ∷ c ∷ []) h = refl
-word-text (a ∷ b ∷ c ∷ d ∷ []) h = refl
-word-text (a ∷ b ∷ c ∷ d ∷ e ∷ []) h = refl
-word-text (a ∷ b ∷ c ∷ d ∷ e ∷ f ∷ []) h = refl
-word-text (a ∷ b ∷ c ∷ d ∷ e ∷ f ∷ g ∷ []) h = refl
-word-text (a ∷ b ∷ c ∷ d ∷ e ∷ f ∷ g ∷ i ∷ []) h = refl
-word-text (a ∷ b ∷ c ∷ d ∷ e ∷ f ∷ g ∷ i ∷ j ∷ s) h = absurd (omega arith)
-
-pub word-is : (w : Word) (t : List ℕ) → w ≡ wordOf t → length t ≤ 8 → (w .length ≤ 8) × (textIn w ≡ t)
-word-is w t e h = rw e (h, word-text t h)
 
 pub ssid-none : (s : ℕ) → s ≡ 0 → ssidText s ≡ []
 unfolding ssidText

@@ -1,7 +1,7 @@
 -- How long the texts are at most: 512 octets hold the whole.
 use Prim.Native.Nat.{ℕ, zero, suc, _+_, _*_, _≤_, _<_}
 use mathlib.Core.Path.{_≡_}
-use mathlib.Core.Bool.{Bool, true, false, cond}
+use mathlib.Core.Bool.{Bool, cond}
 use mathlib.Core.List.{List, [], _∷_, _++_}
 use native.Mathlib.Omega.{arith}
 use lib.Dec.{eqb, ltb}
@@ -9,12 +9,10 @@ use lib.ListN.{length, length-append, length-drop}
 use Rattle.octets.specs.Octet.{Octets}
 use Rattle.octets.proofs.Choice.{either}
 use Rattle.address.specs.Address.{PlainAddress}
-use Rattle.text.specs.Text.{alphanumeric}
 use Rattle.printing.specs.Print.{trimmed}
 use Rattle.address.specs.declared.Address.{Address}
 use Rattle.printing.proofs.Laws.{used-le, trimmed-length}
 use Rattle.content.specs.declared.FrameContent.{FrameContent}
-use Rattle.content.specs.declared.FrameContent.the-variants as kind
 use Rattle.control.specs.declared.Mode.the-variants.{Short}
 use Rattle.decode.specs.Answer.{isAccepted, numberOf}
 use Rattle.decode.specs.Read.{decode}
@@ -23,21 +21,17 @@ use Rattle.frame.specs.declared.Ax25Frame.{Ax25Frame}
 use Rattle.decode.specs.declared.Decoded.{Decoded}
 use Rattle.decode.specs.declared.DecodeAnswer.{DecodeAnswer}
 use Rattle.decode.specs.declared.DecodeAnswer.the-variants as answer
-use Rattle.frame.specs.declared.Mark.{Mark}
-use Rattle.frame.specs.declared.Mark.the-variants.{Command, Response, Absent}
 use Rattle.frame.specs.declared.RouteEntry.{RouteEntry}
 use Rattle.grammar.proofs.Plain.{Stations, stations, inside}
 use Rattle.spelling.specs.Canonical.{canonical}
-use Rattle.dump.specs.Ascii.{ascii}
-use Rattle.dump.specs.Text.{fourDigits, leading, decimal, character, characters, ssidText, addressText, entryText, routeText}
-use Rattle.dump.specs.Dump.{hasPid, markText, kindText, controlText, pidText, yesNo, stationLines, contentLines, frameText, detailText, refusalText, decodedText, dumpText}
+use Rattle.words.specs.Ascii.{ascii}
+use Rattle.words.specs.Words.{character, markText, kindText, controlText, pidText, yesNo}
+use Rattle.words.proofs.Laws.{character-short, mark-short, kind-short, pid-short, yes-no-short}
+use Rattle.dump.specs.Text.{fourDigits, leading, decimal, characters, ssidText, addressText, entryText, routeText}
+use Rattle.dump.specs.Dump.{stationLines, contentLines, frameText, detailText, refusalText, decodedText, dumpText}
 
 pub decimal-short : (n : ℕ) → length (decimal n) ≤ 4
 decimal-short n = omega (arith, length-drop (leading n) (fourDigits n))
-
-pub character-short : (c : ℕ) → length (character c) ≤ 3
-unfolding character
-character-short c = either (λ (t : List ℕ). length t ≤ 3) (alphanumeric c) (λ e. omega arith) (λ e. omega arith)
 
 characters-short : (s : List ℕ) → length (characters s) ≤ 3 * length s
 unfolding characters
@@ -69,35 +63,6 @@ route-short route (suc n) p =
     let e : List ℕ = entryText (repeaterAt route n) in
     let one : length c ≤ 1 = either (λ (t : List ℕ). length t ≤ 1) (eqb n 0) (λ q. omega arith) (λ q. omega arith) in
     omega (arith, length-append (routeText route n) (c ++ e), length-append c e, route-short route n (λ i h. p i (omega (arith, h))), entry-short (repeaterAt route n) (p n (omega arith)), one)
-
-pub mark-short : (m : Mark) → length (markText m) ≤ 8
-mark-short Command = omega arith
-mark-short Response = omega arith
-mark-short Absent = omega arith
-
-pub kind-short : (k : FrameContent) → length (kindText k) ≤ 5
-kind-short (kind.Information k) = omega arith
-kind-short (kind.ReceiveReady k) = omega arith
-kind-short (kind.ReceiveNotReady k) = omega arith
-kind-short (kind.Reject k) = omega arith
-kind-short (kind.SelectiveReject k) = omega arith
-kind-short (kind.SetAsynchronousBalancedMode k) = omega arith
-kind-short (kind.SetAsynchronousBalancedModeExtended k) = omega arith
-kind-short (kind.Disconnect k) = omega arith
-kind-short (kind.DisconnectedMode k) = omega arith
-kind-short (kind.UnnumberedAcknowledge k) = omega arith
-kind-short (kind.FrameReject k) = omega arith
-kind-short (kind.UnnumberedInformation k) = omega arith
-kind-short (kind.ExchangeIdentification k) = omega arith
-kind-short (kind.Test k) = omega arith
-kind-short kind.UnknownContent = omega arith
-
-pub pid-short : (k : FrameContent) → length (pidText k) ≤ 2
-pid-short k = either (λ (t : List ℕ). length t ≤ 2) (hasPid k) (λ e. omega arith) (λ e. omega arith)
-
-pub yes-no-short : (b : Bool) → length (yesNo b) ≤ 3
-yes-no-short true = omega arith
-yes-no-short false = omega arith
 
 -- a line is its key, its value and one more
 line-long : (key value : List ℕ) → length (key ++ (value ++ ascii "\n")) ≡ length key + length value + 1

@@ -1,25 +1,22 @@
 -- What the dumper prints (document 01, Loader calls and dumper): key=value lines in a fixed order. It reads in the short mode.
 use Prim.Native.Nat.{ℕ}
 use Prim.Native.String.{String}
-use mathlib.Core.Bool.{Bool, true, false, cond}
+use mathlib.Core.Bool.{Bool, cond}
 use mathlib.Core.List.{List, [], _++_}
 use lib.Dec.{ltb}
-use lib.ListN.{length, getD}
-use Rattle.content.specs.Spell.{front}
+use lib.ListN.{length}
 use Rattle.control.specs.declared.Mode.the-variants.{Short}
 use Rattle.content.specs.declared.FrameContent.{FrameContent}
-use Rattle.content.specs.declared.FrameContent.the-variants as kind
 use Rattle.decode.specs.Answer.{numberOf, isAccepted}
 use Rattle.decode.specs.Read.{decode}
 use Rattle.frame.specs.declared.Ax25Frame.{Ax25Frame}
 use Rattle.decode.specs.declared.DecodeAnswer.{DecodeAnswer}
 use Rattle.decode.specs.declared.DecodeAnswer.the-variants as answer
 use Rattle.decode.specs.declared.Decoded.{Decoded}
-use Rattle.frame.specs.declared.Mark.{Mark}
-use Rattle.frame.specs.declared.Mark.the-variants.{Command, Response, Absent}
 use Rattle.spelling.specs.Canonical.{canonical}
-use Rattle.dump.specs.Ascii.{ascii}
-use Rattle.dump.specs.Text.{hex, decimal, addressText, routeText}
+use Rattle.words.specs.Ascii.{ascii}
+use Rattle.words.specs.Words.{markText, kindText, controlText, pidText, yesNo}
+use Rattle.dump.specs.Text.{decimal, addressText, routeText}
 use Rattle.dump.specs.declared.DumpAnswer.{DumpAnswer}
 use Rattle.dump.specs.declared.DumpAnswer.the-variants.{Done, NoRoom}
 use Rattle.dump.specs.declared.Dumped.{Dumped}
@@ -27,57 +24,6 @@ use Rattle.dump.specs.declared.Dumped.{Dumped}
 -- a key, its value and a line feed
 abbrev pub line : String → List ℕ → List ℕ
 line key value = ascii key ++ (value ++ ascii "\n")
-
-abbrev pub markText : Mark → List ℕ
-markText Command = ascii "command"
-markText Response = ascii "response"
-markText Absent = ascii "none"
-
--- the kinds; reading never gives `UnknownContent`
-abbrev pub kindText : FrameContent → List ℕ
-kindText (kind.Information k) = ascii "I"
-kindText (kind.ReceiveReady k) = ascii "RR"
-kindText (kind.ReceiveNotReady k) = ascii "RNR"
-kindText (kind.Reject k) = ascii "REJ"
-kindText (kind.SelectiveReject k) = ascii "SREJ"
-kindText (kind.SetAsynchronousBalancedMode k) = ascii "SABM"
-kindText (kind.SetAsynchronousBalancedModeExtended k) = ascii "SABME"
-kindText (kind.Disconnect k) = ascii "DISC"
-kindText (kind.DisconnectedMode k) = ascii "DM"
-kindText (kind.UnnumberedAcknowledge k) = ascii "UA"
-kindText (kind.FrameReject k) = ascii "FRMR"
-kindText (kind.UnnumberedInformation k) = ascii "UI"
-kindText (kind.ExchangeIdentification k) = ascii "XID"
-kindText (kind.Test k) = ascii "TEST"
-kindText kind.UnknownContent = ascii "-"
-
--- the kinds that have a PID: I and UI
-abbrev pub hasPid : FrameContent → Bool
-hasPid (kind.Information k) = true
-hasPid (kind.ReceiveReady k) = false
-hasPid (kind.ReceiveNotReady k) = false
-hasPid (kind.Reject k) = false
-hasPid (kind.SelectiveReject k) = false
-hasPid (kind.SetAsynchronousBalancedMode k) = false
-hasPid (kind.SetAsynchronousBalancedModeExtended k) = false
-hasPid (kind.Disconnect k) = false
-hasPid (kind.DisconnectedMode k) = false
-hasPid (kind.UnnumberedAcknowledge k) = false
-hasPid (kind.FrameReject k) = false
-hasPid (kind.UnnumberedInformation k) = true
-hasPid (kind.ExchangeIdentification k) = false
-hasPid (kind.Test k) = false
-hasPid kind.UnknownContent = false
-
--- control and PID as re-encoded: the first two octets of what the content spells
-abbrev pub controlText : FrameContent → List ℕ
-controlText k = hex (getD (front Short k) 0 0)
-
-abbrev pub pidText : FrameContent → List ℕ
-pidText k = cond (hasPid k) (hex (getD (front Short k) 1 0)) (ascii "-")
-
-abbrev pub yesNo : Bool → List ℕ
-yesNo b = cond b (ascii "yes") (ascii "no")
 
 -- the address field's lines
 unfoldable pub stationLines : Ax25Frame → List ℕ

@@ -1,26 +1,17 @@
--- Texts as octets: words, hex, decimal, and an address as the dumper prints it.
+-- Texts as octets: decimal, and an address as the dumper prints it.
 use Prim.Native.Nat.{ℕ, zero, suc, _+_, _/_, _%_}
 use mathlib.Core.Path.{_≡_}
 use mathlib.Core.Bool.{cond}
 use mathlib.Core.List.{List, [], _∷_, _++_}
 use lib.Dec.{eqb, ltb}
-use lib.ListN.{length, getD, take, drop}
+use lib.ListN.{length, drop}
 use Rattle.octets.specs.Splice.{splice}
-use Rattle.text.specs.Text.{alphanumeric}
 use Rattle.printing.specs.Print.{trimmed}
 use Rattle.address.specs.declared.Address.{Address}
 use Rattle.frame.specs.Spell.{repeaterAt}
 use Rattle.frame.specs.declared.RouteEntry.{RouteEntry}
-use Rattle.dump.specs.Ascii.{ascii}
-use Rattle.dump.specs.declared.words.Word.{Word}
-
--- a lower-case hex digit: 0 to 9, then a to f
-unfoldable pub hexDigit : ℕ → ℕ
-hexDigit d = cond (ltb d 10) (48 + d) (87 + d)
-
--- an octet as two of them
-abbrev pub hex : ℕ → List ℕ
-hex b = hexDigit (b / 16) ∷ hexDigit (b % 16) ∷ []
+use Rattle.words.specs.Ascii.{ascii}
+use Rattle.words.specs.Words.{character}
 
 -- the last four decimal digits: nothing that is counted in an input of 4,096 octets takes more
 abbrev pub fourDigits : ℕ → List ℕ
@@ -32,10 +23,6 @@ leading n = cond (ltb n 10) 3 (cond (ltb n 100) 2 (cond (ltb n 1000) 1 0))
 
 abbrev pub decimal : ℕ → List ℕ
 decimal n = drop (leading n) (fourDigits n)
-
--- an address character: a letter or digit as itself, any other as % and two hex digits
-unfoldable pub character : ℕ → List ℕ
-character c = cond (alphanumeric c) (c ∷ []) (37 ∷ hex c)
 
 unfoldable pub characters : List ℕ → List ℕ
 characters [] = []
@@ -57,17 +44,6 @@ entryText e = addressText (e .repeater) ++ cond (e .«has_repeated») (ascii "*"
 unfoldable pub routeText : List RouteEntry → ℕ → List ℕ
 routeText route zero = []
 routeText route (suc n) = routeText route n ++ (cond (eqb n 0) [] (ascii ",") ++ entryText (repeaterAt route n))
-
--- a word of up to eight characters, zeros after it: what a function can return of a text by value
-abbrev pub wordOf : List ℕ → Word
-wordOf t = record {
-  letters = getD t 0 0 ∷ getD t 1 0 ∷ getD t 2 0 ∷ getD t 3 0 ∷ getD t 4 0 ∷ getD t 5 0 ∷ getD t 6 0 ∷ getD t 7 0 ∷ [];
-  length = length t;
-}
-
--- the text of a word
-abbrev pub textIn : Word → List ℕ
-textIn w = take (w .length) (w .letters)
 
 -- `text` was put into a buffer from `at` on, and ends before `end`
 abbrev pub Put : List ℕ → List ℕ → ℕ → ℕ → List ℕ → Type 0

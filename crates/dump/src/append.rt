@@ -1,14 +1,14 @@
 // Texts put into a buffer one after the other. Each function is given where its text starts and says where it ends.
-use crate::words;
-use crate::words::Word;
 use address::Address;
 use frame::RouteEntry;
+use words::Word;
 ghost use mathlib.Core.Path.{_≡_};
 ghost use mathlib.Core.Bool.{cond};
 ghost use mathlib.Core.List.{[]};
 ghost use Prim.Native.Nat.{_+_, _≤_, _<_, _%_};
 ghost use lib.ListN.{length};
-ghost use Rattle.dump.specs.Text.{leading, decimal, textIn, characters, ssidText, addressText, entryText, routeText, Put};
+ghost use Rattle.words.specs.Words.{textIn};
+ghost use Rattle.dump.specs.Text.{leading, decimal, characters, ssidText, addressText, entryText, routeText, Put};
 
 pub(crate) fn put(out: &mut [u8], at: usize, part: &[u8]) -> usize
     requires { ⌜ at + length (now part) ≤ length (now out) ⌝ }

@@ -11,7 +11,6 @@ ghost use Rattle.decode.specs.Answer.{isAccepted};
 ghost use Rattle.dump.specs.Text.{Put};
 ghost use Rattle.dump.specs.Dump.{frameText, detailText, refusalText, decodedText, dumpText, dumped, dumpNumber};
 
-mod words; // words.rt: short words by value
 mod append; // append.rt: words, numbers and addresses, one after the other
 mod lines; // lines.rt: the lines of a frame
 

@@ -4,17 +4,17 @@ use crate::append::put_address;
 use crate::append::put_decimal;
 use crate::append::put_route;
 use crate::append::put_word;
-use crate::words;
-use crate::words::Word;
 use address::Address;
 use content::FrameContent;
 use frame::Ax25Frame;
 use frame::RouteEntry;
+use words::Word;
 ghost use mathlib.Core.List.{_++_};
 ghost use Prim.Native.Nat.{_+_, _≤_};
 ghost use lib.ListN.{length};
-ghost use Rattle.dump.specs.Ascii.{ascii};
-ghost use Rattle.dump.specs.Text.{decimal, addressText, routeText, textIn, Put};
+ghost use Rattle.words.specs.Ascii.{ascii};
+ghost use Rattle.words.specs.Words.{textIn};
+ghost use Rattle.dump.specs.Text.{decimal, addressText, routeText, Put};
 ghost use Rattle.dump.specs.Dump.{stationLines, contentLines};
 
 pub(crate) fn put_word_line(out: &mut [u8], at: usize, key: &[u8], word: Word) -> usize

@@ -6,10 +6,11 @@ use Prim.Native.Nat.{ℕ, _+_, _≤_}
 use mathlib.Core.List.{List, _++_}
 use lib.ListN.{length}
 use Rattle.decode.specs.declared.Decoded.{Decoded}
-use Rattle.dump.specs.Text.{decimal, textIn}
-use Rattle.dump.specs.Dump.{line, yesNo, stationLines, contentLines, frameText}
-use Rattle.dump.proofs.Short.{yes-no-short}
-use Rattle.dump.proofs.Laws.{from-zero, fits-first, fits-next, put-then, fits-one, fits-two, fits-three, put-three, word-is}
+use Rattle.words.specs.Words.{yesNo, textIn}
+use Rattle.words.proofs.Laws.{yes-no-short, word-is}
+use Rattle.dump.specs.Text.{decimal}
+use Rattle.dump.specs.Dump.{line, stationLines, contentLines, frameText}
+use Rattle.dump.proofs.Laws.{from-zero, fits-first, fits-next, put-then, fits-one, fits-two, fits-three, put-three}
 use borrow.Author.Needs.{needs}
 use Rattle.dump.proofs.put_frame.Statement.{statement}
 use Rattle.dump.proofs.put_frame.Tie as tie

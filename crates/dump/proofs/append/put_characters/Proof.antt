@@ -3,9 +3,10 @@ use mathlib.Core.List.{_++_}
 use lib.ListN.{getD}
 use lib.Seq.{take-all}
 use Rattle.octets.proofs.Splice.{splice-length}
-use Rattle.dump.specs.Text.{character, textIn, characters, Put}
-use Rattle.dump.proofs.Laws.{put-none, fits-next, put-then, word-is, characters-next, characters-fit}
-use Rattle.dump.proofs.Short.{character-short}
+use Rattle.words.specs.Words.{character, textIn}
+use Rattle.words.proofs.Laws.{character-short, word-is}
+use Rattle.dump.specs.Text.{characters, Put}
+use Rattle.dump.proofs.Laws.{put-none, fits-next, put-then, characters-next, characters-fit}
 use mathlib.Core.Path.{_≡_}
 use native.Mathlib.Omega.{arith}
 use Prim.Native.Nat.{_-_, _≤_}

@@ -1,6 +1,6 @@
 use mathlib.Core.Bool.{cond}
 use mathlib.Core.List.{[]}
-use Rattle.dump.specs.Ascii.{ascii}
+use Rattle.words.specs.Ascii.{ascii}
 use Rattle.dump.specs.Text.{addressText}
 use Rattle.dump.proofs.Laws.{fits-first, fits-next, put-then, entry-text}
 use borrow.Author.Needs.{needs}

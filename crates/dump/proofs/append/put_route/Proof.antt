@@ -4,7 +4,7 @@ use Prim.Native.Nat.{_-_, _≤_}
 use lib.Dec.{eqb}
 use Rattle.octets.proofs.Splice.{splice-length}
 use Rattle.frame.specs.Spell.{repeaterAt}
-use Rattle.dump.specs.Ascii.{ascii}
+use Rattle.words.specs.Ascii.{ascii}
 use Rattle.dump.specs.Text.{entryText, routeText, Put}
 use Rattle.dump.proofs.Laws.{put-none, fits-two, fits-three, put-three, comma, comma-if, route-next, route-fit}
 use borrow.Author.Needs.{needs}

@@ -1,4 +1,4 @@
-use Rattle.dump.specs.Ascii.{ascii}
+use Rattle.words.specs.Ascii.{ascii}
 use Rattle.dump.specs.Text.{decimal}
 use Rattle.dump.proofs.Laws.{put-none, fits-first, fits-next, put-then, ssid-none, ssid-some}
 use borrow.Author.Needs.{needs}

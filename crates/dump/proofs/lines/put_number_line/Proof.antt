@@ -1,4 +1,4 @@
-use Rattle.dump.specs.Ascii.{ascii}
+use Rattle.words.specs.Ascii.{ascii}
 use Rattle.dump.proofs.Laws.{fits-one, fits-two, fits-three, put-three}
 use Rattle.dump.specs.Text.{decimal}
 use borrow.Author.Needs.{needs}

@@ -1,12 +1,10 @@
-// Short words by value.
+// The words of the dumper's lines, short ones by value: hex, address characters, marks, kinds, control and PID, yes and no.
 use content::FrameContent;
 use control::Mode;
 use frame::Mark;
 ghost use mathlib.Core.Path.{_≡_};
 ghost use Prim.Native.Nat.{_<_};
-ghost use Rattle.content.specs.Spell.{front};
-ghost use Rattle.dump.specs.Text.{hexDigit, hex, character, wordOf};
-ghost use Rattle.dump.specs.Dump.{markText, kindText, hasPid, controlText, pidText, yesNo};
+ghost use Rattle.words.specs.Words.{hexDigit, hex, character, wordOf, markText, kindText, hasPid, controlText, pidText, yesNo};
 
 // Up to eight characters, zeros after them.
 pub struct Word {
@@ -21,7 +19,7 @@ fn hex_digit(d: u8) -> u8
     if d < 10 { b'0' + d } else { b'a' - 10 + d }
 }
 
-pub(crate) fn hex(b: u8) -> Word
+pub fn hex(b: u8) -> Word
     ensures { λ r. ⌜ r ≡ wordOf (hex b) ⌝ }
 {
     let high = hex_digit(b / 16);
@@ -33,7 +31,7 @@ pub(crate) fn hex(b: u8) -> Word
 }
 
 // An address character: a letter or digit as itself, any other as % and two hex digits.
-pub(crate) fn character(c: u8) -> Word
+pub fn character(c: u8) -> Word
     ensures { λ r. ⌜ r ≡ wordOf (character c) ⌝ }
 {
     if text::is_alphanumeric(c) {
@@ -50,94 +48,95 @@ pub(crate) fn character(c: u8) -> Word
     }
 }
 
-pub(crate) fn mark(mark: Mark) -> Word
+pub fn mark(mark: Mark) -> Word
     ensures { λ r. ⌜ r ≡ wordOf (markText mark) ⌝ }
 {
     match mark {
         Mark::Command => Word {
-            letters: *b"command\0",
+            letters: [b'c', b'o', b'm', b'm', b'a', b'n', b'd', 0],
             length: 7,
         },
         Mark::Response => Word {
-            letters: *b"response",
+            letters: [b'r', b'e', b's', b'p', b'o', b'n', b's', b'e'],
             length: 8,
         },
         Mark::Absent => Word {
-            letters: *b"none\0\0\0\0",
+            letters: [b'n', b'o', b'n', b'e', 0, 0, 0, 0],
             length: 4,
         },
     }
 }
 
-pub(crate) fn kind(content: FrameContent) -> Word
+// The letters are listed one by one: a byte string would be copied from behind a reference, which makes the check of each case dearer.
+pub fn kind(content: FrameContent) -> Word
     ensures { λ r. ⌜ r ≡ wordOf (kindText content) ⌝ }
 {
     match content {
         FrameContent::Information(_) => Word {
-            letters: *b"I\0\0\0\0\0\0\0",
+            letters: [b'I', 0, 0, 0, 0, 0, 0, 0],
             length: 1,
         },
         FrameContent::ReceiveReady(_) => Word {
-            letters: *b"RR\0\0\0\0\0\0",
+            letters: [b'R', b'R', 0, 0, 0, 0, 0, 0],
             length: 2,
         },
         FrameContent::ReceiveNotReady(_) => Word {
-            letters: *b"RNR\0\0\0\0\0",
+            letters: [b'R', b'N', b'R', 0, 0, 0, 0, 0],
             length: 3,
         },
         FrameContent::Reject(_) => Word {
-            letters: *b"REJ\0\0\0\0\0",
+            letters: [b'R', b'E', b'J', 0, 0, 0, 0, 0],
             length: 3,
         },
         FrameContent::SelectiveReject(_) => Word {
-            letters: *b"SREJ\0\0\0\0",
+            letters: [b'S', b'R', b'E', b'J', 0, 0, 0, 0],
             length: 4,
         },
         FrameContent::SetAsynchronousBalancedMode(_) => Word {
-            letters: *b"SABM\0\0\0\0",
+            letters: [b'S', b'A', b'B', b'M', 0, 0, 0, 0],
             length: 4,
         },
         FrameContent::SetAsynchronousBalancedModeExtended(_) => Word {
-            letters: *b"SABME\0\0\0",
+            letters: [b'S', b'A', b'B', b'M', b'E', 0, 0, 0],
             length: 5,
         },
         FrameContent::Disconnect(_) => Word {
-            letters: *b"DISC\0\0\0\0",
+            letters: [b'D', b'I', b'S', b'C', 0, 0, 0, 0],
             length: 4,
         },
         FrameContent::DisconnectedMode(_) => Word {
-            letters: *b"DM\0\0\0\0\0\0",
+            letters: [b'D', b'M', 0, 0, 0, 0, 0, 0],
             length: 2,
         },
         FrameContent::UnnumberedAcknowledge(_) => Word {
-            letters: *b"UA\0\0\0\0\0\0",
+            letters: [b'U', b'A', 0, 0, 0, 0, 0, 0],
             length: 2,
         },
         FrameContent::FrameReject(_) => Word {
-            letters: *b"FRMR\0\0\0\0",
+            letters: [b'F', b'R', b'M', b'R', 0, 0, 0, 0],
             length: 4,
         },
         FrameContent::UnnumberedInformation(_) => Word {
-            letters: *b"UI\0\0\0\0\0\0",
+            letters: [b'U', b'I', 0, 0, 0, 0, 0, 0],
             length: 2,
         },
         FrameContent::ExchangeIdentification(_) => Word {
-            letters: *b"XID\0\0\0\0\0",
+            letters: [b'X', b'I', b'D', 0, 0, 0, 0, 0],
             length: 3,
         },
         FrameContent::Test(_) => Word {
-            letters: *b"TEST\0\0\0\0",
+            letters: [b'T', b'E', b'S', b'T', 0, 0, 0, 0],
             length: 4,
         },
         FrameContent::UnknownContent => Word {
-            letters: *b"-\0\0\0\0\0\0\0",
+            letters: [b'-', 0, 0, 0, 0, 0, 0, 0],
             length: 1,
         },
     }
 }
 
 // The control octet as re-encoded.
-pub(crate) fn control(content: FrameContent) -> Word
+pub fn control(content: FrameContent) -> Word
     ensures { λ r. ⌜ r ≡ wordOf (controlText content) ⌝ }
 {
     let front = content.front(Mode::Short);
@@ -167,7 +166,7 @@ fn has_pid(content: FrameContent) -> bool
 }
 
 // The PID as re-encoded; a hyphen where there is none.
-pub(crate) fn pid(content: FrameContent) -> Word
+pub fn pid(content: FrameContent) -> Word
     ensures { λ r. ⌜ r ≡ wordOf (pidText content) ⌝ }
 {
     if has_pid(content) {
@@ -175,22 +174,22 @@ pub(crate) fn pid(content: FrameContent) -> Word
         return hex(front[1]);
     }
     Word {
-        letters: *b"-\0\0\0\0\0\0\0",
+        letters: [b'-', 0, 0, 0, 0, 0, 0, 0],
         length: 1,
     }
 }
 
-pub(crate) fn yes_no(yes: bool) -> Word
+pub fn yes_no(yes: bool) -> Word
     ensures { λ r. ⌜ r ≡ wordOf (yesNo yes) ⌝ }
 {
     if yes {
         return Word {
-            letters: *b"yes\0\0\0\0\0",
+            letters: [b'y', b'e', b's', 0, 0, 0, 0, 0],
             length: 3,
         };
     }
     Word {
-        letters: *b"no\0\0\0\0\0\0",
+        letters: [b'n', b'o', 0, 0, 0, 0, 0, 0],
         length: 2,
     }
 }

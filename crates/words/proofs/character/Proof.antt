@@ -1,8 +1,8 @@
 use mathlib.Core.Path.{refl}
-use Rattle.dump.specs.Text.{character}
+use Rattle.words.specs.Words.{character}
 use borrow.Author.Needs.{needs}
-use Rattle.dump.proofs.words.character.Statement.{statement}
-use Rattle.dump.proofs.words.character.Tie as tie
+use Rattle.words.proofs.character.Statement.{statement}
+use Rattle.words.proofs.character.Tie as tie
 
 is-alphanumeric-requires : tie.Need-is-alphanumeric-requires
 is-alphanumeric-requires c κs = search needs

@@ -1,7 +1,7 @@
 use mathlib.Core.Path.{refl}
 use borrow.Author.Needs.{needs}
-use Rattle.dump.proofs.words.hex.Statement.{statement}
-use Rattle.dump.proofs.words.hex.Tie as tie
+use Rattle.words.proofs.hex.Statement.{statement}
+use Rattle.words.proofs.hex.Tie as tie
 
 hex-digit-requires : tie.Need-hex-digit-requires
 hex-digit-requires c κs = search needs

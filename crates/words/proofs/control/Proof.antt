@@ -1,7 +1,7 @@
 use mathlib.Core.Path.{refl}
 use borrow.Author.Needs.{needs}
-use Rattle.dump.proofs.words.control.Statement.{statement}
-use Rattle.dump.proofs.words.control.Tie as tie
+use Rattle.words.proofs.control.Statement.{statement}
+use Rattle.words.proofs.control.Tie as tie
 
 front-requires : tie.Need-front-requires
 front-requires c κs = search needs

@@ -1,7 +1,7 @@
 use mathlib.Core.Path.{refl}
 use borrow.Author.Needs.{needs}
-use Rattle.dump.proofs.words.pid.Statement.{statement}
-use Rattle.dump.proofs.words.pid.Tie as tie
+use Rattle.words.proofs.pid.Statement.{statement}
+use Rattle.words.proofs.pid.Tie as tie
 
 has-pid-requires : tie.Need-has-pid-requires
 has-pid-requires c κs = search needs
@@ -20,7 +20,7 @@ returns c =
     rw (c .hex .ensures, c .before .front .ensures, ← c .before .before .before .has-pid .ensures, c .before .before .if1 .taken) refl
 
 returns-2 : tie.Need-returns-2
-returns-2 c = rw (← c .before .before .before .has-pid .ensures, c .before .before .if1 .left) refl
+returns-2 c = rw (← c .before .has-pid .ensures, c .if1 .left) refl
 
 pub pid-spec : {M : Type 1} → statement M
 pid-spec =

@@ -1,9 +1,9 @@
 use native.Mathlib.Omega.{arith}
 use borrow.Author.Tests.{lt-ltb, le-ltb}
-use Rattle.dump.specs.Text.{hexDigit}
+use Rattle.words.specs.Words.{hexDigit}
 use borrow.Author.Needs.{needs}
-use Rattle.dump.proofs.words.hex_digit.Statement.{statement}
-use Rattle.dump.proofs.words.hex_digit.Tie as tie
+use Rattle.words.proofs.hex_digit.Statement.{statement}
+use Rattle.words.proofs.hex_digit.Tie as tie
 
 add-result : tie.Need-add-result
 add-result c = search needs
