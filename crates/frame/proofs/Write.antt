@@ -25,7 +25,7 @@ use Rattle.control.specs.declared.Mode.{Mode}
 use Rattle.encoding.specs.declared.EncodeAnswer.the-variants.{Written}
 use Rattle.encoding.proofs.Laws.{answer-written}
 use Rattle.frame.specs.Spell.{repeaterAt, groupsOf, destinationMark, sourceMark, addressField, spell}
-use Rattle.frame.specs.Write.{routeEncodable, frameEncodable, writeAnswer, Taken, octetsBy}
+use Rattle.frame.specs.Write.{routeEncodable, frameEncodable, contentAnswer, writeAnswer, Taken, octetsBy}
 use Rattle.frame.specs.declared.WriteAnswer.{WriteAnswer}
 use Rattle.frame.specs.declared.WriteAnswer.the-variants.{Accepted, RouteTooLong, NotEncodable, FrameRejectInLongMode, InfoNotAllowed, PidOutsideClass, NoRoom}
 use Rattle.frame.proofs.WriteAnswer.{the-type}
@@ -114,6 +114,13 @@ frame-each f e =
     let a = both (encodable (f .destination) && encodable (f .source)) (routeEncodable (f .route) (f .«route_count»)) e in
     let b = both (encodable (f .destination)) (encodable (f .source)) (a .0) in
     (b .0, b .1, a .1)
+
+-- past the tests of the route and of the addresses the content decides
+pub content-decides : (m : Mode) (f : Ax25Frame) (info : List ℕ) (room head : ℕ) → f .«route_count» ≤ 8 → frameEncodable f ≡ true
+    → head ≡ 14 + 7 * f .«route_count» + length (front m (f .content))
+    → contentAnswer m (f .content) head (length info) room ≡ writeAnswer m f info room
+unfolding writeAnswer contentAnswer
+content-decides m f info room head n e h = rw (le-ltb 8 (f .«route_count») n, e, spell-length m f info, h)
 
 -- an accepted answer says that nothing was refused
 Says : Mode → Ax25Frame → List ℕ → ℕ → WriteAnswer → Type 0

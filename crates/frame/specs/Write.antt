@@ -1,6 +1,6 @@
 -- Writing a frame: document 01's numbers 21 to 24 in their order, document 02's 11 (M-109) before 23 and 25 (M-105) before 24, and the
 -- octets.
-use Prim.Native.Nat.{ℕ, zero, suc, _≤_}
+use Prim.Native.Nat.{ℕ, zero, suc, _+_, _≤_}
 use mathlib.Core.Path.{_≡_}
 use mathlib.Core.Bool.{Bool, true, false, cond, not, _&&_}
 use mathlib.Core.List.{List, []}
@@ -8,6 +8,7 @@ use lib.Dec.{ltb}
 use lib.ListN.{length}
 use Rattle.address.specs.Address.{encodable}
 use Rattle.content.specs.Refused.{longFrmr, strayInfo, strayPid}
+use Rattle.content.specs.declared.FrameContent.{FrameContent}
 use Rattle.control.specs.declared.Mode.{Mode}
 use Rattle.frame.specs.Spell.{repeaterAt, spell}
 use Rattle.frame.specs.declared.RouteEntry.{RouteEntry}
@@ -35,6 +36,15 @@ writeAnswer m f info room =
     (cond (strayPid (f .content)) PidOutsideClass
     (cond (ltb room (length (spell m f info))) NoRoom
     Accepted)))))
+
+-- the same from 11 on, of the content and the length of its info, where `head` octets stand before the info: a step on the way there
+unfoldable pub contentAnswer : Mode → FrameContent → ℕ → ℕ → ℕ → WriteAnswer
+contentAnswer m k head carried room =
+    cond (longFrmr m k) FrameRejectInLongMode
+    (cond (strayInfo k carried) InfoNotAllowed
+    (cond (strayPid k) PidOutsideClass
+    (cond (ltb room (head + carried)) NoRoom
+    Accepted)))
 
 -- what writing takes: none of the six refusals holds
 pub record Taken (m : Mode) (f : Ax25Frame) (i : List ℕ) (n : ℕ) : Type 0 where

@@ -4,14 +4,16 @@ use crate::Mark;
 use crate::RouteEntry;
 use crate::WriteAnswer;
 use crate::Written;
+use content::FrameContent;
 use control::Mode;
 ghost use mathlib.Core.Path.{_≡_};
 ghost use mathlib.Core.Bool.{true};
 ghost use Prim.Native.Nat.{_+_, _*_, _≤_};
+ghost use lib.Dec.{ltb};
 ghost use lib.ListN.{length};
 ghost use Rattle.octets.specs.Splice.{splice};
 ghost use Rattle.frame.specs.Spell.{groupsOf, destinationMark, addressField, spell};
-ghost use Rattle.frame.specs.Write.{routeEncodable, frameEncodable, writeAnswer, Taken, octetsWritten, written};
+ghost use Rattle.frame.specs.Write.{routeEncodable, frameEncodable, contentAnswer, writeAnswer, Taken, octetsWritten, written};
 
 // The mark of the destination; that of the source is the other.
 fn destination_mark(mark: Mark) -> bool
@@ -56,6 +58,41 @@ fn frame_encodable(frame: Ax25Frame) -> bool
     route_encodable(route, frame.route_count)
 }
 
+// So many octets, and the info after them, want more than the room. The sum might not fit a usize, so none is made.
+fn lacks_room(head: usize, carried: usize, room: usize) -> bool
+    ensures { λ r. ⌜ r ≡ ltb room (head + carried) ⌝ }
+{
+    if room < head {
+        return true;
+    }
+    room - head < carried
+}
+
+// The answer from the content on, where `head` octets stand before the info.
+fn content_answer(
+    mode: Mode,
+    content: FrameContent,
+    head: usize,
+    carried: usize,
+    room: usize,
+) -> WriteAnswer
+    ensures { λ r. ⌜ r ≡ contentAnswer mode content head carried room ⌝ }
+{
+    if content.long_frmr(mode) {
+        return WriteAnswer::FrameRejectInLongMode;
+    }
+    if content.stray_info(carried) {
+        return WriteAnswer::InfoNotAllowed;
+    }
+    if content.stray_pid() {
+        return WriteAnswer::PidOutsideClass;
+    }
+    if lacks_room(head, carried, room) {
+        return WriteAnswer::NoRoom;
+    }
+    WriteAnswer::Accepted
+}
+
 fn write_answer(mode: Mode, frame: Ax25Frame, info: &[u8], room: usize) -> WriteAnswer
     ensures { λ r. ⌜ r ≡ writeAnswer mode frame (now (info .entry)) room ⌝ }
 {
@@ -67,23 +104,8 @@ fn write_answer(mode: Mode, frame: Ax25Frame, info: &[u8], room: usize) -> Write
         return WriteAnswer::NotEncodable;
     }
     let content = frame.content;
-    if content.long_frmr(mode) {
-        return WriteAnswer::FrameRejectInLongMode;
-    }
-    if content.stray_info(info.len()) {
-        return WriteAnswer::InfoNotAllowed;
-    }
-    if content.stray_pid() {
-        return WriteAnswer::PidOutsideClass;
-    }
     let head = 14 + 7 * count + content.front_len(mode);
-    if room < head {
-        return WriteAnswer::NoRoom;
-    }
-    if room - head < info.len() {
-        return WriteAnswer::NoRoom;
-    }
-    WriteAnswer::Accepted
+    content_answer(mode, content, head, info.len(), room)
 }
 
 // The repeaters' groups, one after the other from `at` on; the last alone has the end bit.

@@ -13,36 +13,28 @@ fn by_eights(bytes: &[u8], mask: u8) -> usize
 {
     let mut i = 0;
     while 8 <= bytes.len() - i {
-        let one = bytes[i] & mask;
-        if one != 0 {
+        if bytes[i] & mask != 0 {
             return i;
         }
-        let two = bytes[i + 1] & mask;
-        if two != 0 {
+        if bytes[i + 1] & mask != 0 {
             return i + 1;
         }
-        let three = bytes[i + 2] & mask;
-        if three != 0 {
+        if bytes[i + 2] & mask != 0 {
             return i + 2;
         }
-        let four = bytes[i + 3] & mask;
-        if four != 0 {
+        if bytes[i + 3] & mask != 0 {
             return i + 3;
         }
-        let five = bytes[i + 4] & mask;
-        if five != 0 {
+        if bytes[i + 4] & mask != 0 {
             return i + 4;
         }
-        let six = bytes[i + 5] & mask;
-        if six != 0 {
+        if bytes[i + 5] & mask != 0 {
             return i + 5;
         }
-        let seven = bytes[i + 6] & mask;
-        if seven != 0 {
+        if bytes[i + 6] & mask != 0 {
             return i + 6;
         }
-        let eight = bytes[i + 7] & mask;
-        if eight != 0 {
+        if bytes[i + 7] & mask != 0 {
             return i + 7;
         }
         i += 8;
@@ -59,8 +51,7 @@ pub fn find(bytes: &[u8], mask: u8) -> usize
 {
     let mut i = by_eights(bytes, mask);
     while i < bytes.len() {
-        let bits = bytes[i] & mask;
-        if bits != 0 {
+        if bytes[i] & mask != 0 {
             return i;
         }
         i += 1;

@@ -30,7 +30,7 @@ returns : tie.Need-returns
 unfolding putAnswer putOctets
 returns c =
     let e = sym (c .before .is-encodable .ensures) ∙ not-true _ (c .if1 .taken) in
-    (simp e, sym (simp e (splice-none _ _)))
+    (rw e, sym (rw e (splice-none _ _)))
 
 ssid-octet-requires : tie.Need-ssid-octet-requires
 ssid-octet-requires c κs = search needs
@@ -64,7 +64,7 @@ unfolding putAnswer
 returns-2 c =
     let w = c .before .before .before in
     let i = w .before .before .before .before in
-    (simp (taken i, sym (w .store .ensures .0) ∙ c .if2 .taken), stored w)
+    (rw (taken i, sym (w .store .ensures .0) ∙ c .if2 .taken), stored w)
 
 same-length-2 : tie.Need-same-length-2
 same-length-2 c = search needs
@@ -74,7 +74,7 @@ unfolding putAnswer
 returns-3 c =
     let w = c .before .before .before in
     let i = w .before .before .before .before in
-    (simp (taken i, sym (w .store .ensures .0) ∙ c .if2 .left), stored w)
+    (rw (taken i, sym (w .store .ensures .0) ∙ c .if2 .left), stored w)
 
 pub put-spec : {M : Type 1} → statement M
 put-spec =

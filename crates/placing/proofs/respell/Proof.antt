@@ -5,7 +5,10 @@ use mathlib.Core.Bool.{Bool}
 use mathlib.Core.List.{List, [], _∷_}
 use native.Mathlib.Omega.{arith}
 use lib.Bits.{bitAnd}
+use lib.Dec.{lit<, lit≤}
 use lib.ListN.{length, getD}
+use mir.Syntax.{w64}
+use mir.Val.{Fits}
 use Rattle.octets.specs.Octet.{Octets}
 use Rattle.octets.specs.Splice.{splice}
 use Rattle.octets.proofs.Octet.{octet-same}
@@ -15,6 +18,7 @@ use Rattle.group.specs.Group.{ssidOctet}
 use Rattle.group.proofs.Laws.{group-again}
 use Rattle.placing.specs.Put.{respelled}
 use Rattle.placing.proofs.Laws.{respelled-in, respelled-out}
+use Rattle.placing.proofs.Places.{within, fits}
 use borrow.Author.Needs.{needs}
 use Rattle.placing.proofs.respell.Statement.{statement}
 use Rattle.placing.proofs.respell.Tie as tie
@@ -33,6 +37,13 @@ octets-again s from m e o h =
     let v : (k : ℕ) → even (getD s k 0) ≡ getD s k 0 / 2 * 2 % 256 = λ k. even-again (getD s k 0) (o k) in
     rw (respelled-in s from m e h, ← seven-at s from h, group-again) (simp v)
 
+-- the seven octets are there, and their numbers fit
+inside : (c : tie.Else2) → let a = c .before .before .before .before .args in a .from + 7 ≤ length (a .bytes .now)
+inside c = omega arith
+
+last-fits : (c : tie.Else2) → Fits w64 (c .before .before .before .before .args .from + 7)
+last-fits c = search needs
+
 returns : tie.Need-returns
 returns c =
     let a = c .before .before .before .args in
@@ -44,10 +55,10 @@ returns-2 c =
     sym (rw (respelled-out (a .bytes .now) (a .from) _ _ (omega arith)) (splice-none _ _))
 
 add-read : tie.Need-add-read
-add-read c = search needs
+add-read c = fits _ 6 (lit≤ tt) (last-fits c)
 
 shared-slice-read-read : tie.Need-shared-slice-read-read
-shared-slice-read-read c = search needs
+shared-slice-read-read c = within _ 6 _ (lit< tt) (inside (c .before))
 
 ssid-octet-requires : tie.Need-ssid-octet-requires
 ssid-octet-requires c κs = search needs
@@ -56,34 +67,34 @@ shared-slice-read-store : tie.Need-shared-slice-read-store
 shared-slice-read-store c = search needs
 
 add-store : tie.Need-add-store
-add-store c = search needs
+add-store c = fits _ 1 (lit≤ tt) (last-fits (c .before .before .before .before))
 
 shared-slice-read-store-2 : tie.Need-shared-slice-read-store-2
-shared-slice-read-store-2 c = search needs
+shared-slice-read-store-2 c = within _ 1 _ (lit< tt) (inside (c .before .before .before .before .before))
 
 add-store-2 : tie.Need-add-store-2
-add-store-2 c = search needs
+add-store-2 c = fits _ 2 (lit≤ tt) (last-fits (c .before .before .before .before .before))
 
 shared-slice-read-store-3 : tie.Need-shared-slice-read-store-3
-shared-slice-read-store-3 c = search needs
+shared-slice-read-store-3 c = within _ 2 _ (lit< tt) (inside (c .before .before .before .before .before .before))
 
 add-store-3 : tie.Need-add-store-3
-add-store-3 c = search needs
+add-store-3 c = fits _ 3 (lit≤ tt) (last-fits (c .before .before .before .before .before .before))
 
 shared-slice-read-store-4 : tie.Need-shared-slice-read-store-4
-shared-slice-read-store-4 c = search needs
+shared-slice-read-store-4 c = within _ 3 _ (lit< tt) (inside (c .before .before .before .before .before .before .before))
 
 add-store-4 : tie.Need-add-store-4
-add-store-4 c = search needs
+add-store-4 c = fits _ 4 (lit≤ tt) (last-fits (c .before .before .before .before .before .before .before))
 
 shared-slice-read-store-5 : tie.Need-shared-slice-read-store-5
-shared-slice-read-store-5 c = search needs
+shared-slice-read-store-5 c = within _ 4 _ (lit< tt) (inside (c .before .before .before .before .before .before .before .before))
 
 add-store-5 : tie.Need-add-store-5
-add-store-5 c = search needs
+add-store-5 c = fits _ 5 (lit≤ tt) (last-fits (c .before .before .before .before .before .before .before .before))
 
 shared-slice-read-store-6 : tie.Need-shared-slice-read-store-6
-shared-slice-read-store-6 c = search needs
+shared-slice-read-store-6 c = within _ 5 _ (lit< tt) (inside (c .before .before .before .before .before .before .before .before .before))
 
 store-requires : tie.Need-store-requires
 store-requires c κs = search needs
@@ -99,7 +110,7 @@ returns-3 c =
     let a = k .before .before .args in
     let o : Octets (a .bytes .now) = λ n. k .shared-slice-known .given n .fits in
     w .store .ensures .1
-    ∙ rw (i .ssid-octet .ensures) (ap (splice (a .out .now) (a .at)) (octets-again (a .bytes .now) (a .from) _ _ o (omega arith)))
+    ∙ rw (i .ssid-octet .ensures) (ap (splice (a .out .now) (a .at)) (octets-again (a .bytes .now) (a .from) _ _ o (inside (i .before .before))))
 
 pub respell-spec : {M : Type 1} → statement M
 respell-spec =

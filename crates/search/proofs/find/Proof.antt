@@ -24,8 +24,8 @@ by-eights-requires c κs = search needs
 loop-holds : tie.Need-loop-holds Inv-loop μ-loop
 loop-holds c = (c .by-eights .ensures .0, c .by-eights .ensures .1)
 
-shared-slice-read-bits : tie.Need-shared-slice-read-bits Inv-loop μ-loop
-shared-slice-read-bits c = search needs
+shared-slice-read-if1 : tie.Need-shared-slice-read-if1 Inv-loop μ-loop
+shared-slice-read-if1 c = search needs
 
 returns : tie.Need-returns Inv-loop μ-loop
 returns c =
@@ -55,7 +55,7 @@ find-spec =
     μ-loop
     by-eights-requires
     loop-holds
-    shared-slice-read-bits
+    shared-slice-read-if1
     returns
     add-i
     loop-less
