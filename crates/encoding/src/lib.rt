@@ -5,7 +5,7 @@ ghost use mathlib.Core.Path.{_≡_};
 ghost use lib.ListN.{length};
 ghost use Rattle.octets.specs.Splice.{splice};
 ghost use Rattle.content.specs.Spell.{front};
-ghost use Rattle.encoding.specs.Encode.{lacksRoom, encodeNumber, encodeOf, encoded};
+ghost use Rattle.encoding.specs.Encode.{encodeNumber, encodeOf, encoded};
 
 // What writing content gives.
 pub enum EncodeAnswer {
@@ -33,17 +33,6 @@ impl EncodeAnswer {
             EncodeAnswer::NoRoom => 24,
         }
     }
-}
-
-// Too little room for the content with info of this length. The sum of the lengths might not fit a usize, so none is made.
-fn lacks_room(mode: Mode, content: FrameContent, carried: usize, room: usize) -> bool
-    ensures { λ r. ⌜ r ≡ lacksRoom mode content carried room ⌝ }
-{
-    let n = content.front_len(mode);
-    if room < n {
-        return true;
-    }
-    room - n < carried
 }
 
 // The octets before the info, from the start of `out` on.
@@ -87,7 +76,7 @@ pub fn encode(mode: Mode, content: FrameContent, info: &[u8], out: &mut [u8]) ->
             length: 0,
         };
     }
-    if lacks_room(mode, content, info.len(), out.len()) {
+    if lent_buffer::lacks_room(content.front_len(mode), info.len(), out.len()) {
         return ContentWritten {
             answer: EncodeAnswer::NoRoom,
             length: 0,

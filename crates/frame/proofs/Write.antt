@@ -118,8 +118,8 @@ frame-each f e =
 -- past the tests of the route and of the addresses the content decides
 pub content-decides : (m : Mode) (f : Ax25Frame) (info : List ℕ) (room head : ℕ) → f .«route_count» ≤ 8 → frameEncodable f ≡ true
     → head ≡ 14 + 7 * f .«route_count» + length (front m (f .content))
-    → contentAnswer m (f .content) head (length info) room ≡ writeAnswer m f info room
-unfolding writeAnswer contentAnswer
+    → contentAnswer m (f .content) (length info) (head + length info) room ≡ writeAnswer m f info room
+unfolding writeAnswer
 content-decides m f info room head n e h = rw (le-ltb 8 (f .«route_count») n, e, spell-length m f info, h)
 
 -- an accepted answer says that nothing was refused
@@ -133,7 +133,7 @@ Says m f info room PidOutsideClass = Unit {0}
 Says m f info room NoRoom = Unit {0}
 
 says : (m : Mode) (f : Ax25Frame) (info : List ℕ) (room : ℕ) → Says m f info room (writeAnswer m f info room)
-unfolding writeAnswer Says
+unfolding writeAnswer contentAnswer Says
 says m f info room =
     let P : WriteAnswer → Type 0 = Says m f info room in
     either P (ltb 8 (f .«route_count»)) (λ _. tt)

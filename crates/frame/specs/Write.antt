@@ -1,6 +1,6 @@
 -- Writing a frame: document 01's numbers 21 to 24 in their order, document 02's 11 (M-109) before 23 and 25 (M-105) before 24, and the
 -- octets.
-use Prim.Native.Nat.{ℕ, zero, suc, _+_, _≤_}
+use Prim.Native.Nat.{ℕ, zero, suc, _≤_}
 use mathlib.Core.Path.{_≡_}
 use mathlib.Core.Bool.{Bool, true, false, cond, not, _&&_}
 use mathlib.Core.List.{List, []}
@@ -26,25 +26,21 @@ routeEncodable route (suc n) = routeEncodable route n && encodable (repeaterAt r
 unfoldable pub frameEncodable : Ax25Frame → Bool
 frameEncodable f = encodable (f .destination) && encodable (f .source) && routeEncodable (f .route) (f .«route_count»)
 
+-- the answer from 11 on: of the content, the length of its info, the octets that all of the frame takes, and the room
+unfoldable pub contentAnswer : Mode → FrameContent → ℕ → ℕ → ℕ → WriteAnswer
+contentAnswer m k info whole room =
+    cond (longFrmr m k) FrameRejectInLongMode
+    (cond (strayInfo k info) InfoNotAllowed
+    (cond (strayPid k) PidOutsideClass
+    (cond (ltb room whole) NoRoom
+    Accepted)))
+
 -- the answer to writing a frame with its info into so much room. The Rust has no such refusals (docs/DIFFERENCES.md, B3 and B4)
 unfoldable pub writeAnswer : Mode → Ax25Frame → List ℕ → ℕ → WriteAnswer
 writeAnswer m f info room =
     cond (ltb 8 (f .«route_count»)) RouteTooLong
     (cond (not (frameEncodable f)) NotEncodable
-    (cond (longFrmr m (f .content)) FrameRejectInLongMode
-    (cond (strayInfo (f .content) (length info)) InfoNotAllowed
-    (cond (strayPid (f .content)) PidOutsideClass
-    (cond (ltb room (length (spell m f info))) NoRoom
-    Accepted)))))
-
--- the same from 11 on, of the content and the length of its info, where `head` octets stand before the info: a step on the way there
-unfoldable pub contentAnswer : Mode → FrameContent → ℕ → ℕ → ℕ → WriteAnswer
-contentAnswer m k head carried room =
-    cond (longFrmr m k) FrameRejectInLongMode
-    (cond (strayInfo k carried) InfoNotAllowed
-    (cond (strayPid k) PidOutsideClass
-    (cond (ltb room (head + carried)) NoRoom
-    Accepted)))
+    (contentAnswer m (f .content) (length info) (length (spell m f info)) room))
 
 -- what writing takes: none of the six refusals holds
 pub record Taken (m : Mode) (f : Ax25Frame) (i : List ℕ) (n : ℕ) : Type 0 where

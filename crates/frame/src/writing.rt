@@ -9,7 +9,6 @@ use control::Mode;
 ghost use mathlib.Core.Path.{_≡_};
 ghost use mathlib.Core.Bool.{true};
 ghost use Prim.Native.Nat.{_+_, _*_, _≤_};
-ghost use lib.Dec.{ltb};
 ghost use lib.ListN.{length};
 ghost use Rattle.octets.specs.Splice.{splice};
 ghost use Rattle.frame.specs.Spell.{groupsOf, destinationMark, addressField, spell};
@@ -58,16 +57,6 @@ fn frame_encodable(frame: Ax25Frame) -> bool
     route_encodable(route, frame.route_count)
 }
 
-// So many octets, and the info after them, want more than the room. The sum might not fit a usize, so none is made.
-fn lacks_room(head: usize, carried: usize, room: usize) -> bool
-    ensures { λ r. ⌜ r ≡ ltb room (head + carried) ⌝ }
-{
-    if room < head {
-        return true;
-    }
-    room - head < carried
-}
-
 // The answer from the content on, where `head` octets stand before the info.
 fn content_answer(
     mode: Mode,
@@ -76,7 +65,7 @@ fn content_answer(
     carried: usize,
     room: usize,
 ) -> WriteAnswer
-    ensures { λ r. ⌜ r ≡ contentAnswer mode content head carried room ⌝ }
+    ensures { λ r. ⌜ r ≡ contentAnswer mode content carried (head + carried) room ⌝ }
 {
     if content.long_frmr(mode) {
         return WriteAnswer::FrameRejectInLongMode;
@@ -87,7 +76,7 @@ fn content_answer(
     if content.stray_pid() {
         return WriteAnswer::PidOutsideClass;
     }
-    if lacks_room(head, carried, room) {
+    if lent_buffer::lacks_room(head, carried, room) {
         return WriteAnswer::NoRoom;
     }
     WriteAnswer::Accepted

@@ -21,7 +21,7 @@ use Rattle.parse.specs.declared.ContentAnswer.the-variants.{Accepted, ContentZe
 use Rattle.decode.specs.Answer.{Report, number, reportOf, numberOf}
 use Rattle.frame.specs.Frame.{writeNumber}
 use Rattle.frame.specs.Spell.{spell}
-use Rattle.frame.specs.Write.{frameEncodable, writeAnswer}
+use Rattle.frame.specs.Write.{frameEncodable, contentAnswer, writeAnswer}
 use Rattle.frame.specs.declared.Ax25Frame.{Ax25Frame}
 use Rattle.decode.specs.Read.{nonzero, startOf, endOf, refusedWith, acceptedWith, withContent, decodeField, decode}
 use Rattle.decode.specs.Numbers.{noStart, leadingNull, noEnd, shortField, noContent, manyRepeaters, reported}
@@ -84,7 +84,7 @@ pub write-rows : (mode : Mode) (f : Ax25Frame) (info : List ℕ) (room : ℕ)
     → writeNumber (writeAnswer mode f info room)
     ≡ cond (ltb 8 (f .«route_count»)) 21 (cond (not (frameEncodable f)) 22 (cond (longFrmr mode (f .content)) 11
     (cond (strayInfo (f .content) (length info)) 23 (cond (strayPid (f .content)) 25 (cond (ltb room (length (spell mode f info))) 24 0)))))
-unfolding writeAnswer
+unfolding writeAnswer contentAnswer
 write-rows mode f info room =
     by (ltb 8 (f .«route_count»)) (λ a. simp a)
     (λ a. simp a (by (not (frameEncodable f)) (λ b. simp b)

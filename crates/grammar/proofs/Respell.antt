@@ -16,7 +16,7 @@ use Rattle.content.proofs.Laws.{plain-pid, plain-frmr}
 use Rattle.control.specs.declared.Mode.{Mode}
 use Rattle.decode.specs.Answer.{isAccepted}
 use Rattle.decode.specs.Read.{endOf, acceptedWith, decode, infoIn}
-use Rattle.frame.specs.Write.{routeEncodable, frameEncodable, writeAnswer, octetsWritten, written}
+use Rattle.frame.specs.Write.{routeEncodable, frameEncodable, contentAnswer, writeAnswer, octetsWritten, written}
 use Rattle.frame.specs.declared.WriteAnswer.the-variants.{Accepted, NoRoom}
 use Rattle.frame.specs.Spell.{repeaterAt, groupsOf, destinationMark, sourceMark, addressField, spell, madeCommand, withMark, Plain, placeInUse, routeInUse, inUse}
 use Rattle.frame.specs.declared.Mark.{Mark}
@@ -87,7 +87,7 @@ plain-info : (mode : Mode) (f : Ax25Frame) (i : List ℕ) → Plain mode f i →
 plain-info mode f i p = by (hasInfo (f .content)) (λ e. rw e) (λ e. rw (e, p .bare e))
 
 plain-written : (mode : Mode) (f : Ax25Frame) (i : List ℕ) (room : ℕ) → Plain mode f i → writeAnswer mode f i room ≡ cond (ltb room (length (spell mode f i))) NoRoom Accepted
-unfolding writeAnswer
+unfolding writeAnswer contentAnswer
 plain-written mode f i room p =
     simp (
       le-ltb 8 (f .«route_count») (p .count),

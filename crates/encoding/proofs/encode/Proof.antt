@@ -23,10 +23,15 @@ info-fits c = sym (c .before .stray-info .ensures) ∙ c .if2 .left
 pid-inside : (c : tie.Else3) → strayPid (c .before .before .before .before .before .before .before .before .args .content) ≡ false
 pid-inside c = sym (c .before .stray-pid .ensures) ∙ c .if3 .left
 
-roomy : (c : tie.Else4)
+room-test : (c : tie.After-lacks-room)
     → let a = c .before .before .before .before .before .before .before .before .before .before .args in
+    lacksRoom (a .mode) (a .content) (length (a .info .now)) (length (a .out .now)) ≡ c .lacks-room .result
+room-test c = sym (c .lacks-room .ensures ∙ rw (c .before .front-len .ensures) refl)
+
+roomy : (c : tie.Else4)
+    → let a = c .before .before .before .before .before .before .before .before .before .before .before .args in
     lacksRoom (a .mode) (a .content) (length (a .info .now)) (length (a .out .now)) ≡ false
-roomy c = sym (c .before .lacks-room .ensures) ∙ c .if4 .left
+roomy c = room-test (c .before) ∙ c .if4 .left
 
 long-frmr-requires : tie.Need-long-frmr-requires
 long-frmr-requires c κs = search needs
@@ -60,16 +65,19 @@ returns-3 c =
     rw (answer-outside (a .mode) (a .content) (length (a .info .now)) (length (a .out .now)) (no-frmr f) (info-fits e) outside)
     (refl, sym (splice-none (a .out .now) 0))
 
+front-len-requires : tie.Need-front-len-requires
+front-len-requires c κs = search needs
+
 lacks-room-requires : tie.Need-lacks-room-requires
 lacks-room-requires c κs = search needs
 
 returns-4 : tie.Need-returns-4
 returns-4 c =
-    let p = c .before .before in
+    let p = c .before .before .before in
     let e = p .before .before in
     let f = e .before .before in
     let a = f .before .before .before .before .args in
-    let short = sym (c .before .lacks-room .ensures) ∙ c .if4 .taken in
+    let short = room-test (c .before) ∙ c .if4 .taken in
     rw (answer-short (a .mode) (a .content) (length (a .info .now)) (length (a .out .now)) (no-frmr f) (info-fits e) (pid-inside p) short)
     (refl, sym (splice-none (a .out .now) 0))
 
@@ -82,7 +90,7 @@ put-requires c κs = search needs
 add-t14 : tie.Need-add-t14
 add-t14 c =
     let l = c .before .before .before .before .before .before .before .before in
-    let a = l .before .before .before .before .before .before .before .before .before .before .args in
+    let a = l .before .before .before .before .before .before .before .before .before .before .before .args in
     let n = c .before .before .before .before .before .before .put-front .ensures .0 in
     let h : length (front (a .mode) (a .content)) + length (a .info .now) ≤ length (a .out .now) =
     ltb-false (length (a .out .now)) (length (front (a .mode) (a .content)) + length (a .info .now)) (roomy l) in
@@ -95,7 +103,7 @@ returns-5 : tie.Need-returns-5
 returns-5 c =
     let first = c .before .before .before .before .before .before .put-front .ensures in
     let l = c .before .before .before .before .before .before .before .before in
-    let p = l .before .before in
+    let p = l .before .before .before in
     let e = p .before .before in
     let f = e .before .before in
     let a = f .before .before .before .before .args in
@@ -112,6 +120,7 @@ encode-spec =
     returns-2
     stray-pid-requires
     returns-3
+    front-len-requires
     lacks-room-requires
     returns-4
     put-front-requires
