@@ -1,5 +1,4 @@
 -- The tests in the definition's order.
-use native.Mathlib.Omega.{arith}
 use borrow.Author.Tests.{le-leb, lt-leb}
 use borrow.Author.Needs.{needs}
 use Rattle.address_field.proofs.has_groups.Statement.{statement}

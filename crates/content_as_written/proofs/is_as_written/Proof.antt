@@ -1,6 +1,5 @@
 -- The control octet's tests are those of the definition, in its order.
-use mathlib.Core.Path.{_≡_, sym, _∙_}
-use mathlib.Core.Bool.{false}
+use mathlib.Core.Path.{_≡_, sym}
 use lib.ListN.{getD}
 use Rattle.parse.specs.Numbers.{isI, isS}
 use Rattle.content_as_written.specs.AsWritten.{asWritten}
