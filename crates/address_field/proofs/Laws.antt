@@ -9,7 +9,8 @@ use lib.ListN.{length}
 use Rattle.octets.proofs.Choice.{both}
 use Rattle.content.specs.declared.FrameContent.{FrameContent}
 use Rattle.decode.specs.Read.{frameAt}
-use Rattle.address_field.specs.Field.{hasGroups, framed}
+use Rattle.decode.specs.Outline.{hasGroups}
+use Rattle.address_field.specs.Field.{framed}
 
 -- what the test tells
 pub has-groups : (len n : ℕ) → hasGroups len n ≡ true → (n ≤ 8) × (14 + 7 * n ≤ len)

@@ -8,7 +8,8 @@ ghost use mathlib.Core.Path.{_≡_};
 ghost use Prim.Native.Nat.{_+_, _*_, _≤_};
 ghost use lib.ListN.{length};
 ghost use Rattle.decode.specs.Read.{parsedAt, routeAt, commandOf, frameAt};
-ghost use Rattle.address_field.specs.Field.{hasGroups, framed};
+ghost use Rattle.decode.specs.Outline.{hasGroups};
+ghost use Rattle.address_field.specs.Field.{framed};
 
 // The address and the mark in the seven octets from `at` on.
 fn parse_group(bytes: &[u8], at: usize) -> ParsedAddress
@@ -77,8 +78,8 @@ fn parse_groups(bytes: &[u8], count: usize, content: FrameContent) -> Ax25Frame
     }
 }
 
-// Whether `len` octets hold two groups and so many more, and a frame has a place for each.
-fn has_groups(len: usize, count: usize) -> bool
+// Whether a frame has places for so many repeaters, and `len` octets hold their groups and two more.
+pub fn has_groups(len: usize, count: usize) -> bool
     ensures { λ r. ⌜ r ≡ hasGroups len count ⌝ }
 {
     if count > 8 {

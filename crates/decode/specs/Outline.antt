@@ -25,9 +25,13 @@ refusedOutline a = record { answer = a; end = 0; «route_count» = defaultFrame 
 abbrev pub outlineOf : Mode → List ℕ → Outline
 outlineOf m s = outlineBy (endOf s) (decode m s)
 
+-- whether a frame has places for n repeaters, and so many octets hold their groups and two more
+abbrev pub hasGroups : ℕ → ℕ → Bool
+hasGroups len n = leb n 8 && leb (14 + 7 * n) len
+
 -- whether so many octets hold an address field up to `end` with n repeaters
 abbrev pub holds : ℕ → ℕ → ℕ → Bool
-holds len end n = ltb end len && (leb n 8 && leb (14 + 7 * n) (end + 1))
+holds len end n = ltb end len && hasGroups (end + 1) n
 
 -- decoding that goes on from an outline. One that tells of more than the octets hold is refused with 4 and their length
 unfoldable pub decodeBy : Mode → List ℕ → Outline → Decoded

@@ -94,10 +94,7 @@ fn holds(len: usize, end: usize, count: usize) -> bool
     if len <= end {
         return false;
     }
-    if count > 8 {
-        return false;
-    }
-    14 + 7 * count <= end + 1
+    address_field::has_groups(end + 1, count)
 }
 
 // The frame that an outline tells of. An outline of other octets, which tells of more than these hold, is refused with 4.

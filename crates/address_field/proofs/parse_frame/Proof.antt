@@ -3,7 +3,8 @@ use mathlib.Core.Path.{_≡_, sym, _∙_}
 use mathlib.Core.Bool.{true}
 use borrow.Author.Tests.{not-true, not-false}
 use lib.ListN.{length}
-use Rattle.address_field.specs.Field.{hasGroups, framed}
+use Rattle.decode.specs.Outline.{hasGroups}
+use Rattle.address_field.specs.Field.{framed}
 use Rattle.address_field.proofs.Laws.{has-groups}
 use borrow.Author.Needs.{needs}
 use Rattle.address_field.proofs.parse_frame.Statement.{statement}
