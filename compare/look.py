@@ -1,5 +1,6 @@
 """Prints the frames of captures by the dumper, each under a line with its place, and behind a number that is not 0 what it means and what to
-do, in docs/NUMBERS.md's words. ./look starts it and says what it does. Its own lines start with '#'; all others are the dumper's."""
+do, in docs/NUMBERS.md's words, and behind a reason what that means. ./look starts it and says what it does. Its own lines start with '#'; all
+others are the dumper's."""
 import os
 import re
 import sys
@@ -9,6 +10,7 @@ sys.dont_write_bytecode = True
 import dumper
 from command import Stop, arguments, complain, number, run, shown, write
 from readers import Capture, Frame, Refused, copied, opened
+from reasons import MEANINGS
 from survey import Survey
 
 INPUT, NAMELESS = '-', 'standard input'
@@ -47,7 +49,7 @@ def standard_input(raw):
 
 
 def explain(answer, words):
-    """The words of an answer that is not 0."""
+    """The words of an answer that is not 0, or of the reason why a frame is not canonical."""
     said = re.match(rb'answer=(\d+)\n', answer)
     if not said:
         raise Stop('the dumper gave no answer')
@@ -55,6 +57,9 @@ def explain(answer, words):
         name, means, to_do = words.get(said[1].decode(), ('no row in docs/NUMBERS.md', 'not said', 'not said'))
         say(f'{said[1].decode()} ({name}): {means}')
         say(f'What to do: {to_do}')
+    reason = re.search(rb'^reason=(\w+)\n', answer, re.M)
+    if reason and (means := MEANINGS.get(reason[1].decode())):
+        say(f'not canonical: {means}')
 
 
 def show(name, frame, answer, words):

@@ -1,6 +1,6 @@
 /* AX.25 frames for the relay box: the calls of libax25frame.a, for x86-64.
 
-   Nine calls on octets that the caller lends: six on frames, two on the KISS packets that carry frames to a modem and back, and
+   Ten calls on octets that the caller lends: seven on frames, two on the KISS packets that carry frames to a modem and back, and
    one on a serial line, which gives such packets in pieces. Each is proved to give exactly the answer that its contract states,
    for every input, to read and write nothing but what is lent to it, and to return. It is a port of the Rust crate ax25 0.4.0, under
    the licence Apache-2.0: the file NOTICE has its text, and says whose work this is.
@@ -11,23 +11,23 @@
    - A flag before the frame is read as the destination's first character, so that every address begins one octet early. A KISS packet's
      C0 and type octet shift them by two. What can be read so is accepted, as a frame with wrong addresses, in which ax25_relay looks
      for our own station in the wrong octets. If the frame itself was canonical, what is given is not: an octet or two are left over in
-     its address field. The type octet alone shifts by one; that of port 0 is AX25_LEADING_NULL_BYTES.
+     its address field, which is AX25_REASON_LEFTOVER. The type octet alone shifts by one; that of port 0 is AX25_LEADING_NULL_BYTES.
    - The escapes of a KISS packet, DB DC for C0 and DB DD for DB, are two octets each where they are left in. In info that is all; in
      an address DB ends the address field, since its low bit is set.
    - A check sequence, a flag or a C0 behind the frame is more info of an I, UI, XID or TEST frame, which is as canonical as it was
-     without. Of an FRMR it is AX25_WRONG_SIZE_FRMR_INFO. Of any other kind it is a tail: ignored, dropped by re-encoding, and not canonical.
-     ax25_relay leaves it where it is, so that a check sequence no longer fits what was marked.
+     without. Of an FRMR it is AX25_WRONG_SIZE_FRMR_INFO. Of any other kind it is a tail, AX25_REASON_TAIL: ignored, dropped by
+     re-encoding, and not canonical. ax25_relay leaves it where it is, so that a check sequence no longer fits what was marked.
 
    What every call asks of its caller:
    - `in`, `callsign` and `piece` point to `in_len`, `callsign_len` and `piece_len` octets that may be read, `out` to `out_len`
      octets that may be written, `frame` to `frame_len` octets that may be read and written. `port`, where it is a pointer, points to
-     one uint8_t and `length` to one size_t that may be written, `packet` to one struct; what they held does not matter. `stream`
-     points to one struct that may be read and written. No octet is kept or looked at after the return, and `in`, `callsign` and
-     `piece` are never written.
+     one uint8_t, `number` to one uint32_t, `length` and `place` to one size_t each and `packet` to one struct, all of which may be
+     written; what they held does not matter. `stream` points to one struct that may be read and written. No octet is kept or looked
+     at after the return, and `in`, `callsign` and `piece` are never written.
    - No pointer is null. Where a length is 0, any pointer that is not null will do.
    - No two of the things that are lent to one call overlap, not even in part.
-   - `length`, `stream` and `packet` are aligned as C aligns a size_t and the structs. No other alignment is asked, and no length is
-     too long or too short: whatever can't be read as a frame or as a packet gets a number, or is passed over.
+   - `number`, `length`, `place`, `stream` and `packet` are aligned as C aligns a uint32_t, a size_t and the structs. No other alignment
+     is asked, and no length is too long or too short: whatever can't be read as a frame or as a packet gets a number, or is passed over.
    - The calling convention is that of System V for x86-64: a stack aligned to 16 octets, and SSE2 usable.
 
    What every call leaves alone: there is no heap, no state but what is lent, no input or output and no lock. So any call may run at
@@ -42,6 +42,7 @@
        ax25_decode               yes   no         no
        ax25_decode_old_capture   yes   no         no
        ax25_canonical            yes   no         no
+       ax25_reason               yes   no         no
        ax25_relay                yes   no         no
        ax25_reencoded_length     yes   no         no
        ax25_reencode             yes   no         yes
@@ -68,17 +69,18 @@ extern "C" {
 
 /* The version of the component: header and archive belong together. A step of the first number changes an answer of a call, one of
    the second adds something, one of the third does neither. */
-#define AX25_VERSION "2.0.0"
+#define AX25_VERSION "2.1.0"
 #define AX25_VERSION_MAJOR 2
-#define AX25_VERSION_MINOR 0
+#define AX25_VERSION_MINOR 1
 #define AX25_VERSION_PATCH 0
 
 /* No call uses more stack than this, in octets, its return address included. What memcpy and memset use comes on top. */
 #define AX25_STACK 1024
 
-/* Every number that the component gives. The calls give 0 to 5, 7 to 10, 22, 24, 41 to 43 and 51 to 56; the others belong to parts
-   that C does not reach: the long mode, writing records, text and the dumper. All calls read and write frames in the short mode, in
-   which sequence numbers are taken modulo 8; the long mode takes them modulo 128. */
+/* Every number that the component gives. The calls give 0 to 5, 7 to 12, 22, 24, 41 to 43 and 51 to 56; the others belong to parts
+   that C does not reach: writing records, text and the dumper. A frame is of the short mode, in which sequence numbers are taken
+   modulo 8, or of the long one, which takes them modulo 128. ax25_reason reads in the mode that it is told, and gives 11 and 12 in the
+   long one; the other calls read and write frames in the short mode alone. */
 enum ax25_number {
     AX25_ACCEPTED = 0,
 
@@ -144,8 +146,36 @@ uint32_t ax25_decode(const uint8_t *in, size_t in_len);
 uint32_t ax25_decode_old_capture(const uint8_t *in, size_t in_len);
 
 /* 1 where the input is canonical, else 0. Canonical means: accepted, and exactly what re-encoding it would give. There is
-   one such spelling of each frame. */
+   one such spelling of each frame. Why an input is not canonical is said by ax25_reason. */
 uint32_t ax25_canonical(const uint8_t *in, size_t in_len);
+
+/* Why an input is not canonical: what ax25_reason gives. */
+enum ax25_reason_code {
+    AX25_REASON_NONE = 0,     /* it is canonical */
+    AX25_REASON_LEFTOVER = 1, /* octets are left over between the last whole address and the end: the span is no multiple of seven */
+    AX25_REASON_MARKS = 2,    /* the command/response mark is absent: the highest bits of in[6] and in[13] are equal */
+    AX25_REASON_TAIL = 3,     /* octets stand after the control field of RR, RNR, REJ, SREJ, SABM, SABME, DISC, DM or UA */
+    AX25_REASON_FIXED = 4,    /* a bit is set that reading ignores and writing clears: in FRMR the high four of the first info octet or
+                                 the low one of the second; in RR, RNR, REJ and SREJ of the long mode the high four of the control
+                                 field's first octet */
+    AX25_REASON_REFUSED = 5   /* it can't be read as a frame */
+};
+
+/* Why the input is not canonical, in the short mode where `mode` is 0, and in the long one where it is any other number. Nothing in a
+   frame tells its mode: it is that of the link on which the frame was sent. Canonical in the long mode means: accepted in that mode, and
+   exactly what re-encoding in it would give, for which there is no call.
+
+   AX25_REASON_NONE is given exactly where the input is canonical; in the short mode that is where ax25_canonical gives 1. Of any other
+   input that is accepted the first of 1 to 4 that holds is given. In all these cases *number and *place are 0.
+
+   AX25_REASON_REFUSED is given where the input is refused. Then *number is what decoding in that mode gives: in the short one the number
+   of ax25_decode, in the long one the first of 1, 10, 2, 3, 4, 9, 12, 5, 7, 11 that holds. And *place is a place in the input, from 0 on:
+   - 0 for AX25_ONLY_NULL_BYTES, AX25_NO_END_TO_ADDRESS_FIELD and AX25_LEADING_NULL_BYTES;
+   - the end of the address field for AX25_ADDRESS_FIELD_TOO_SHORT and AX25_FRAME_TOO_SHORT;
+   - 70, where a ninth repeater starts, for AX25_TOO_MANY_REPEATERS;
+   - the control octet, which is the one after the end, for all others.
+   So in[*place] is an octet of the input, unless that is empty. */
+uint32_t ax25_reason(const uint8_t *in, size_t in_len, uint32_t mode, uint32_t *number, size_t *place);
 
 /* THIS IS THE CALL FOR FORWARDING A FRAME; ax25_reencode is not. Where the repeater that is due is our own station, its mark is set
    in `frame` and the answer is AX25_ACCEPTED. That one bit, the highest of frame[20 + 7 * due place], is all that changes: everything
@@ -181,7 +211,7 @@ size_t ax25_reencoded_length(const uint8_t *in, size_t in_len);
      such frames of the long mode,
    - clears FRMR's unnamed bits: the high four of its first info octet and the low one of its second.
    All else is kept, every PID and the two reserved bits of every address too. A canonical frame has none of these and re-encodes as
-   itself. */
+   itself; of any other ax25_reason, in the short mode, names the first of these. */
 uint32_t ax25_reencode(const uint8_t *in, size_t in_len, uint8_t *out, size_t out_len);
 
 /* KISS packets: how a modem is given a frame, and how it gives one. A packet is C0; a type octet with the port, 0 to 11, in its

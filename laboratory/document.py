@@ -2,6 +2,7 @@
 import os
 
 from pages import Code, Heading, Items, Paragraph, Signatures, Table, Together, Verbatim
+from reasons import MEANINGS
 from verdict import many
 
 # How many files that are not as committed stand on a page.
@@ -247,6 +248,23 @@ def capture_row(capture):
             Code(capture['sha256']), len(capture['doubts']) or 'none']
 
 
+def spelling_row(name, frames, counts):
+    reasons = [counts['reasons'][word] for word in MEANINGS]
+    return [name, *(f'{count:,}' for count in (frames - counts['accepted'], counts['accepted'], counts['canonical'], *reasons))]
+
+
+def spellings(part, every):
+    """How many frames of each capture are not canonical, and why (document 02, M-110)."""
+    rows = [spelling_row(Code(capture['file']), capture['frames'], capture) for capture in every if capture['compared']]
+    return [
+        Heading('Frames that are not canonical'),
+        Paragraph('A frame that is accepted is canonical where re-encoding would write it just as it came. Each that is not is counted once, by the '
+                  'first of these reasons that holds of it, read in the short mode, in which sequence numbers are modulo 8:'),
+        Items([f'{word}: {means}' for word, means in MEANINGS.items()]),
+        Table(['file', 'refused', 'accepted', 'canonical', *MEANINGS], [*rows, spelling_row('all', part['decodes'], part)]),
+    ]
+
+
 CAPTURE_HEADS = ['file', 'format', 'octets', 'frames', 'KISS packets', 'passed over', 'SHA-256', 'doubts']
 
 
@@ -264,7 +282,8 @@ def captures(report):
         return out + [Paragraph('Not compared.')]
     said = [f"{many(part['decodes'], 'decode')} and {many(part['writes'], 'write')} compared: {part['accepted']:,} accepted, "
             f"{part['canonical']:,} of them canonical."]
-    return out + [Paragraph('What came of them:'), Items(said + [of(part) for of in (nulls, relays, pairs, packets, streams, rooms)])]
+    out += [Paragraph('What came of them:'), Items(said + [of(part) for of in (nulls, relays, pairs, packets, streams, rooms)])]
+    return out + spellings(part, every)
 
 
 def compared(report):

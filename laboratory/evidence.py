@@ -94,11 +94,21 @@ def differences(part, file, folder):
     return {'unlisted': part and part['mismatches'], 'written': part['mismatches_written'] if there else None, 'file': file if there else None}
 
 
+# What came of a capture's frames: how many were accepted and canonical, and the others of these by reason.
+SPELLED = ('accepted', 'canonical', 'reasons')
+
+
 def captures_of(checked, compared):
-    """Each capture as it was looked over at the start, and whether that is what was compared. Both are in the order in which they were given."""
+    """Each capture as it was looked over at the start, whether that is what was compared, and what came of its frames, which is not known
+    (None) of another. Both are in the order in which they were given."""
     found = (checked or {}).get('captures', [])
     others = iter((compared or {}).get('captures', []))
-    return [{**capture, 'compared': 'refused' not in capture and same(capture, next(others, {}))} for capture in found]
+    return [{**capture, **of_frames(capture, {} if 'refused' in capture else next(others, {}))} for capture in found]
+
+
+def of_frames(capture, other):
+    compared = bool(other) and same(capture, other)
+    return {'compared': compared, **{name: other[name] if compared else None for name in SPELLED}}
 
 
 def same(capture, other):

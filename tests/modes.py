@@ -62,6 +62,9 @@ def single_modes():
     address = '424F583132200303'
     for line, *words in [
         (f'port: decode 0 canonical 1 re-encoded length 18; re-encode into 18: 0 octets {FRAME}', 'one', FRAME),
+        ('port: reason none (0) number 0 place 0', 'one', FRAME),
+        ('port: reason tail (3) number 0 place 0', 'one', FRAME[:28] + '01AA'),
+        ('port: reason refused (5) number 4 place 13', 'one', FRAME[:28]),
         ('port: the same frame and info; Rust: the same frame and info', 'pair', FRAME, FRAME),
         ('port: number 0 "BOX12 "-3 (reserved 3)', 'text', 'BOX12-3'),
         ('port: number 35 nothing', 'text-hex', 'C3A9'),
@@ -162,7 +165,8 @@ def wrong_lists():
     ran, left = answered(listed(good))
     ends('a list with every sort of line', ran, 0, '4 passed, 0 failed')
     owed = {'file': 'made', 'format': 'KISS log', 'sha256': 'ab' * 32, 'octets': 4, 'frames': 1, 'packets': 1,
-            'passed_over': ['octet 9: why'], 'passed_over_more': 0}
+            'passed_over': ['octet 9: why'], 'passed_over_more': 0, 'accepted': 1, 'canonical': 1,
+            'reasons': {'leftover': 0, 'marks': 0, 'tail': 0, 'fixed': 0}}
     check('its JSON', '' if left['captures'] == [owed] else left['captures'])
     ran, left = answered(listed(good[:2]))
     digest = {key: left['captures'][0][key] for key in ('sha256', 'octets')}
@@ -311,6 +315,13 @@ def canonical_ones():
         check(f"{' '.join(frame[28:] for frame in frames)}: {owed[0]} come again, {owed[1]} with no canonical one", '' if counts == owed else counts)
 
 
+def by_reason():
+    """What is printed of frames that are not canonical: SABM with a tail, twice, and FRMR with a bit that nothing reads."""
+    frames = [FRAME[:28] + content for content in ('2F01', '2F02', '87010344', '2F')]
+    ran = run('frames', listed([f'frame\tline 1\t{frame}' for frame in frames], 'hex lines'))
+    ends('frames that are not canonical are counted by reason', ran, 0, 'not canonical, by reason: leftover: 0, marks: 0, tail: 2, fixed: 1')
+
+
 def progress():
     path = listed(['frame\tline 1\t' + FRAME] * 3, 'hex lines')
     quiet = run('frames', path, '--of', 3)
@@ -343,7 +354,7 @@ def modes():
     check('every mode was run', ', '.join(sorted(there - run_here - {'bench', 'captures'})))
 
 
-for part in (memory, remembered, canonical_ones, single_modes, refusals, only, closed_pipes, wrong_lists, many_notes, by_every_way, stretches, differences, progress, figures, modes):
+for part in (memory, remembered, canonical_ones, by_reason, single_modes, refusals, only, closed_pipes, wrong_lists, many_notes, by_every_way, stretches, differences, progress, figures, modes):
     try:
         part()
     except Exception as why:

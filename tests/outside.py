@@ -108,17 +108,33 @@ def tail(dice, frame):
     frame += bytes(dice.roll(256) for _ in range(1 + dice.roll(3)))
 
 
+def leftover(dice, frame):
+    """The end bit is that of an octet behind the last address, one to six octets on."""
+    field = 7 * len(Layout(frame).groups)
+    frame[field - 1] &= 0xFE
+    frame[field:field] = bytes(dice.roll(128) << 1 for _ in range(dice.roll(6))) + bytes([dice.roll(128) << 1 | 1])
+
+
+def fixed(dice, frame):
+    """One or more of the five bits of FRMR that nothing reads."""
+    bits = 1 + dice.roll(31)
+    frame[-3] |= bits >> 1 << 4
+    frame[-2] |= bits & 1
+
+
 def spoilt_frames():
-    """Frames made as above with one thing that the port accepts and does not call canonical (A12, A4)."""
+    """Frames made as above with one thing that the port accepts and does not call canonical (A12, A4, A2, A10), by the reason that it gives."""
     dice = Dice(52)
     frames = made_frames()
     short = [frame for frame in frames if Layout(frame).kind() not in (*HAS_INFO, 'FRMR')]
-    spoilt = []
-    for spoil, whole in ((equal_marks, frames[::6]), (tail, short[::2])):
-        for frame in map(bytearray, whole):
+    rejects = [frame for frame in frames if Layout(frame).kind() == 'FRMR']
+    spoilt = {}
+    for reason, spoil, whole in (('marks', equal_marks, frames[::6]), ('tail', tail, short[::2]), ('leftover', leftover, frames[::16]),
+                                 ('fixed', fixed, rejects * 2)):
+        spoilt[reason] = list(map(bytearray, whole))
+        for frame in spoilt[reason]:
             spoil(dice, frame)
-            spoilt.append(bytes(frame))
-    return spoilt
+    return {reason: list(map(bytes, frames)) for reason, frames in spoilt.items()}
 
 
 def listed_frames():
@@ -128,7 +144,7 @@ def listed_frames():
 
 
 def all_frames():
-    return listed_frames() + made_frames() + spoilt_frames()
+    return listed_frames() + made_frames() + [frame for frames in spoilt_frames().values() for frame in frames]
 
 
 def hex_line(octets):
@@ -196,7 +212,7 @@ class Layout:
 # not accepted, `accepted` is the only one.
 
 FIELDS = ['accepted', 'destination', 'source', 'repeaters', 'marks', 'reserved', 'mark', 'kind', 'control', 'nr', 'ns', 'pf', 'pid',
-          'layer_3', 'frmr', 'info_length', 'canonical']
+          'layer_3', 'frmr', 'info_length', 'canonical', 'reason']
 REFUSED = {'accepted': 'no'}
 NO_PID = {'pid': '-', 'layer_3': '-'}
 NOT_UNDERSTOOD = {'accepted': 'something not understood'}
@@ -241,7 +257,7 @@ def by_dumper(text):
         'mark': said['mark'], 'kind': kind, 'control': said['control'],
         'nr': str(control >> 5) if numbered else '-', 'ns': str(control >> 1 & 7) if kind == 'I' else '-', 'pf': str(control >> 4 & 1),
         **dumper_pid(pid), 'frmr': None if kind == 'FRMR' else '-',
-        'info_length': said['info_length'] if kind in HAS_INFO else '-', 'canonical': said['canonical']}
+        'info_length': said['info_length'] if kind in HAS_INFO else '-', 'canonical': said['canonical'], 'reason': said['reason']}
 
 
 def answered(printed, lines):
@@ -252,13 +268,18 @@ def answered(printed, lines):
     return [(int(number), bytes.fromhex(octets)) for number, _, octets in pairs]
 
 
-def canonical(groups, kind, stray):
-    """What a report says of the spelling: None where it leaves out what decides. `stray`: octets follow where no info may."""
-    marks = groups[0].mark != groups[1].mark
-    ends = [group.last for group in groups] == [0] * (len(groups) - 1) + [1]
-    if not (marks and ends) or stray:
-        return 'no'
-    return None if kind == 'FRMR' else 'yes'
+def spelling(groups, kind, stray):
+    """What a report says of the spelling, and why it is not canonical: None where it leaves out what decides. `stray`: octets follow where no
+    info may."""
+    if [group.last for group in groups] != [0] * (len(groups) - 1) + [1]:
+        reason = 'leftover'
+    elif groups[0].mark == groups[1].mark:
+        reason = 'marks'
+    elif stray:
+        reason = 'tail'
+    else:
+        reason = None if kind == 'FRMR' else 'none'
+    return {'canonical': {None: None, 'none': 'yes'}.get(reason, 'no'), 'reason': reason}
 
 
 def common(groups, kind, pid, after):
@@ -270,7 +291,7 @@ def common(groups, kind, pid, after):
         'repeaters': listed(group.address for group in groups[2:]), 'marks': listed(str(group.mark) for group in groups[2:]),
         'reserved': listed(str(group.reserved) for group in groups), **pid,
         'frmr': None if kind == 'FRMR' else '-', 'info_length': '-' if not has_info else None if after is None else str(after),
-        'canonical': canonical(groups, kind, stray=not has_info and kind != 'FRMR' and after)}
+        **spelling(groups, kind, stray=not has_info and kind != 'FRMR' and after)}
 
 
 # tshark
@@ -407,7 +428,7 @@ BOTH = [
      "FRMR's length: the program does not look at it"),
     (SILENCE, ['frmr'], of_kind('FRMR'),
      "FRMR's three octets: neither the dumper nor the program prints them (A9, A10)"),
-    (SILENCE, ['canonical'], of_kind('FRMR'),
+    (SILENCE, ['canonical', 'reason'], of_kind('FRMR'),
      "whether FRMR's bits without a name are zero: the program does not say (A10)"),
 ]
 TSHARK = BOTH + [
@@ -554,13 +575,16 @@ def compare(folder, program):
     count.end()
 
 
-def check_spelling(count, frames, wanted, what, readings, again):
-    wrong = [frame for frame in frames if readings[frame].get('canonical') != wanted or (again[frame] == frame) != (wanted == 'yes')]
-    octets = 'the same octets' if wanted == 'yes' else 'other octets'
-    count.fail_all([f'the dumper should accept this and say canonical={wanted}, and ax25_reencode write {octets}: {hex_line(frame)}'
-                    for frame in wrong])
+def check_spelling(count, frames, reason, readings, again):
+    """The frames of one reason, or plain ones: what the dumper says of their spelling, and whether they are written anew as they were."""
+    is_plain = reason == 'none'
+    said = {'canonical': 'yes' if is_plain else 'no', 'reason': reason}
+    wrong = [frame for frame in frames if said.items() - readings[frame].items() or (again[frame] == frame) != is_plain]
+    words, octets = ' and '.join('='.join(pair) for pair in said.items()), 'the same octets' if is_plain else 'other octets'
+    count.fail_all([f'the dumper should accept this and say {words}, and ax25_reencode write {octets}: {hex_line(frame)}' for frame in wrong])
     if not wrong:
-        count.ok(f'the dumper accepts {len(frames)} {what} and says canonical={wanted}, and ax25_reencode writes {octets}')
+        what = 'plain' if is_plain else 'spoilt'
+        count.ok(f'the dumper accepts {len(frames)} {what} frames and says {words}, and ax25_reencode writes {octets}')
 
 
 def check_reserved(count):
@@ -575,8 +599,8 @@ def made(folder):
     """What is known of the frames made here without any other program."""
     count, every = Count(), all_frames()
     readings, again = dict(zip(every, port_readings(folder, every))), dict(zip(every, reencoded(folder, every)))
-    check_spelling(count, made_frames(), 'yes', 'plain frames', readings, again)
-    check_spelling(count, spoilt_frames(), 'no', 'frames with equal marks or a tail', readings, again)
+    for reason, frames in {'none': made_frames(), **spoilt_frames()}.items():
+        check_spelling(count, frames, reason, readings, again)
     check_reserved(count)
     count.end()
 

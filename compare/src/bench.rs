@@ -82,11 +82,12 @@ fn cases() -> Vec<Case> {
 
 /// Times of the port and of the Rust by input.
 type Call = fn(&[Vec<u8>]) -> [f64; 2];
-const CALLS: [(&str, Call); 6] = [
+const CALLS: [(&str, Call); 7] = [
     ("decode", decode),
     ("old capture", old_capture),
     ("read", read),
     ("canonical", canonical),
+    ("reason", reason),
     ("length", length),
     ("re-encode", reencode),
 ];
@@ -146,9 +147,19 @@ fn read(inputs: &[Vec<u8>]) -> [f64; 2] {
     race(inputs.len(), [&mut timed(port), &mut timed(rust)])
 }
 
-/// The Rust has no canonical check: decoding, writing and comparing is what its caller would do.
 fn canonical(inputs: &[Vec<u8>]) -> [f64; 2] {
-    let port = || inputs.iter().for_each(|input| keep(&bare::canonical(input)));
+    beside_check(inputs, bare::canonical)
+}
+
+/// What the Rust's caller would do does not say why, only whether.
+fn reason(inputs: &[Vec<u8>]) -> [f64; 2] {
+    let (mut number, mut place) = (0, 0);
+    beside_check(inputs, move |input| bare::reason(input, &mut number, &mut place))
+}
+
+/// The Rust has no canonical check: decoding, writing and comparing is what its caller would do.
+fn beside_check(inputs: &[Vec<u8>], mut call: impl FnMut(&[u8]) -> u32) -> [f64; 2] {
+    let port = move || inputs.iter().for_each(|input| keep(&call(input)));
     let rust = || {
         for input in inputs {
             keep(&Ax25Frame::from_bytes(input).map_or(false, |frame| frame.to_bytes() == *input));

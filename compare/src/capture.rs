@@ -7,14 +7,18 @@ use crate::pairs::{self, Desk};
 use crate::port::Port;
 use crate::progress::Part;
 use crate::report::{self, Report};
+use crate::seen::Spellings;
 
 /// Compares every frame and every KISS packet of every capture, every KISS log as a stream, and frames with so many different ones before
 /// them. Why a capture could not be read is printed.
 pub fn compare(list: &List, remembered: usize, mut report: Report) -> Report {
     let mut checker = Checker::new();
     let mut desk = Desk::new(remembered);
+    let mut spellings = Vec::new();
     for capture in &list.captures {
+        let before = checker.seen.spellings;
         compare_one(&mut checker, &mut report, &mut desk, list, capture);
+        spellings.push(checker.seen.spellings.since(&before));
     }
     for (file, problem) in &list.refused {
         println!("REFUSED: {}: {}", file, problem);
@@ -32,14 +36,14 @@ pub fn compare(list: &List, remembered: usize, mut report: Report) -> Report {
     println!("frames behind leading nulls, refused and read as old captures: {}", checker.seen.old_captures.nulled);
     report.extra("leading_nulls", checker.seen.old_captures.nulled.to_string());
     report.extra("relayed_routes", checker.seen.relayed_routes.to_string());
-    report.extra("captures", report::list(list.captures.iter().map(capture_json)));
+    report.extra("captures", report::list(list.captures.iter().zip(&spellings).map(capture_json)));
     report.extra("refused_captures", report::list(list.refused.iter().map(refused_json)));
     report
 }
 
-fn capture_json(capture: &Capture) -> String {
+fn capture_json((capture, spellings): (&Capture, &Spellings)) -> String {
     let null = || "null".to_string();
-    report::object(&[
+    let fields = [
         ("file", report::string(&capture.file)),
         ("format", report::string(&capture.format)),
         ("sha256", capture.digest.as_ref().map_or_else(null, |(digest, _)| report::string(digest))),
@@ -48,7 +52,8 @@ fn capture_json(capture: &Capture) -> String {
         ("packets", capture.packets.to_string()),
         ("passed_over", report::list(capture.notes.iter().map(|note| report::string(note)))),
         ("passed_over_more", (capture.passed_over - capture.notes.len() as u64).to_string()),
-    ])
+    ];
+    report::object(&[&fields[..], &report::spelled(spellings)].concat())
 }
 
 fn refused_json((file, problem): &(String, String)) -> String {

@@ -9,6 +9,7 @@ use crate::lent::{rooms, Room, Tried, LONGER};
 use crate::oracle::{self, Decode, Refusal};
 use crate::pairs::{Outcome, Way};
 use crate::port::{Beside, Entry, Fed, Packet, Port, State, HOPS, PLACES};
+use crate::reasons::{Reason, Why};
 use crate::records;
 use crate::relays::{self, Own};
 use crate::rng::Rng;
@@ -215,9 +216,12 @@ impl Checker {
             self.holds_all(record, info, frame);
             self.again(record, record);
         }
-        self.seen.frame(input, record, octets == input);
+        let reason = Reason::of(input);
+        self.seen.frame(input, record, octets == input, reason);
         self.decode(Entry::Decoder, input, owed);
         self.loader(input, 0, &octets);
+        self.reason(input, Why::accepted(reason));
+        self.reason_beside(reason, octets == input);
         for room in self.rooms(Tried::Some, octets.len()) {
             self.seen.written(Writer::Reencode, record, info, Room::of(room, octets.len()));
             self.reencode(input, 0, &octets, room);
@@ -255,6 +259,7 @@ impl Checker {
         self.seen.refusal(input, owed.number);
         self.decode(Entry::Decoder, input, owed);
         self.loader(input, owed.number, &[]);
+        self.reason(input, Why::refused(input, owed.number));
         for room in self.refused_rooms(input) {
             self.seen.refused_room(owed.number, room, input.len());
             self.reencode(input, owed.number, &[], room);
@@ -320,6 +325,22 @@ impl Checker {
                 format!("number {} canonical {} re-encoded length {}", show::number(number), canonical, length)
             };
             self.differ("the loader's calls", || say(owed), |_| say(port));
+        }
+    }
+
+    /// The loader's call that says why.
+    fn reason(&mut self, input: &[u8], owed: Why) {
+        let port = self.port.reason(input);
+        if port != owed {
+            self.differ("the reason", || show::why(&owed), |_| show::why(&port));
+        }
+    }
+
+    /// What document 02's words say of an accepted input is held to its re-encoding: none exactly where that is the input.
+    fn reason_beside(&mut self, reason: Reason, canonical: bool) {
+        if canonical != (reason == Reason::None) {
+            let owes = || format!("none exactly where the re-encoding is the input, which it is{}", if canonical { "" } else { " not" });
+            self.differ("the reason by M-110's words, in the port's place", owes, |_| format!("{:?}", reason));
         }
     }
 

@@ -290,7 +290,7 @@ pub fn test(scale: usize, seed: u64, mut report: Report) -> Report {
     unseen(&mut checker, &mut report, scale, &mut seeds);
     if report.only.is_none() {
         let (missing, stray) = (checker.seen.missing(), checker.seen.stray());
-        class(&mut checker, &mut report, "met: every number but 6, kind, mark, PID, layer 3 octet, reserved bits, route length, room, search, old capture, due place, KISS port, cut, changed bit, pair, listed difference, and kind that the Rust does not know, at each entry", |c| c.missing(missing, stray));
+        class(&mut checker, &mut report, "met: every number but 6, kind, mark, PID, layer 3 octet, reserved bits, route length, reason, room, search, old capture, due place, KISS port, cut, changed bit, pair, listed difference, and kind that the Rust does not know, at each entry", |c| c.missing(missing, stray));
     } else {
         println!("left out: met, which is of all classes together");
     }

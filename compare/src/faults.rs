@@ -1,7 +1,7 @@
 //! Deliberate faults, for `compare/faults` alone: each call of the port is wrapped, and spoils what the proved code answered by the
 //! fault that COMPARE_FAULT names. The linker puts these in the calls' places (`--wrap`) and leaves the port's own under `__real_`.
 //! Some faults are the Rust's: in its writing it is held to an octet, and to bits, that the port does not owe, and in its reading to what
-//! its frame lacks, to skipping nulls, and to refusing the kinds that it does not know.
+//! its frame lacks, to skipping nulls, and to refusing the kinds that it does not know. One is of the comparison's own words, for reasons.
 
 use crate::check::{padded, with_plain_addresses};
 use crate::domain::{self, RESERVED_BITS, RUST_LAYER_3};
@@ -10,12 +10,13 @@ use crate::flat::{ENTRY, GROUP, ONES, PID, PID_LAYER_3, PID_OCTET, PID_UNKNOWN, 
 use crate::flat::{REJ, SABM, SABME, SREJ, TEST, XID};
 use crate::kiss::{FEND, FESC, LONGEST, PORTS, TFEND, TFESC};
 use crate::port::{Packet, State};
+use crate::reasons::{self, Reason, REASONS};
 use ax25::frame::{Ax25Frame, FrameContent, FrameParseError, ProtocolIdentifier};
 use std::slice::{from_raw_parts, from_raw_parts_mut};
 use std::sync::atomic::{AtomicUsize, Ordering};
 
 /// What each fault does, from 1 on, and words in the name of a class that has to find it.
-const FAULTS: [(&str, &str); 277] = [
+const FAULTS: [(&str, &str); 299] = [
     ("re-encoding writes the address field, then answers 24", "every prefix"),
     ("re-encoding writes the address field, then refuses the content", "every prefix"),
     ("re-encoding into no room at all answers 0", "every prefix"),
@@ -293,6 +294,28 @@ const FAULTS: [(&str, &str); 277] = [
     ("the Rust refuses XID by 6 in content alone", "content alone: every content"),
     ("the Rust reads TEST as RR on its way", "relay: kinds that the Rust does not know"),
     ("the Rust reads SREJ in a pair", "unseen: every bit"),
+    ("a tail comes before absent marks as the reason", "octets: every bit of good"),
+    ("absent marks come before leftover octets as the reason", "octets: every pair"),
+    ("leftover octets are told by the place of the end", "example's addresses"),
+    ("marks that are both set are no reason", "octets: every pair"),
+    ("a tail is no reason", "example's addresses"),
+    ("a tail is no reason, nor by the comparison's words", "example's addresses"),
+    ("XID's info is a tail", "octets: kinds that the Rust does not know"),
+    ("the low bit of FRMR's second info octet is no reason", "octets: FRMR"),
+    ("the highest bit of FRMR's first info octet is no reason", "octets: FRMR"),
+    ("reserved bits that are not ones are a reason", "octets: every setting"),
+    ("the reason is that of the long mode", "example's addresses"),
+    ("the reason passes over nulls", "octets: leading nulls"),
+    ("the reason of a refused input is its number", "every prefix"),
+    ("the reason of a refused input leaves the number as it was", "every prefix"),
+    ("the reason of an accepted input leaves the place as it was", "example's addresses"),
+    ("the reason writes behind the number", "example's addresses"),
+    ("the place of 3 is the start", "octets: every bit of good"),
+    ("the place of 4 is that of the control octet", "every prefix"),
+    ("the place of 5 is that of the PID", "every prefix"),
+    ("the place of 7 is that behind whole addresses", "octets: every bit of good"),
+    ("the place of 9 is that of the control octet", "octets: every octet at every address place"),
+    ("the place of 10 is that of the first octet that is no null", "octets: leading nulls"),
 ];
 
 /// A line for each fault: its number, the words, and what it does.
@@ -317,6 +340,7 @@ extern "C" {
     fn __real_ax25_decode(input: *const u8, input_len: usize) -> u32;
     fn __real_ax25_decode_old_capture(input: *const u8, input_len: usize) -> u32;
     fn __real_ax25_canonical(input: *const u8, input_len: usize) -> u32;
+    fn __real_ax25_reason(input: *const u8, input_len: usize, mode: u32, number: *mut u32, place: *mut usize) -> u32;
     fn __real_ax25_reencoded_length(input: *const u8, input_len: usize) -> usize;
     fn __real_ax25_reencode(input: *const u8, input_len: usize, out: *mut u8, out_len: usize) -> u32;
     fn __real_ax25_relay(callsign: *const u8, callsign_len: usize, ssid: u8, frame: *mut u8, frame_len: usize) -> u32;
@@ -595,6 +619,72 @@ unsafe extern "C" fn __wrap_ax25_canonical(input: *const u8, input_len: usize) -
             __real_ax25_canonical(looked_at.as_ptr(), looked_at.len())
         }
     }
+}
+
+/// The reason that a faulty call might give to an accepted input in the place of this one.
+unsafe fn misreasoned(input: &[u8], reason: Reason) -> Reason {
+    let told_by_end = if is("leftover octets are told by the place of the end") { (reasons::span(input) - 1) % GROUP } else { 0 };
+    match reason {
+        _ if told_by_end > 0 => Reason::Leftover,
+        Reason::Leftover if is("absent marks come before leftover octets as the reason") && Reason::Marks.holds(input) => Reason::Marks,
+        Reason::Marks if is("a tail comes before absent marks as the reason") && Reason::Tail.holds(input) => Reason::Tail,
+        Reason::Marks if is("marks that are both set are no reason") && octet(input, domain::seventh(0, 0)) & 0x80 != 0 => Reason::None,
+        Reason::Tail if is("a tail is no reason") => Reason::None,
+        Reason::None if is("XID's info is a tail") && matches!(Unknown::of(input), Unknown { kind: XID, behind: 1.., .. }) => Reason::Tail,
+        Reason::Fixed if is("the low bit of FRMR's second info octet is no reason") && !has_excepted(input, 0, 0xF0) => Reason::None,
+        Reason::Fixed if is("the highest bit of FRMR's first info octet is no reason") && !has_excepted(input, 0, 0x70) => {
+            if has_excepted(input, 1, 0x01) { Reason::Fixed } else { Reason::None }
+        }
+        Reason::None if is("reserved bits that are not ones are a reason") && has_clear(input) => Reason::Fixed,
+        reason => misworded(reason),
+    }
+}
+
+/// The same of what the comparison's words say: where the port says so too, only the re-encoding tells.
+pub fn misworded(reason: Reason) -> Reason {
+    match reason {
+        Reason::Tail if is("a tail is no reason, nor by the comparison's words") => Reason::None,
+        reason => reason,
+    }
+}
+
+/// The same of the place that a refusal is about.
+fn misplaced(input: &[u8], number: u32, place: usize) -> usize {
+    let span = reasons::span(input);
+    match number {
+        3 if is("the place of 3 is the start") => 0,
+        4 if is("the place of 4 is that of the control octet") => span,
+        5 if is("the place of 5 is that of the PID") => span + 1,
+        7 if is("the place of 7 is that behind whole addresses") => span / GROUP * GROUP,
+        9 if is("the place of 9 is that of the control octet") => span,
+        10 if is("the place of 10 is that of the first octet that is no null") => domain::nulls(input),
+        _ => place,
+    }
+}
+
+#[no_mangle]
+unsafe extern "C" fn __wrap_ax25_reason(input: *const u8, input_len: usize, mode: u32, number: *mut u32, place: *mut usize) -> u32 {
+    let octets = skipped(from_raw_parts(input, input_len), "the reason passes over nulls");
+    let before = (*number, *place);
+    let mode = if is("the reason is that of the long mode") { 1 } else { mode };
+    let answer = __real_ax25_reason(octets.as_ptr(), octets.len(), mode, number, place);
+    if is("the reason writes behind the number") {
+        *number.add(1) = *number;
+    }
+    if let Some(&(reason, _)) = REASONS.get(answer as usize) {
+        if is("the reason of an accepted input leaves the place as it was") {
+            *place = before.1;
+        }
+        return misreasoned(octets, reason) as u32;
+    }
+    *place = misplaced(octets, *number, *place);
+    if is("the reason of a refused input is its number") {
+        return *number;
+    }
+    if is("the reason of a refused input leaves the number as it was") {
+        *number = before.0;
+    }
+    answer
 }
 
 #[no_mangle]

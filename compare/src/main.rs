@@ -19,6 +19,7 @@ mod packets;
 mod pairs;
 mod port;
 mod progress;
+mod reasons;
 mod records;
 mod relay_list;
 mod relays;

@@ -2,12 +2,14 @@
 
 use crate::kiss;
 use crate::lent::{self, Between, Lent};
+use crate::reasons::Why;
 
 #[link(name = "loader", kind = "static")]
 extern "C" {
     fn ax25_decode(input: *const u8, input_len: usize) -> u32;
     fn ax25_decode_old_capture(input: *const u8, input_len: usize) -> u32;
     fn ax25_canonical(input: *const u8, input_len: usize) -> u32;
+    fn ax25_reason(input: *const u8, input_len: usize, mode: u32, number: *mut u32, place: *mut usize) -> u32;
     fn ax25_reencoded_length(input: *const u8, input_len: usize) -> usize;
     fn ax25_reencode(input: *const u8, input_len: usize, output: *mut u8, output_len: usize) -> u32;
     fn ax25_relay(callsign: *const u8, callsign_len: usize, ssid: u8, frame: *mut u8, frame_len: usize) -> u32;
@@ -154,6 +156,9 @@ pub const HOPS: usize = 3;
 
 /// What a packet holds before a call: nothing that a call may give.
 const UNWRITTEN: Packet = Packet { ready: 0xA5A5_A5A5, port: 0x5A5A_5A5A, length: 0xC3C3_C3C3_C3C3_C3C3 };
+/// The same of a number and a place.
+const UNWRITTEN_NUMBER: u32 = 0xA5A5_A5A5;
+const UNWRITTEN_PLACE: usize = 0x5A5A_5A5A_5A5A_5A5A;
 
 pub struct Port {
     input: Lent<u8>,
@@ -228,6 +233,16 @@ impl Port {
         let canonical = unsafe { ax25_canonical(self.input.ptr(), self.input.len()) };
         self.see_input(input);
         canonical
+    }
+
+    pub fn reason(&mut self, input: &[u8]) -> Why {
+        self.input.hold(input);
+        let (mut number, mut place) = (Between::new(UNWRITTEN_NUMBER), Between::new(UNWRITTEN_PLACE));
+        let answer =
+            unsafe { ax25_reason(self.input.ptr(), self.input.len(), SHORT, number.mut_ptr(), place.mut_ptr()) };
+        self.see_input(input);
+        self.see(number.holds() && place.holds(), "something beside the number or the place was written");
+        Why { answer, number: number.item, place: place.item }
     }
 
     pub fn reencoded_length(&mut self, input: &[u8]) -> usize {
@@ -581,6 +596,10 @@ pub mod bare {
 
     pub fn canonical(input: &[u8]) -> u32 {
         unsafe { super::ax25_canonical(input.as_ptr(), input.len()) }
+    }
+
+    pub fn reason(input: &[u8], number: &mut u32, place: &mut usize) -> u32 {
+        unsafe { super::ax25_reason(input.as_ptr(), input.len(), super::SHORT, number, place) }
     }
 
     pub fn reencoded_length(input: &[u8]) -> usize {

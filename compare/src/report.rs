@@ -3,7 +3,7 @@
 use crate::check::Difference;
 use crate::differences::Differences;
 use crate::progress::Progress;
-use crate::seen::Seen;
+use crate::seen::{Seen, Spellings};
 use crate::show;
 use std::io::Write;
 
@@ -163,7 +163,9 @@ pub fn totals(report: &mut Report, seen: &Seen) {
     println!("decode numbers as old captures: {}; behind nulls: {}", said.join(", "), seen.old_captures.nulled);
     let kinds = seen.kind_counts();
     let said: Vec<String> = kinds.iter().map(|(kind, count)| format!("{}: {}", kind, count)).collect();
-    println!("kinds accepted: {}; canonical: {} of {}", said.join(", "), seen.canonical[1], seen.canonical[0] + seen.canonical[1]);
+    println!("kinds accepted: {}; canonical: {} of {}", said.join(", "), seen.spellings.canonical, seen.spellings.accepted);
+    let said: Vec<String> = seen.spellings.reasons().iter().map(|(reason, count)| format!("{}: {}", reason, count)).collect();
+    println!("not canonical, by reason: {}", said.join(", "));
     let rooms = seen.room_counts();
     let said: Vec<String> = rooms.iter().map(|(room, count)| format!("{}: {}", room, count)).collect();
     println!("room lent to writers: {}", said.join(", "));
@@ -174,8 +176,9 @@ pub fn totals(report: &mut Report, seen: &Seen) {
     report.extra("writes", seen.writes.to_string());
     report.extra("relays", relays.to_string());
     report.extra("relayed", relayed.to_string());
-    report.extra("canonical", seen.canonical[1].to_string());
-    report.extra("accepted", (seen.canonical[0] + seen.canonical[1]).to_string());
+    for (name, json) in spelled(&seen.spellings) {
+        report.extra(name, json);
+    }
     report.extra("decode_numbers", counts(numbers.iter().map(|(number, count)| (number.to_string(), *count))));
     report.extra("old_capture_numbers", counts(old.iter().map(|(number, count)| (number.to_string(), *count))));
     report.extra("packet_numbers", counts(packets.iter().map(|(number, count)| (number.to_string(), *count))));
@@ -202,6 +205,11 @@ pub fn told_apart(report: &mut Report, seen: &Seen) {
     let [pid, reserved] = seen.pairs.only_port;
     println!("bits that the port's frame shows and the Rust's does not: of a layer 3 PID (B6): {}, reserved (B7): {}", pid, reserved);
     report.extra("only_port", named(&[("B6", pid), ("B7", reserved)]));
+}
+
+/// How many inputs were accepted and canonical, and the others by reason, for the JSON.
+pub fn spelled(spellings: &Spellings) -> [(&'static str, String); 3] {
+    [("accepted", spellings.accepted.to_string()), ("canonical", spellings.canonical.to_string()), ("reasons", named(&spellings.reasons()))]
 }
 
 fn named(outcomes: &[(&str, u64)]) -> String {

@@ -8,6 +8,7 @@ use crate::lent::{Room, ROOMS};
 use crate::oracle::Decode;
 use crate::pairs::{Outcome, Way, OUTCOMES, WAYS};
 use crate::port::State;
+use crate::reasons::{self, Reason, REASONS};
 use crate::relays::Own;
 use crate::show;
 use ax25::frame::Ax25Frame;
@@ -384,6 +385,114 @@ impl OldCaptures {
     }
 }
 
+/// How many inputs were accepted, how many of these are canonical, and the others by their reason.
+#[derive(Clone, Copy, Default)]
+pub struct Spellings {
+    pub accepted: u64,
+    pub canonical: u64,
+    reasons: [u64; REASONS.len()],
+}
+
+impl Spellings {
+    fn count(&mut self, canonical: bool, reason: Reason) {
+        self.accepted += 1;
+        self.canonical += u64::from(canonical);
+        self.reasons[reason as usize] += 1;
+    }
+
+    /// What came since an earlier count.
+    pub fn since(&self, earlier: &Spellings) -> Spellings {
+        let mut reasons = self.reasons;
+        reasons.iter_mut().zip(earlier.reasons).for_each(|(count, before)| *count -= before);
+        Spellings { accepted: self.accepted - earlier.accepted, canonical: self.canonical - earlier.canonical, reasons }
+    }
+
+    /// How often each reason but none was owed, by its word.
+    pub fn reasons(&self) -> Vec<(&'static str, u64)> {
+        REASONS.iter().zip(self.reasons).skip(1).map(|(&(_, word), count)| (word, count)).collect()
+    }
+}
+
+/// Repeaters are told apart up to so many where a place is counted: these stand for more.
+const MANY: usize = REPEATERS + 2;
+
+/// The refusals that are about a place behind an address field of two addresses and more, and the repeaters that each is met with.
+const PLACED: [(u32, std::ops::RangeInclusive<usize>); 5] =
+    [(4, 0..=MANY), (9, REPEATERS + 1..=MANY), (5, 0..=REPEATERS), (7, 0..=REPEATERS), (8, 0..=REPEATERS)];
+
+/// The bits of FRMR that nothing reads, of its first and of its second info octet together.
+const FIXED: u8 = 0xF1;
+
+/// What of reasons was met (document 02, M-110).
+#[derive(Default)]
+struct Reasons {
+    /// Accepted inputs by the reason that is owed, and by another behind it in the order that holds too.
+    both: [[u64; REASONS.len()]; REASONS.len()],
+    /// By how many octets are left over, from one on; marks both clear and both set; tails by kind; FRMR's bits, each set alone.
+    left_over: [u64; GROUP - 1],
+    marks: [u64; 2],
+    tails: [u64; KINDS.len()],
+    fixed: [u64; 8],
+    /// By the place of the end, refusals by 3; by number and repeaters, others with none and some octets left over.
+    ends: [u64; 13],
+    places: [[[u64; 2]; MANY + 1]; BY_NUMBER],
+}
+
+impl Reasons {
+    /// An accepted input that owes this reason.
+    fn accepted(&mut self, input: &[u8], record: &Flat, owed: Reason) {
+        match owed {
+            Reason::None => return,
+            Reason::Leftover => self.left_over[reasons::span(input) % GROUP - 1] += 1,
+            Reason::Marks => self.marks[usize::from(input[domain::seventh(0, 0)] >> 7)] += 1,
+            Reason::Tail => count(&mut self.tails, record[KIND].into()),
+            Reason::Fixed => {
+                let set = domain::excepted(input).iter().fold(0, |set, &(at, bits)| set | input[at] & bits);
+                if set.is_power_of_two() {
+                    self.fixed[set.trailing_zeros() as usize] += 1;
+                }
+            }
+        }
+        for &(other, _) in &REASONS[owed as usize + 1..] {
+            self.both[owed as usize][other as usize] += u64::from(other.holds(input));
+        }
+    }
+
+    fn refused(&mut self, input: &[u8], number: u32) {
+        let span = reasons::span(input);
+        if number == 3 {
+            count(&mut self.ends, span - 1);
+        } else if PLACED.iter().any(|(placed, _)| *placed == number) {
+            let repeaters = ((span - 14) / GROUP).min(MANY);
+            self.places[number as usize][repeaters][usize::from(span % GROUP > 0)] += 1;
+        }
+    }
+
+    fn missing(&self, missing: &mut Missing) {
+        for &(one, word) in &REASONS[1..] {
+            for &(other, behind) in &REASONS[one as usize + 1..] {
+                // A kind that has such bits has no tail in the short mode.
+                if (one, other) != (Reason::Tail, Reason::Fixed) && self.both[one as usize][other as usize] == 0 {
+                    missing.0.push(format!("reason {} where {} holds too", word, behind));
+                }
+            }
+        }
+        missing.cases("reason leftover, from one octet on: case", &self.left_over);
+        missing.cases("reason marks, both clear and both set: case", &self.marks);
+        let kinds = (0..UNKNOWN_CONTENT).filter(|&kind| !has_info(kind) && kind != FRMR).map(usize::from);
+        missing.0.extend(kinds.filter(|&kind| self.tails[kind] == 0).map(|kind| format!("reason tail, {}", KINDS[kind])));
+        let bits = (0..8).filter(|&bit| FIXED >> bit & 1 == 1 && self.fixed[bit] == 0);
+        missing.0.extend(bits.map(|bit| format!("reason fixed, bit {} of FRMR's info alone", bit)));
+        missing.cases("refused by 3 with the end at", &self.ends);
+        for (number, routes) in PLACED {
+            for repeaters in routes {
+                let places = &self.places[number as usize][repeaters];
+                missing.cases(&format!("refused by {} behind {} repeaters, with none or some octets left over: case", number, repeaters), places);
+            }
+        }
+    }
+}
+
 /// What a bit of a canonical frame is part of.
 #[derive(Clone, Copy)]
 enum Part {
@@ -545,7 +654,8 @@ impl Pairs {
 pub struct Seen {
     pub decodes: u64,
     pub writes: u64,
-    pub canonical: [u64; 2],
+    pub spellings: Spellings,
+    reasons: Reasons,
     decode_numbers: [u64; TABLE],
     write_numbers: [u64; TABLE],
     text_numbers: [u64; TABLE],
@@ -677,7 +787,8 @@ impl Seen {
         Seen {
             decodes: 0,
             writes: 0,
-            canonical: [0; 2],
+            spellings: Spellings::default(),
+            reasons: Reasons::default(),
             decode_numbers: [0; TABLE],
             write_numbers: [0; TABLE],
             text_numbers: [0; TABLE],
@@ -752,12 +863,13 @@ impl Seen {
         }
     }
 
-    /// An accepted input.
-    pub fn frame(&mut self, input: &[u8], record: &Flat, canonical: bool) {
+    /// An accepted input that owes this reason.
+    pub fn frame(&mut self, input: &[u8], record: &Flat, canonical: bool, reason: Reason) {
         self.added(Met::Decoder, input);
         self.added(if canonical { Met::Canonical } else { Met::NotCanonical }, input);
         self.decode_numbers[0] += 1;
-        self.canonical[usize::from(canonical)] += 1;
+        self.spellings.count(canonical, reason);
+        self.reasons.accepted(input, record, reason);
         count(&mut self.read_kinds, record[KIND].into());
         count(&mut self.marks, record[MARK].into());
         count(&mut self.routes, record[COUNT].into());
@@ -776,6 +888,7 @@ impl Seen {
 
     pub fn refusal(&mut self, input: &[u8], number: u32) {
         count(&mut self.decode_numbers, number as usize);
+        self.reasons.refused(input, number);
         match number {
             9 => self.added(Met::Nine, input),
             10 => self.added(Met::Ten, input),
@@ -1104,7 +1217,8 @@ impl Seen {
         missing.cases("mark read, case", &self.marks);
         missing.cases("PID read, case", &self.pids);
         missing.cases("repeaters read,", &self.routes);
-        missing.cases("canonical, case", &self.canonical);
+        missing.cases("accepted by reason, case", &self.spellings.reasons);
+        self.reasons.missing(&mut missing);
         missing.cases("listed difference, case", &self.listed);
         missing.cases("text outside ASCII that the Rust refuses or accepts, case", &self.wide);
         missing.cases("hops used,", &self.hops_used);

@@ -5,6 +5,7 @@ use crate::flat::*;
 use crate::kiss;
 use crate::oracle;
 use crate::port::{Fed, State};
+use crate::reasons::{Why, REASONS, REFUSED};
 
 pub fn hex(octets: &[u8]) -> String {
     let digits = octets.iter().flat_map(|octet| [octet >> 4, octet & 0x0F]);
@@ -81,6 +82,15 @@ pub fn decode(number: u32, places: &[usize], record: &str) -> String {
     const NAMES: [&str; 5] = ["start", "end", "length", "info at", "info's length"];
     let places: Vec<String> = NAMES.iter().zip(places).map(|(name, place)| format!("{} {}", name, place)).collect();
     format!("number {} {}; {}", self::number(number), places.join(" "), record)
+}
+
+/// Why an input is not canonical, or by which number it is refused and at which place.
+pub fn why(why: &Why) -> String {
+    let word = match why.answer {
+        REFUSED => "refused",
+        answer => REASONS.get(answer as usize).map_or("another", |(_, word)| word),
+    };
+    format!("reason {} ({}) number {} place {}", word, why.answer, number(why.number), why.place)
 }
 
 /// Octets that a call leaves in a lent buffer: a record and an address by name.

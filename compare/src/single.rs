@@ -124,6 +124,7 @@ fn show_port(checker: &mut Checker, input: &[u8]) {
     let answer = port.reencode(input, room);
     let octets = show::hex(port.output());
     println!("port: decode {} canonical {} re-encoded length {}; re-encode into {}: {} octets {}", number, canonical, length, room, answer, octets);
+    println!("port: {}", show::why(&port.reason(input)));
 }
 
 /// What the last call left in the output.

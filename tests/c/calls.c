@@ -1,5 +1,5 @@
-/* The nine calls: those on frames on document 01's examples, on every octet string of length 0 to 2, and on random, damaged and
-   long frames; the relay, KISS packets and a serial line by relays.c, kiss.c and stream.c.
+/* The ten calls: those on frames on document 01's examples, on every octet string of length 0 to 2, and on random, damaged and
+   long frames; the reason, the relay, KISS packets and a serial line by reasons.c, relays.c, kiss.c and stream.c.
    usage: calls [THOUSANDS [SEED]]: that many thousand random inputs */
 #include <stdio.h>
 #include <stdlib.h>
@@ -10,6 +10,7 @@
 #include "draw.h"
 #include "examine.h"
 #include "kiss.h"
+#include "reasons.h"
 #include "relays.h"
 #include "say.h"
 #include "sets.h"
@@ -299,6 +300,7 @@ static size_t random_content(uint8_t *out) {
     int has_pid = (control & 1) == 0 || (control & 0xEF) == 0x03;
     int has_info = has_pid || (control & 0xEF) == 0xAF || (control & 0xEF) == 0xE3;
     if (has_pid && !one_in(8)) out[len++] = one_in(3) ? (uint8_t)below(256) : known_pids[below(sizeof known_pids)];
+    if ((control & 3) == 1 && one_in(3)) out[len++] = (uint8_t)below(256); /* in the long mode it belongs to the control field */
     if ((control & 0xEF) == 0x87 && !one_in(4)) {
         out[len++] = (uint8_t)(one_in(2) ? below(256) : below(16));
         out[len++] = (uint8_t)(one_in(2) ? below(256) : below(128) << 1);
@@ -338,8 +340,14 @@ static size_t random_octets(uint8_t *out) {
     return len;
 }
 
-enum { NUMBERS = 11 }; /* decoding gives 0 to 10, but no 6 */
-static unsigned long seen[NUMBERS], seen_behind[NUMBERS], seen_canonical, seen_rewritten, seen_clear;
+/* What decoding gives in the short mode, where 10 is the one that an old capture can't have, and in the long one; and the reasons. */
+static const unsigned short_numbers[] = {0, 1, 2, 3, 4, 5, 7, 8, 9, 10}, long_numbers[] = {0, 1, 2, 3, 4, 5, 7, 9, 10, 11, 12};
+static const unsigned codes[] = {0, 1, 2, 3, 4, 5};
+#define COUNT(list) (sizeof(list) / sizeof *(list))
+
+enum { NUMBERS = 13 };
+static unsigned long seen[MODES][NUMBERS], seen_code[MODES][COUNT(codes)], seen_behind[NUMBERS], seen_canonical, seen_rewritten, seen_clear;
+static int model_holds = 1; /* whether it has no reason in the long mode exactly where it writes the input as it is */
 
 /* Whether some address of a canonical frame has a reserved bit that is clear. */
 static int has_clear_bit(const uint8_t *frame) {
@@ -349,8 +357,14 @@ static int has_clear_bit(const uint8_t *frame) {
 }
 
 static void examine_one(const uint8_t *in, size_t len) {
+    struct reason by_mode[MODES];
+    for (int mode = 0; mode < MODES; mode++) {
+        by_mode[mode] = model_reason((enum mode)mode, in, len);
+        seen[mode][by_mode[mode].number]++;
+        seen_code[mode][by_mode[mode].code]++;
+    }
+    model_holds = model_holds && (by_mode[LONG_MODE].code == AX25_REASON_NONE) == model_in(LONG_MODE, in, len).canonical;
     struct answer want = model(in, len);
-    seen[want.number]++;
     seen_behind[want.old] += model_nulls(in, len) > 0; /* by the number of what follows the nulls */
     seen_canonical += want.canonical;
     seen_clear += want.canonical && has_clear_bit(in);
@@ -358,14 +372,13 @@ static void examine_one(const uint8_t *in, size_t len) {
     examine(in, len, &want, below(3));
 }
 
-/* Prints how often each number up to the last was met; gives whether each but 6, which is owed to no input, was, so often or more. */
-static int print_met(const char *what, const unsigned long *met, int last, unsigned long least) {
+/* Prints how often each of these numbers was met; gives whether each was, so often or more. */
+static int print_met(const char *what, const unsigned long *met, const unsigned *numbers, size_t count, unsigned long least) {
     int all = 1;
     printf("  %s:", what);
-    for (int n = 0; n <= last; n++) {
-        if (n == 6) continue;
-        printf(" %d: %lu%s", n, met[n], n < last ? "," : "\n");
-        all = all && met[n] >= least;
+    for (size_t i = 0; i < count; i++) {
+        printf(" %u: %lu%s", numbers[i], met[numbers[i]], i + 1 < count ? "," : "\n");
+        all = all && met[numbers[i]] >= least;
     }
     return all;
 }
@@ -395,12 +408,18 @@ static void run_random(unsigned long thousands, uint64_t seed) {
     }
     set_end();
 
-    int all = print_met("of these, by number", seen, 10, thousands);
+    int all = print_met("of these, by number", seen[SHORT_MODE], short_numbers, COUNT(short_numbers), thousands);
     printf("  canonical: %lu, with a reserved bit clear: %lu; accepted and not canonical: %lu\n", seen_canonical, seen_clear,
            seen_rewritten);
     say(all && seen_canonical >= thousands && seen_rewritten >= thousands, "one random input in a thousand or more reaches each number of decoding, canonical or not");
-    say(print_met("of those behind nulls, by number as an old capture", seen_behind, 9, (thousands + 1) / 2),
+    say(print_met("of those behind nulls, by number as an old capture", seen_behind, short_numbers, COUNT(short_numbers) - 1, (thousands + 1) / 2),
         "and one in two thousand or more has nulls before each number that an old capture can have");
+    say(print_met("of these, by number in the long mode", seen[LONG_MODE], long_numbers, COUNT(long_numbers), thousands),
+        "and one in a thousand or more reaches each number of the long mode");
+    all = print_met("by reason", seen_code[SHORT_MODE], codes, COUNT(codes), thousands);
+    say(print_met("by reason in the long mode", seen_code[LONG_MODE], codes, COUNT(codes), thousands) && all,
+        "and one in a thousand or more has each reason, in each mode");
+    say(model_holds, "and in the long mode the model has no reason exactly where it writes the input as it is");
     say(seen_clear >= thousands && seen_canonical - seen_clear >= thousands,
         "and one in a thousand or more is canonical with a reserved bit clear, and with all of them set");
 }
@@ -456,6 +475,7 @@ int main(int argc, char **argv) {
     run_seventh_octets();
     run_contents();
     run_long();
+    run_reasons();
     run_relays();
     run_kiss(thousands, seed);
     run_streams(thousands, seed);

@@ -7,8 +7,9 @@
 #include "lent.h"
 #include "sets.h"
 
-static struct arena input_arena, output_arena;
+static struct arena input_arena, output_arena, cells_arena;
 static const struct address *relaying; /* by whom; NULL while another call is looked at */
+static uint32_t asked;                 /* the number by which the reason is asked for in a mode */
 
 static void show_station(void) {
     printf("  relayed by SSID %u and the callsign of %zu octets:", relaying->ssid, relaying->len);
@@ -16,10 +17,13 @@ static void show_station(void) {
     printf(relaying->len > 20 ? " ..\n" : "\n");
 }
 
+static void show_asked(void) { printf("  the reason is asked for by the mode %lu\n", (unsigned long)asked); }
+
 void examine_begin(void) {
     sets_begin();
     input_arena = arena_new(LONGEST + 65536);
     output_arena = arena_new(LONGEST + 65536);
+    cells_arena = arena_new(65536);
 }
 
 /* `in` was lent to be read and held `octets`; `out` was lent to be written. */
@@ -45,6 +49,45 @@ static void reencode_with(const struct lent *in, const uint8_t *octets, const st
     if (room > want->length) look(BEYOND, filled_with(out.at + want->length, room - want->length, paint), 1, 0);
 }
 
+/* The reason in one mode, held to the answer; gives what the call gives. What it leaves beside its answer is lent at the two edges of one
+   arena, where it is aligned, and holds paint before. */
+static struct reason reason_in(enum mode mode, const struct lent *in, const uint8_t *octets, const struct reason *want) {
+    static unsigned turn;
+    int is_low = turn / MODES % 2;
+    struct lent number = lend(&cells_arena, is_low ? LOW : HIGH, sizeof(uint32_t));
+    struct lent place = lend(&cells_arena, is_low ? HIGH : LOW, sizeof(size_t));
+    struct reason got;
+    memset(number.at, fresh_paint(), number.len);
+    memset(place.at, fresh_paint(), place.len);
+    asked = asking_for(mode, turn++ / (2 * MODES));
+    look_from(octets, in->len, show_asked);
+    got.code = ax25_reason(in->at, in->len, asked, (uint32_t *)(void *)number.at, (size_t *)(void *)place.at);
+    got.number = *(uint32_t *)(void *)number.at;
+    got.place = *(size_t *)(void *)place.at;
+    look(REASON, got.code == want->code, want->code, got.code);
+    look(REASON, got.number == want->number, want->number, got.number);
+    look(REASON, got.place == want->place, want->place, got.place);
+    look_at_lent(in, octets, &number);
+    look(GUARDS, guards_hold(&place), 1, 0);
+    look_from(octets, in->len, NULL);
+    return got;
+}
+
+/* In both modes. In the short one the number is decoding's, and there is no reason exactly where the input is canonical. */
+static void look_at_reasons(const struct lent *in, const uint8_t *octets, const struct reason *by_mode, unsigned number, unsigned canonical) {
+    reason_in(LONG_MODE, in, octets, &by_mode[LONG_MODE]);
+    struct reason got = reason_in(SHORT_MODE, in, octets, &by_mode[SHORT_MODE]);
+    look(AGREE, got.number == number, number, got.number);
+    look(AGREE, (got.code == AX25_REASON_NONE) == canonical, canonical, got.code);
+}
+
+/* The reason alone, in the short mode. */
+static unsigned reason_of(const uint8_t *octets, size_t len) {
+    uint32_t number;
+    size_t place;
+    return ax25_reason(octets, len, 0, &number, &place);
+}
+
 /* Each call's answer by the others': what is written is canonical and re-encodes as itself, and an input is canonical exactly
    when it is what is written. */
 static void look_at_agreement(const struct lent *in, unsigned number, unsigned canonical, size_t length) {
@@ -60,6 +103,7 @@ static void look_at_agreement(const struct lent *in, unsigned number, unsigned c
     look(AGREE, canonical == same, same, canonical);
     look(AGREE, ax25_decode(out.at, length) == 0, 0, 1);
     look(AGREE, ax25_canonical(out.at, length) == 1, 1, 0);
+    look(AGREE, reason_of(out.at, length) == AX25_REASON_NONE, AX25_REASON_NONE, reason_of(out.at, length));
     look(AGREE, ax25_reencoded_length(out.at, length) == length, length, ax25_reencoded_length(out.at, length));
 }
 
@@ -74,9 +118,10 @@ static void look_at_nulls(const struct lent *in, unsigned number, unsigned old) 
 static void look_at_relayed(const uint8_t *before, const uint8_t *after, size_t len, size_t due) {
     static uint8_t wanted[LONGEST], got[LONGEST];
     size_t length = ax25_reencoded_length(before, len);
-    unsigned canonical = ax25_canonical(before, len);
+    unsigned canonical = ax25_canonical(before, len), reason = reason_of(before, len);
     look(AGREE, ax25_decode(after, len) == 0, 0, 1);
     look(AGREE, ax25_canonical(after, len) == canonical, canonical, !canonical);
+    look(AGREE, reason_of(after, len) == reason, reason, reason_of(after, len));
     look(AGREE, ax25_reencode(before, len, wanted, length) == 0 && ax25_reencode(after, len, got, length) == 0, 1, 0);
     wanted[7 * (2 + due) + 6] |= 0x80;
     look(AGREE, ax25_reencoded_length(after, len) == length && memcmp(wanted, got, length) == 0, 1, 0);
@@ -137,6 +182,16 @@ static void relay_by_stations(const uint8_t *octets, size_t len, unsigned place)
     }
 }
 
+void examine_reason(enum mode mode, const uint8_t *octets, size_t len, const struct reason *want, unsigned place) {
+    struct lent in = lend_octets(&input_arena, place, octets, len);
+    count_input();
+    reason_in(mode, &in, octets, want);
+}
+
+void examine_reason_everywhere(enum mode mode, const uint8_t *octets, size_t len, const struct reason *want) {
+    for (unsigned place = 0; place < PLACES; place++) examine_reason(mode, octets, len, want, place);
+}
+
 void examine_relay(const struct address *own, const uint8_t *octets, size_t len, const struct relayed *want, unsigned place) {
     count_input();
     relay(own, octets, len, want, place);
@@ -146,7 +201,7 @@ void examine_relay_everywhere(const struct address *own, const uint8_t *octets, 
     for (unsigned place = 0; place < RELAY_PLACES; place++) examine_relay(own, octets, len, want, place);
 }
 
-void examine(const uint8_t *octets, size_t len, const struct answer *want, unsigned place) {
+static void examine_in(unsigned place, const uint8_t *octets, size_t len, const struct answer *want, const struct reason *by_mode) {
     struct lent in = lend_octets(&input_arena, place, octets, len);
     count_input();
     look_from(octets, len, NULL);
@@ -175,9 +230,17 @@ void examine(const uint8_t *octets, size_t len, const struct answer *want, unsig
     }
     look_at_agreement(&in, number, canonical, length);
     look_at_nulls(&in, number, old);
+    look_at_reasons(&in, octets, by_mode, number, canonical);
     relay_by_stations(octets, len, place);
 }
 
-void examine_everywhere(const uint8_t *octets, size_t len, const struct answer *want) {
-    for (unsigned place = 0; place < PLACES; place++) examine(octets, len, want, place);
+/* The model of the reason is asked once for all places, which saves time where the input is long. */
+static void examine_places(unsigned first, unsigned last, const uint8_t *octets, size_t len, const struct answer *want) {
+    struct reason by_mode[MODES];
+    for (int mode = 0; mode < MODES; mode++) by_mode[mode] = model_reason((enum mode)mode, octets, len);
+    for (unsigned place = first; place <= last; place++) examine_in(place, octets, len, want, by_mode);
 }
+
+void examine(const uint8_t *octets, size_t len, const struct answer *want, unsigned place) { examine_places(place, place, octets, len, want); }
+
+void examine_everywhere(const uint8_t *octets, size_t len, const struct answer *want) { examine_places(0, PLACES - 1, octets, len, want); }

@@ -1,4 +1,4 @@
-/* All that the six calls on frames owe on one input, looked at. */
+/* All that the seven calls on frames owe on one input, looked at. */
 #ifndef EXAMINE_H
 #define EXAMINE_H
 
@@ -7,12 +7,16 @@
 /* Ready the buffers, and have a stray access reported as a failure. */
 void examine_begin(void);
 
-/* Each of them, in one of the places that a buffer can have, held to the answer. The relay is held to the model: by the station that
-   is due, and by one that differs from it in one bit or is none. */
+/* Each of them, in one of the places that a buffer can have, held to the answer. The reason is held to the model, in both modes, and so is
+   the relay: by the station that is due, and by one that differs from it in one bit or is none. */
 void examine(const uint8_t *in, size_t len, const struct answer *want, unsigned place);
 
 /* The same in every place. */
 void examine_everywhere(const uint8_t *in, size_t len, const struct answer *want);
+
+/* The reason alone, in one mode, held to the answer: in one place, and in every one. */
+void examine_reason(enum mode mode, const uint8_t *in, size_t len, const struct reason *want, unsigned place);
+void examine_reason_everywhere(enum mode mode, const uint8_t *in, size_t len, const struct reason *want);
 
 /* The relay alone, by one station: held to the answer, and where that is 0 once more, held to the model. The place is that of
    both buffers: each of the frame's with each of the callsign's. */

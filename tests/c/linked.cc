@@ -17,6 +17,11 @@ int main() {
                 ax25_reencode(frame, sizeof frame, out, 14) == AX25_NO_ROOM && out[14] == 0x01 && out[15] == 0 &&
                 ax25_relay(hill, sizeof hill, 2, routed, sizeof routed) == AX25_ACCEPTED && routed[20] == 0xE5 &&
                 ax25_relay(hill, sizeof hill, 2, routed, sizeof routed) == AX25_ROUTE_USED_UP;
+    uint32_t number = 99;
+    size_t place = 99;
+    held = held && ax25_reason(frame, sizeof frame, 0, &number, &place) == AX25_REASON_TAIL && number == 0 && place == 0 &&
+           ax25_reason(frame, sizeof frame, 1, &number, &place) == AX25_REASON_NONE && number == 0 && place == 0 &&
+           ax25_reason(routed, sizeof routed, 1, &number, &place) == AX25_REASON_REFUSED && number == AX25_MISSING_CONTROL_OCTET && place == 21;
     const uint8_t data[] = {'O', 0xC0, 'K'};
     uint8_t packet[2 * sizeof data + 3], port = 0;
     size_t length = 0;

@@ -1,11 +1,13 @@
 /* Both modes of the port (document 02, M-109): what the crate `probe` shows of reading and writing, held to the model on every content of
    one and two octets, every two control octets, every sequence number, records that break one rule or several, random and damaged frames,
-   and on frames that direwolf sent in connected mode; and canonical frames beside themselves with one bit changed (M-107).
+   and on frames that direwolf sent in connected mode; and canonical frames beside themselves with one bit changed (M-107). Wherever the
+   canonical check is asked, ax25_reason is too, and has to find no reason exactly where it says 1 (M-110).
    usage: long FRAMES [THOUSANDS [SEED]]: FRAMES is connected.txt; that many thousand random inputs */
 #include <stdio.h>
 #include <stdlib.h>
 #include <string.h>
 
+#include "ax25.h"
 #include "callsigns.h"
 #include "draw.h"
 #include "lent.h"
@@ -27,11 +29,9 @@ static const char *const mode_names[MODES] = {"short mode", "long mode"};
 
 static void show_mode(void) { printf("  in the %s, asked for by %lu\n", mode_names[mode], (unsigned long)asked); }
 
-/* The long mode is asked for by any number but 0. */
 static void next_turn(void) {
-    static const uint32_t longs[] = {1, 2, 128, 256, 0x80000000, 0xFFFFFFFF};
     turn++;
-    asked = mode == SHORT_MODE ? 0 : longs[turn % (sizeof longs / sizeof *longs)];
+    asked = asking_for(mode, turn);
 }
 
 static void begin(const char *name) {
@@ -188,7 +188,31 @@ static void read_content_alone(const uint8_t *octets, size_t len) {
     look_at_output(PARSED_OUT, &content, want.number != 0, want.record + KIND, CONTENT);
 }
 
-static unsigned long met[64], met_old[64], met_kind[KINDS], met_canonical, met_other;
+/* The reason is this one, and the canonical check says 1 exactly where it is none. */
+static void look_at_reason(enum check check, unsigned want, const uint8_t *octets, size_t len) {
+    uint32_t number;
+    size_t place;
+    unsigned code = ax25_reason(octets, len, asked, &number, &place), canonical = probe_canonical(asked, octets, len);
+    look(check, code == want, want, code);
+    look(IS_CANONICAL, canonical == (want == AX25_REASON_NONE), want == AX25_REASON_NONE, canonical);
+}
+
+/* Likewise, with all that ax25_reason gives held to the model, and with what writing makes of the octets. */
+static void look_at_canonical(const struct answer *want, const struct reason *why, const uint8_t *octets, size_t len) {
+    struct lent in = lend_input(octets, len);
+    struct sizes place = lend_sizes(1 + turn % 2);
+    uint32_t number = turn;
+    unsigned canonical = probe_canonical(asked, in.at, len), code = ax25_reason(in.at, len, asked, &number, place.at);
+    look(IS_CANONICAL, canonical == want->canonical, want->canonical, canonical);
+    look(IS_CANONICAL, (code == AX25_REASON_NONE) == want->canonical, want->canonical, code);
+    look(REASON, code == why->code, why->code, code);
+    look(REASON, number == why->number, why->number, number);
+    look_at_length(REASON, &place, why->place);
+    look_at_input(&in, octets);
+}
+
+enum { REASONS = 6 };
+static unsigned long met[64], met_old[64], met_kind[KINDS], met_reason[REASONS], met_canonical, met_other;
 
 static void reencode(const struct answer *a, const uint8_t *octets, size_t len) {
     struct written again = {a->number, a->length, a->reencoded};
@@ -206,11 +230,10 @@ static void examine_octets(const uint8_t *octets, size_t len) {
     decode_by(probe_decode, DECODED, &want, octets, len);
     decode_by(probe_decode_old, DECODED_OLD, &old, octets, len);
     struct answer answer = model_in(mode, octets, len);
-    struct lent in = lend_input(octets, len);
-    unsigned canonical = probe_canonical(asked, in.at, len);
-    look(IS_CANONICAL, canonical == answer.canonical, answer.canonical, canonical);
-    look_at_input(&in, octets);
+    struct reason why = model_reason(mode, octets, len);
+    look_at_canonical(&answer, &why, octets, len);
     reencode(&answer, octets, len);
+    met_reason[why.code]++;
     met[want.number]++;
     met_old[old.number]++;
     if (want.number != 0) return;
@@ -335,7 +358,7 @@ static void run_examples(void) {
         unsigned number = probe_reencode(asked, octets, len, written, sizeof written, &length);
         look(SAID, number == 0 && length == again_len && memcmp(written, again, again_len) == 0, again_len, length);
         int same = len == again_len && memcmp(octets, again, len) == 0;
-        look(SAID, (int)probe_canonical(asked, octets, len) == same, (unsigned)same, (unsigned)!same);
+        look_at_reason(SAID, same ? AX25_REASON_NONE : again_len < len ? AX25_REASON_TAIL : AX25_REASON_FIXED, octets, len);
     }
     set_end();
 }
@@ -507,12 +530,6 @@ static void run_orders(void) {
     set_end();
 }
 
-/* Document 02's M-107 with M-109: the bits of content that no frame shows, by the place in it. */
-static unsigned excepted(unsigned kind, size_t place) {
-    if (kind == FRMR) return place == 1 ? 0xF0 : place == 2 ? 0x01 : 0;
-    return mode == LONG_MODE && kind >= RR && kind <= SREJ && place == 0 ? 0xF0 : 0;
-}
-
 /* Whether the port shows two inputs of one length as the same frame with the same info octets. */
 static int shown_alike(const struct reading *one, const uint8_t *octets, const struct reading *other, const uint8_t *others) {
     size_t info_len = one->details[INFO_LENGTH];
@@ -522,22 +539,23 @@ static int shown_alike(const struct reading *one, const uint8_t *octets, const s
 
 static unsigned long excepted_bits, other_bits;
 
+/* Document 02's M-107 with M-109: no frame shows the bits that reading ignores. */
 static void examine_bits(uint8_t *octets, size_t len, unsigned kind, size_t control) {
     uint8_t changed[256];
     count_input();
     next_turn();
     look_from(octets, len, show_mode);
     struct reading want = by_port(octets, len);
-    look(IS_CANONICAL, probe_canonical(asked, octets, len) == 1, 1, 0);
+    look_at_reason(REASON, AX25_REASON_NONE, octets, len);
     for (size_t bit = 0; bit < 8 * len; bit++) {
         size_t at = bit / 8;
-        unsigned mask = 1u << bit % 8, unseen = at >= control && excepted(kind, at - control) & mask ? 1 : 0;
+        unsigned mask = 1u << bit % 8, unseen = at >= control && model_ignored(mode, kind, at - control) & mask ? 1 : 0;
         memcpy(changed, octets, len);
         changed[at] ^= (uint8_t)mask;
         struct reading got = by_port(changed, len);
         unsigned alike = (unsigned)shown_alike(&want, octets, &got, changed);
         look(UNSEEN, alike == unseen, unseen, alike);
-        if (unseen) look(IS_CANONICAL, probe_canonical(asked, changed, len) == 0, 0, 1);
+        if (unseen) look_at_reason(REASON, AX25_REASON_FIXED, changed, len);
         excepted_bits += unseen;
         other_bits += !unseen;
     }
@@ -648,6 +666,7 @@ static void run_random(unsigned long thousands, uint64_t seed) {
     memset(met, 0, sizeof met);
     memset(met_old, 0, sizeof met_old);
     memset(met_kind, 0, sizeof met_kind);
+    memset(met_reason, 0, sizeof met_reason);
     met_canonical = met_other = 0;
     begin("random frames, what writing gives of them, and damaged copies");
     for (unsigned long n = thousands * 250; n > 0; n--) {
@@ -681,6 +700,12 @@ static void run_random(unsigned long thousands, uint64_t seed) {
     }
     snprintf(line + at, sizeof line - (size_t)at, "; canonical: %lu, accepted and not: %lu", met_canonical, met_other);
     say(all && met_canonical >= thousands && met_other >= thousands, line);
+    at = snprintf(line, sizeof line, "%s: and each reason:", mode_names[mode]), all = 1;
+    for (unsigned code = 0; code < REASONS; code++) {
+        at += snprintf(line + at, sizeof line - (size_t)at, " %lu", met_reason[code]);
+        all = all && met_reason[code] >= thousands;
+    }
+    say(all, line);
 }
 
 /* What direwolf calls a kind. */
@@ -719,8 +744,7 @@ static void examine_connected(const uint8_t *octets, size_t len, const char *wor
     look(SAID, port.record[MARK] == (is_response ? RESPONSE : COMMAND), is_response, port.record[MARK]);
     if (kind == I) look(SAID, pid == 0xF0 && port.record[PID_CASE] == 13, 13, port.record[PID_CASE]);
     /* A SREJ that asks for several frames has them behind its control field, which is a tail here (docs/DIFFERENCES.md, A4). */
-    int has_tail = kind == SREJ && len > control + numbers;
-    look(SAID, (int)probe_canonical(asked, octets, len) == !has_tail, (unsigned)!has_tail, (unsigned)has_tail);
+    look_at_reason(SAID, kind == SREJ && len > control + numbers ? AX25_REASON_TAIL : AX25_REASON_NONE, octets, len);
     if (kind < UNKNOWN_KIND) met_connected[mode][kind]++;
 }
 

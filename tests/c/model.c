@@ -2,12 +2,15 @@
 
 #include <string.h>
 
+#include "ax25.h"
+
 struct station {
     uint8_t callsign[6];
     unsigned ssid, reserved, mark;
 };
 
 struct fields {
+    size_t end;                             /* of the address field, or the number of octets where there is none */
     struct station destination, source, repeaters[8];
     size_t repeater_count;
     enum mark mark;
@@ -20,6 +23,11 @@ struct fields {
     const uint8_t *info;
     size_t info_len;
 };
+
+uint32_t asking_for(enum mode mode, unsigned turn) {
+    static const uint32_t longs[] = {1, 2, 128, 256, 0x80000000, 0xFFFFFFFF};
+    return mode == SHORT_MODE ? 0 : longs[turn % (sizeof longs / sizeof *longs)];
+}
 
 static unsigned bit(unsigned octet, int place) { return octet >> place & 1; }
 
@@ -128,6 +136,7 @@ static size_t end_of(const uint8_t *in, size_t len) {
 static unsigned read_frame(struct fields *f, enum mode mode, const uint8_t *in, size_t len) {
     size_t nulls = model_nulls(in, len), end = end_of(in, len);
     memset(f, 0, sizeof *f);
+    f->end = end;
     if (nulls == len) return 1;
     if (nulls > 0) return 10;
     if (end == len) return 2;
@@ -356,11 +365,12 @@ static int all_can_be_written(const struct fields *f) {
     return holds;
 }
 
+static int has_info(enum kind kind) { return kind == I || kind == UI || kind == XID || kind == TEST || kind == UNKNOWN_KIND; }
+
 /* The numbers of content, in their order but for 24. */
 static unsigned refused_content(const struct fields *f, enum mode mode) {
-    int has_info = f->kind == I || f->kind == UI || f->kind == XID || f->kind == TEST || f->kind == UNKNOWN_KIND;
     if (f->kind == FRMR && mode == LONG_MODE) return 11;
-    if (!has_info && f->info_len > 0) return 23;
+    if (!has_info(f->kind) && f->info_len > 0) return 23;
     return f->is_outside ? 25 : 0;
 }
 
@@ -404,6 +414,53 @@ struct written model_encode_content(enum mode mode, const uint8_t *content, size
     write_content(&f, mode);
     w.length = written_len;
     return w;
+}
+
+/* The reason */
+
+static int is_supervisory(unsigned kind) { return kind >= RR && kind <= SREJ; }
+
+unsigned model_ignored(enum mode mode, unsigned kind, size_t place) {
+    if (kind == FRMR) return place == 1 ? 0xF0 : place == 2 ? 0x01 : 0;
+    return mode == LONG_MODE && is_supervisory(kind) && place == 0 ? 0xF0 : 0;
+}
+
+/* FRMR's three octets are no info here and no tail either: with any other number of them it is refused. */
+static int has_tail(enum mode mode, enum kind kind, size_t len) {
+    size_t control_len = mode == LONG_MODE && is_supervisory(kind) ? 2 : 1;
+    return !has_info(kind) && kind != FRMR && len > control_len;
+}
+
+static int has_ignored(enum mode mode, enum kind kind, const uint8_t *content, size_t len) {
+    for (size_t place = 0; place < 3 && place < len; place++)
+        if (content[place] & model_ignored(mode, kind, place)) return 1;
+    return 0;
+}
+
+static size_t place_of(unsigned number, size_t end) {
+    switch (number) {
+    case 1:
+    case 2:
+    case 10: return 0;
+    case 3:
+    case 4: return end;
+    case 9: return 7 * 10; /* behind destination, source and eight repeaters */
+    default: return end + 1;
+    }
+}
+
+struct reason model_reason(enum mode mode, const uint8_t *in, size_t len) {
+    struct fields f;
+    struct reason r = {AX25_REASON_NONE, read_frame(&f, mode, in, len), 0};
+    size_t span = f.end + 1;
+    if (r.number != 0) {
+        r.code = AX25_REASON_REFUSED;
+        r.place = place_of(r.number, f.end);
+    } else if (span % 7 != 0) r.code = AX25_REASON_LEFTOVER;
+    else if (f.mark == ABSENT) r.code = AX25_REASON_MARKS;
+    else if (has_tail(mode, f.kind, len - span)) r.code = AX25_REASON_TAIL;
+    else if (has_ignored(mode, f.kind, in + span, len - span)) r.code = AX25_REASON_FIXED;
+    return r;
 }
 
 /* Relaying */

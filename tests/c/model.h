@@ -1,6 +1,6 @@
 /* Document 01's rules of reading and writing, with document 02's of the layer 3 PID (M-105), of the reserved bits (M-106), of leading
-   nulls (M-108) and of long sequence numbers (M-109), and document 02's of relaying, written once more in C from their words: what the
-   calls must say of any octets. */
+   nulls (M-108) and of long sequence numbers (M-109), and document 02's of relaying and of the reason (M-110), written once more in C
+   from their words: what the calls must say of any octets. */
 #ifndef MODEL_H
 #define MODEL_H
 
@@ -11,8 +11,11 @@
 
 #define LONGEST ((size_t)1 << 20) /* no test input is longer */
 
-/* Sequence numbers modulo 8, and modulo 128. The calls for C have the first alone. */
+/* Sequence numbers modulo 8, and modulo 128. Of the calls for C, ax25_reason has both, and the others have the first alone. */
 enum mode { SHORT_MODE, LONG_MODE, MODES };
+
+/* The number by which a call is asked for a mode: 0 for the short one, for the long one any other, in turns. */
+uint32_t asking_for(enum mode mode, unsigned turn);
 
 struct answer {
     unsigned number;          /* what decoding gives */
@@ -54,6 +57,18 @@ struct written {
 /* A record, or its first octets, and info of up to LONGEST - RECORD octets; content alone likewise. */
 struct written model_encode(enum mode mode, const uint8_t *record, size_t len, const uint8_t *info, size_t info_len);
 struct written model_encode_content(enum mode mode, const uint8_t *content, size_t len, const uint8_t *info, size_t info_len);
+
+/* Why octets are not canonical in a mode: what ax25_reason gives, and leaves in its *number and *place. It is worked out from the octets,
+   and not from what writing makes of them. */
+struct reason {
+    unsigned code, number;
+    size_t place;
+};
+
+struct reason model_reason(enum mode mode, const uint8_t *in, size_t len);
+
+/* The bits that reading content of this kind ignores in the octet at this place, counted from the control octet. */
+unsigned model_ignored(enum mode mode, unsigned kind, size_t place);
 
 /* A station's address, as ax25_relay is given its own. */
 struct address {

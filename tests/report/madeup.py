@@ -10,9 +10,10 @@ from held import ROOT, read, write
 COMMON = {
     'classes': [{'name': 'octets: every string of 0 to 2', 'inputs': 65793, 'mismatches': 0}],
     'mismatches': 0, 'mismatches_shown': [], 'mismatches_written': 0, 'archive': hashlib.sha256(b'archive').hexdigest(),
-    'decodes': 9, 'writes': 8, 'relays': 7, 'relayed': 6, 'canonical': 4, 'accepted': 5,
-    'decode_numbers': {'0': 5, '1': 4}, 'old_capture_numbers': {'0': 5, '1': 4}, 'packet_numbers': {'0': 3, '54': 2, '56': 0},
-    'kiss_streams': {'streams': 1, 'octets': 2, 'packets': 3, 'dropped': 4}, 'kinds': {'UI': 5}, 'rooms': {'exactly full': 2, 'shorter': 1},
+    'decodes': 9, 'writes': 8, 'relays': 7, 'relayed': 6,
+    'canonical': 4, 'accepted': 7, 'reasons': {'leftover': 0, 'marks': 2, 'tail': 1, 'fixed': 0},
+    'decode_numbers': {'0': 7, '1': 2}, 'old_capture_numbers': {'0': 7, '1': 2}, 'packet_numbers': {'0': 3, '54': 2, '56': 0},
+    'kiss_streams': {'streams': 1, 'octets': 2, 'packets': 3, 'dropped': 4}, 'kinds': {'UI': 7}, 'rooms': {'exactly full': 2, 'shorter': 1},
     'listed': {'B1': 3, 'B4': 5, 'B5': 0}, 'pairs': {'re-encoded as that': {'the same octets': 2}, 'met with the same frame and info': {}},
 }
 COMPARED = {**COMMON, 'only_port': {'B6': 1, 'B7': 2}, 'seed': 25, 'scale': 1}
@@ -38,6 +39,8 @@ ok: the comparison
 ODD = 'a | b|`c`<d>&amp;*e*_f_\\\\g\\xFF [h](i).pcap'
 CAPTURE = {'file': f'/tmp/{ODD}', 'format': 'KISS log', 'octets': 1234, 'sha256': 'ab' * 32, 'frames': 3, 'packets': 4, 'passed_over': 1,
            'doubts': ['one | doubt']}
+# What came of its frames.
+SPELLED = {'accepted': 2, 'canonical': 1, 'reasons': {'leftover': 0, 'marks': 0, 'tail': 1, 'fixed': 0}}
 SOURCES = {'sha256': 'cd' * 32, 'files': 2, 'commit': 'ef' * 20, 'as_committed': True, 'why_unknown': None, 'changed': [],
            'changed_while_running': False}
 CRATE = {'name': 'ax25 0.4.0', 'files': {'src/lib.rs': '12' * 32}, 'as_published': True, 'departs': []}
@@ -62,7 +65,7 @@ class Results:
         write(f'{self.root}/docs/DIFFERENCES.md', read(f'{ROOT}/docs/DIFFERENCES.md'))
         self.run, self.log, self.checked = copy.deepcopy(RUN), LOG, {'captures': [copy.deepcopy(CAPTURE)]}
         self.compared, self.captures = copy.deepcopy(COMPARED), copy.deepcopy(ON_CAPTURES)
-        self.captures['captures'] = [{**CAPTURE, 'passed_over': ['octet 3: why']}]
+        self.captures['captures'] = [{**CAPTURE, **SPELLED, 'passed_over': ['octet 3: why']}]
         del self.captures['captures'][0]['doubts']
 
     def made(self):

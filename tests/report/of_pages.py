@@ -12,6 +12,7 @@ import verdict
 from held import ROOT, check, equal, read, write
 from madeup import COMPARED, CRATE, MISMATCH, ODD, ON_CAPTURES, SOURCES, Results
 from pages import Signatures
+from reasons import MEANINGS
 
 COMPARE = os.environ.get('COMPARE') or f'{ROOT}/target/compare/compare'
 
@@ -111,8 +112,10 @@ def says(made, page, markdown):
                   '1 KISS stream of 2 octets read in pieces: 3 packets given out, 4 dropped.',
                   'Room lent to writers: exactly full 2 times, shorter 1 time.', '| octets: every string of 0 to 2 | 65,793 | 0 |',
                   '| UI | decode | 9.0 |', '| ax25_decode | 88 |', '| two | 4 | 2 |', 'valgrind: it is not on this host',
-                  'by programs alone: read, write', 'one | doubt'):
-        check(f'the report says: {words}', words in every)
+                  'by programs alone: read, write', 'one | doubt', '| file | refused | accepted | canonical | leftover | marks | tail | fixed |',
+                  ' | 1 | 2 | 1 | 0 | 0 | 1 | 0 |', '| all | 2 | 7 | 4 | 0 | 2 | 1 | 0 |',
+                  '- marks: it is marked neither as a command nor as a response\n'):
+        check(f'the report says: {words.strip()}', words in every)
 
 
 def met(page):
@@ -190,9 +193,11 @@ def real(work):
     listed = [line for line in (line.split('#')[0].replace(' ', '') for line in read(f'{samples}/frames.hex').split('\n')) if line]
     count, nulls = len(listed), sum(line.startswith('00') and bool(re.search('[1-9A-Fa-f]', line)) for line in listed)
     of_a_log(work, f'{samples}/frames.kiss', count, nulls)
+    of_reasons(work, f'{samples}/frames.hex', count)
     write(f'{work}/without.hex', '8E82\n00\n')
-    page, _ = of_captures(work, [f'{work}/without.hex'])
+    page, made = of_captures(work, [f'{work}/without.hex'])
     check('of frames without leading nulls, and of a null alone, it says that none had any', '- None of 2 frames had leading nulls.\n' in page)
+    equal('and of frames that are all refused, that none has a reason', made['captures'][0]['reasons'], dict.fromkeys(MEANINGS, 0))
     page, _ = of_captures(work, [f'{samples}/frames.hex'], lambda part: part.update(mismatches=1))
     words = (f'- {nulls} of {count} frames had leading nulls: what the decoder and the entry for old captures make of them was compared, and '
              'something above differs.\n')
@@ -218,3 +223,55 @@ def of_a_log(work, log, count, nulls):
     part = made['verdict']['parts'][2]
     check('what was looked over is what was compared, and the captures hold', made['captures'][0]['compared'] and part['holds'], part)
     equal('the made-up results have every field that the comparison leaves', sorted(set(made['captures_compared']) ^ set(ON_CAPTURES)), [])
+
+
+# The frames of a small capture, by what is counted of them; of some that have a reason one behind it in the order holds too.
+FIELD, RESPONSE, EQUAL, LEFT_OVER, BOTH = (f'8E82AA8E8A40{seventh}849EB0626440{last}' for seventh, last in (
+    ('E0', '67'), ('60', 'E7'), ('60', '67'), ('E0', '6641'), ('60', '6641')))
+SMALL = {
+    'refused': ['8E82', FIELD, FIELD + '03', '00' + FIELD + '01', RESPONSE + '87F103'],
+    'canonical': [FIELD + '03F04F4B', FIELD + '01', FIELD + 'AF8280', RESPONSE + '87010244', FIELD + 'E3', FIELD + '6F'],
+    'leftover': [LEFT_OVER + '01', BOTH + '01', LEFT_OVER + '01AA', LEFT_OVER + '87F10344'],
+    'marks': [EQUAL + '03F0', EQUAL + '01AA', EQUAL + '87010344'],
+    'tail': [FIELD + '01AA', FIELD + '6F01'],
+    'fixed': [RESPONSE + '87010344'],
+}
+# How many frames of tests/captures/frames.hex are accepted.
+LISTED = {'canonical': 60, 'leftover': 3, 'marks': 2, 'tail': 5, 'fixed': 1}
+
+
+def of_reasons(work, listed, count):
+    """The small capture, the list, and the small one's frames with each bit changed alone, of which only the sums are known."""
+    small = [frame for frames in SMALL.values() for frame in frames]
+    changed = [f'{int(frame, 16) ^ 1 << bit:0{len(frame)}x}' for frame in small for bit in range(4 * len(frame))]
+    for name, lines in (('small', small), ('changed', changed)):
+        write(f'{work}/{name}.hex', '\n'.join(lines))
+    page, made = of_captures(work, [f'{work}/small.hex', listed, f'{work}/changed.hex'])
+    captures = made['captures']
+    for name, capture, frames, known in (('small.hex', captures[0], len(small), {what: len(frames) for what, frames in SMALL.items()}),
+                                         ('frames.hex', captures[1], count, LISTED)):
+        reasons = {word: known[word] for word in MEANINGS}
+        owed = {'accepted': known['canonical'] + sum(reasons.values()), 'canonical': known['canonical'], 'reasons': reasons}
+        equal(f'of {name} the JSON counts the frames that are accepted, canonical, and not, by reason', spelled(capture), owed)
+        equal('and so does the page', spelled_on(page, name), spelled_row(frames, owed))
+    reasons, others = captures[2]['reasons'], captures[2]['accepted'] - captures[2]['canonical']
+    check('of each bit changed alone the reasons add up to what is accepted and not canonical',
+          sum(reasons.values()) == others and all(reasons.values()), captures[2])
+    sums = {what: sum(capture[what] for capture in captures) for what in ('accepted', 'canonical')}
+    sums['reasons'] = {word: sum(capture['reasons'][word] for capture in captures) for word in MEANINGS}
+    equal('and what all of them come to is the sum', spelled(made['captures_compared']), sums)
+    equal('which the page has too', spelled_on(page, 'all'), spelled_row(sum(capture['frames'] for capture in captures), sums))
+
+
+def spelled(counts):
+    return {what: counts[what] for what in evidence.SPELLED}
+
+
+def spelled_row(frames, counts):
+    return [f'{number:,}' for number in (frames - counts['accepted'], counts['accepted'], counts['canonical'], *counts['reasons'].values())]
+
+
+def spelled_on(page, name):
+    """What the page's table of reasons has behind the name of a file."""
+    [row] = table_rows(page.partition('\n## Frames that are not canonical\n')[2].partition('\n## ')[0], rf'(?:`.*/)?{re.escape(name)}`?')
+    return row[1:]

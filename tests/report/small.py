@@ -68,7 +68,8 @@ part = json.load(open(os.environ['MARKS'] + '/on-captures.json'))
 for line in open(words[1], encoding='utf-8'):
     kind, *fields = line.rstrip('\n').split('\t')
     if kind == 'capture':
-        part['captures'].append({'file': fields[0], 'format': fields[1], 'frames': 0, 'packets': 0, 'passed_over': []})
+        part['captures'].append({'file': fields[0], 'format': fields[1], 'frames': 0, 'packets': 0, 'passed_over': [],
+                                 'accepted': 0, 'canonical': 0, 'reasons': dict.fromkeys(part['reasons'], 0)})
     elif kind in ('frame', 'packet'):
         part['captures'][-1][kind + 's'] += 1
     elif kind == 'end':

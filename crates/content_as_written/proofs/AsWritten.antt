@@ -1,11 +1,11 @@
 -- The direct test and spelling: what is spelled passes, and what passes is what its reading spells.
 use Prim.Native.Nat.{ℕ, _+_, _*_, _/_, _%_, _<_, _≤_}
 use mathlib.Core.Path.{_≡_, refl, ap, sym, _∙_}
-use mathlib.Core.Bool.{Bool, true, false, false≢true, cond, _&&_, _||_}
+use mathlib.Core.Bool.{Bool, true, false, false≢true, cond, not, _&&_, _||_}
 use mathlib.Core.List.{List, [], _∷_, _++_, append-nil, append-assoc}
 use native.Mathlib.Omega.{arith}
-use borrow.Author.Tests.{eq-eqb, ne-eqb, eqb-true}
-use lib.Dec.{eqb}
+use borrow.Author.Tests.{eq-eqb, ne-eqb, eqb-true, ltb-false, not-true}
+use lib.Dec.{eqb, ltb}
 use lib.ListN.{length, getD, drop}
 use Rattle.octets.specs.Octet.{Octets, field, bit}
 use Rattle.octets.proofs.Choice.{both}
@@ -17,8 +17,8 @@ use Rattle.control.specs.Control.{rr, rnr, rej, srej, sabm, sabme, disc, dm, ua
 use Rattle.parse.specs.Content.{iFieldsOf, responseOf}
 use Rattle.control.specs.Spell.{numbered, received, sent, sequenced, unnumbered, flags}
 use Rattle.content.specs.Spell.{hasInfo, isResponse, front, spellContent, PlainContent}
-use Rattle.parse.specs.Numbers.{isI}
-use Rattle.content_as_written.specs.AsWritten.{frmrTidy, sTidy, uAsWritten, asWritten, infoOf}
+use Rattle.parse.specs.Numbers.{isFrmr}
+use Rattle.content_as_written.specs.AsWritten.{frmrTidy, sTidy, isTidy, uTail, hasTail, asWritten, infoOf}
 use Rattle.content_as_written.proofs.Back.{flags-below, low-back}
 use Rattle.parse.proofs.Read.{Reads}
 use Rattle.parse.proofs.Read.Reads.{i-frame, rr-frame, rnr-frame, rej-frame, srej-frame, sabm-frame, sabme-frame, disc-frame, dm-frame, ua-frame, frmr-frame, ui-frame, xid-frame, test-frame}
@@ -91,7 +91,7 @@ four-parts (v ∷ x ∷ y ∷ []) a b c d h p q r t = absurd (omega arith)
 four-parts (v ∷ x ∷ y ∷ z ∷ []) a b c d h p q r t = cc
 four-parts (v ∷ x ∷ y ∷ z ∷ u ∷ s) a b c d h p q r t = absurd (omega arith)
 
--- the test at each sort of kind
+-- the tests at each sort of kind
 abbrev carries : ℕ → Bool
 carries k = eqb k ui || eqb k xid || eqb k test
 
@@ -99,28 +99,27 @@ module _ (m : Mode) (s : List ℕ) where
   abbrev c : ℕ
   c = getD s 0 0
 
-  as-written-i : isI c ≡ true → asWritten m s ≡ true
-  unfolding asWritten
-  as-written-i e = simp e
+  as-written-i : field 0 1 c ≡ 0 → asWritten m s ≡ true
+  unfolding hasTail isTidy
+  as-written-i e =
+      simp (eq-eqb (field 0 1 c) 0 e, ne-eqb (field 0 2 c) 1 (λ z. omega arith), ne-eqb (uKind c) frmr (λ z. omega arith))
 
-  as-written-s : field 0 2 c ≡ 1 → asWritten m s ≡ (sTidy m c && eqb (length s) (controls m))
-  unfolding asWritten
+  as-written-s : field 0 2 c ≡ 1 → asWritten m s ≡ (not (ltb (controls m) (length s)) && sTidy m c)
+  unfolding hasTail isTidy
   as-written-s e = simp (ne-eqb (field 0 1 c) 0 (λ z. omega arith), eq-eqb (field 0 2 c) 1 e)
 
-  by-kind : (k : ℕ) → field 0 2 k ≡ 3 → uKind c ≡ k → asWritten m s ≡ uAsWritten c s
-  unfolding asWritten
+  by-kind : (k : ℕ) → field 0 2 k ≡ 3 → uKind c ≡ k
+      → asWritten m s ≡ (not (uTail c (length s)) && cond (isFrmr c) (frmrTidy (getD s 1 0) (getD s 2 0)) true)
+  unfolding hasTail isTidy
   by-kind k w e = simp (ne-eqb (field 0 1 c) 0 (λ z. omega arith), ne-eqb (field 0 2 c) 1 (λ z. omega arith))
 
-  as-written-info : (k : ℕ) → field 0 2 k ≡ 3 → carries k ≡ true → uKind c ≡ k → asWritten m s ≡ true
-  unfolding uAsWritten
-  as-written-info k w a e = by-kind k w e ∙ rw (e, a) refl
+  as-written-info : (k : ℕ) → field 0 2 k ≡ 3 → carries k ≡ true → eqb k frmr ≡ false → uKind c ≡ k → asWritten m s ≡ true
+  as-written-info k w a b e = by-kind k w e ∙ rw (e, a, b) refl
 
   as-written-frmr : uKind c ≡ frmr → asWritten m s ≡ frmrTidy (getD s 1 0) (getD s 2 0)
-  unfolding uAsWritten
   as-written-frmr e = by-kind frmr refl e ∙ rw e refl
 
-  as-written-u : (k : ℕ) → field 0 2 k ≡ 3 → carries k ≡ false → eqb k frmr ≡ false → uKind c ≡ k → asWritten m s ≡ eqb (length s) 1
-  unfolding uAsWritten
+  as-written-u : (k : ℕ) → field 0 2 k ≡ 3 → carries k ≡ false → eqb k frmr ≡ false → uKind c ≡ k → asWritten m s ≡ (not (ltb 1 (length s)) && true)
   as-written-u k w a b e = by-kind k w e ∙ rw (e, a, b) refl
 
 -- content with info is what its reading spells, whatever its octets are
@@ -158,27 +157,32 @@ tidy-again Long s o k e t l =
 
 -- what passes is what its reading spells
 module _ (m : Mode) (s : List ℕ) (o : Octets s) (passed : asWritten m s ≡ true) where
-  s-exact : (k : ℕ) → k % 4 ≡ 1 → sKind (getD s 0 0) ≡ k → sequenced m (receiveIn m s) (pollIn m s) k ++ [] ≡ s
-  s-exact k w e =
-      let h = both (sTidy m (getD s 0 0)) (eqb (length s) (controls m)) (sym (as-written-s m s (omega arith)) ∙ passed) in
-      append-nil _ ∙ tidy-again m s o k e (h .0) (eqb-true (length s) (controls m) (h .1))
+  -- what is as long as its kind, at least, and has no tail is just as long
+  no-longer : (n : ℕ) → n ≤ length s → not (ltb n (length s)) ≡ true → length s ≡ n
+  no-longer n l t = omega (arith, l, ltb-false n (length s) (not-true _ t))
 
-  u-exact : (k : ℕ) → field 0 2 k ≡ 3 → carries k ≡ false → eqb k frmr ≡ false → uKind (getD s 0 0) ≡ k
+  s-exact : (k : ℕ) → k % 4 ≡ 1 → controls m ≤ length s → sKind (getD s 0 0) ≡ k → sequenced m (receiveIn m s) (pollIn m s) k ++ [] ≡ s
+  s-exact k w n e =
+      let h = both (not (ltb (controls m) (length s))) (sTidy m (getD s 0 0)) (sym (as-written-s m s (omega arith)) ∙ passed) in
+      append-nil _ ∙ tidy-again m s o k e (h .1) (no-longer (controls m) n (h .0))
+
+  u-exact : (k : ℕ) → field 0 2 k ≡ 3 → carries k ≡ false → eqb k frmr ≡ false → 0 < length s → uKind (getD s 0 0) ≡ k
       → unnumbered k (pollOf (getD s 0 0)) ∷ [] ≡ s
-  u-exact k w a b e =
-      one-part s _ (eqb-true (length s) 1 (sym (as-written-u m s k w a b e) ∙ passed)) (rw e at (unnumbered-again (getD s 0 0) (o 0)))
+  u-exact k w a b n e =
+      let h = both (not (ltb 1 (length s))) true (sym (as-written-u m s k w a b e) ∙ passed) in
+      one-part s _ (no-longer 1 n (h .0)) (rw e at (unnumbered-again (getD s 0 0) (o 0)))
 
   pub as-written-exact : {k : FrameContent} → Reads m s k → spellContent m k (infoOf m k s) ≡ s
   as-written-exact (i-frame n t) = info-exact m s o (i-frame n t) refl
-  as-written-exact (rr-frame n t) = s-exact rr refl t
-  as-written-exact (rnr-frame n t) = s-exact rnr refl t
-  as-written-exact (rej-frame n t) = s-exact rej refl t
-  as-written-exact (srej-frame n t) = s-exact srej refl t
-  as-written-exact (sabm-frame n t) = u-exact sabm refl refl refl t
-  as-written-exact (sabme-frame n t) = u-exact sabme refl refl refl t
-  as-written-exact (disc-frame n t) = u-exact disc refl refl refl t
-  as-written-exact (dm-frame n t) = u-exact dm refl refl refl t
-  as-written-exact (ua-frame n t) = u-exact ua refl refl refl t
+  as-written-exact (rr-frame n t) = s-exact rr refl n t
+  as-written-exact (rnr-frame n t) = s-exact rnr refl n t
+  as-written-exact (rej-frame n t) = s-exact rej refl n t
+  as-written-exact (srej-frame n t) = s-exact srej refl n t
+  as-written-exact (sabm-frame n t) = u-exact sabm refl refl refl n t
+  as-written-exact (sabme-frame n t) = u-exact sabme refl refl refl n t
+  as-written-exact (disc-frame n t) = u-exact disc refl refl refl n t
+  as-written-exact (dm-frame n t) = u-exact dm refl refl refl n t
+  as-written-exact (ua-frame n t) = u-exact ua refl refl refl n t
   as-written-exact (frmr-frame a n t) =
       let tidy = both (eqb (field 4 4 (getD s 1 0)) 0) (eqb (field 0 1 (getD s 2 0)) 0) (sym (as-written-frmr m s t) ∙ passed) in
       four-parts s _ _ _ _ n (rw t at (unnumbered-again (getD s 0 0) (o 0)))
@@ -193,8 +197,8 @@ low-none n p v = omega (arith, low-back n (sent Short v) (omega arith) p)
 
 -- an I or S control field that is spelled passes
 i-spelled : (m : Mode) (n : ℕ) (p : Bool) (v : ℕ) (r : List ℕ) → asWritten m (sequenced m n p (sent m v) ++ r) ≡ true
-i-spelled Short n p v r = as-written-i Short _ (eq-eqb _ 0 (low-none n p v))
-i-spelled Long n p v r = as-written-i Long _ (eq-eqb (field 0 1 (sent Long v)) 0 (omega arith))
+i-spelled Short n p v r = as-written-i Short _ (low-none n p v)
+i-spelled Long n p v r = as-written-i Long _ (omega arith)
 
 s-spelled : (m : Mode) (n : ℕ) (p : Bool) (k : ℕ) → k < 16 → k % 4 ≡ 1 → asWritten m (sequenced m n p k) ≡ true
 s-spelled Short n p k h e = as-written-s Short (numbered n p k ∷ []) (omega (arith, low-back n k h p))
@@ -216,9 +220,9 @@ module _ (m : Mode) where
       → (i : List ℕ) → i ≡ [] → asWritten m (unnumbered k p ∷ i) ≡ true
   u-bare k p h u w a b i z = rw z (as-written-u m (unnumbered k p ∷ []) k w a b (unnumbered-kind k p h u))
 
-  u-info : (k : ℕ) (p : Bool) → k < 256 → eqb (uKind k) k ≡ true → field 0 2 k ≡ 3 → carries k ≡ true → (i : List ℕ)
-      → asWritten m (unnumbered k p ∷ i) ≡ true
-  u-info k p h u w a i = as-written-info m (unnumbered k p ∷ i) k w a (unnumbered-kind k p h u)
+  u-info : (k : ℕ) (p : Bool) → k < 256 → eqb (uKind k) k ≡ true → field 0 2 k ≡ 3 → carries k ≡ true → eqb k frmr ≡ false
+      → (i : List ℕ) → asWritten m (unnumbered k p ∷ i) ≡ true
+  u-info k p h u w a b i = as-written-info m (unnumbered k p ∷ i) k w a b (unnumbered-kind k p h u)
 
   pub as-written-spelled : (k : FrameContent) (i : List ℕ) → PlainContent m k → (hasInfo k ≡ false → i ≡ []) → asWritten m (spellContent m k i) ≡ true
   as-written-spelled (kind.Information k) i h e =
@@ -237,7 +241,7 @@ module _ (m : Mode) where
       (as-written-frmr m (front m (kind.FrameReject k)) (unnumbered-kind frmr (k .«final_bit») (omega arith) refl)
       ∙ rw (eq-eqb (field 4 4 (flags (k .z) (k .y) (k .x) (k .w))) 0 (omega (arith, flags-below (k .z) (k .y) (k .x) (k .w))))
       (eq-eqb _ 0 (low-none (k .«receive_sequence») (isResponse (k .«command_response»)) (k .«send_sequence»))))
-  as-written-spelled (kind.UnnumberedInformation k) i h e = u-info ui (k .«poll_or_final») (omega arith) refl refl refl (octetOf (k .pid) ∷ i)
-  as-written-spelled (kind.ExchangeIdentification k) i h e = u-info xid (k .«poll_or_final») (omega arith) refl refl refl i
-  as-written-spelled (kind.Test k) i h e = u-info test (k .«poll_or_final») (omega arith) refl refl refl i
+  as-written-spelled (kind.UnnumberedInformation k) i h e = u-info ui (k .«poll_or_final») (omega arith) refl refl refl refl (octetOf (k .pid) ∷ i)
+  as-written-spelled (kind.ExchangeIdentification k) i h e = u-info xid (k .«poll_or_final») (omega arith) refl refl refl refl i
+  as-written-spelled (kind.Test k) i h e = u-info test (k .«poll_or_final») (omega arith) refl refl refl refl i
   as-written-spelled kind.UnknownContent i h e = absurd h

@@ -1,8 +1,9 @@
--- Content octets that are just as writing gives them, tested octet by octet: what the canonical check asks of content.
+-- Content octets that are just as writing gives them, tested octet by octet: what the canonical check asks of content, and what document 02
+-- (M-110) calls tail and fixed where it says no.
 use Prim.Native.Nat.{ℕ}
-use mathlib.Core.Bool.{Bool, true, cond, _&&_, _||_}
+use mathlib.Core.Bool.{Bool, true, false, cond, not, _&&_, _||_}
 use mathlib.Core.List.{List, []}
-use lib.Dec.{eqb}
+use lib.Dec.{eqb, ltb}
 use lib.ListN.{length, getD, drop}
 use Rattle.octets.specs.Octet.{field}
 use Rattle.control.specs.Mode.{controls}
@@ -21,19 +22,28 @@ abbrev pub sTidy : Mode → ℕ → Bool
 sTidy Short c = true
 sTidy Long c = eqb (field 4 4 c) 0
 
--- a U frame with this control octet: UI, XID and TEST as they are, since reading keeps every bit of theirs; FRMR tidy; no tail in another
-unfoldable pub uAsWritten : ℕ → List ℕ → Bool
-uAsWritten c s =
-    cond (isUi c || isXid c || isTest c) true
-    (cond (isFrmr c) (frmrTidy (getD s 1 0) (getD s 2 0))
-    (eqb (length s) 1))
+-- no bit is set that reading ignores: the conditions above in S and in FRMR, and in another kind reading keeps every bit
+unfoldable pub isTidy : Mode → List ℕ → Bool
+isTidy m s =
+    cond (isS (getD s 0 0)) (sTidy m (getD s 0 0))
+    (cond (isFrmr (getD s 0 0)) (frmrTidy (getD s 1 0) (getD s 2 0))
+    true)
 
--- I as it is, since reading keeps every bit of it; S tidy and without a tail; U by its kind. For content that reading accepts
-unfoldable pub asWritten : Mode → List ℕ → Bool
-asWritten m s =
-    cond (isI (getD s 0 0)) true
-    (cond (isS (getD s 0 0)) (sTidy m (getD s 0 0) && eqb (length s) (controls m))
-    (uAsWritten (getD s 0 0) s))
+-- a U frame with this control octet and so many octets has a tail: UI, XID and TEST have info, and FRMR is as long as reading wants it; another
+-- is its control octet
+abbrev pub uTail : ℕ → ℕ → Bool
+uTail c len = cond (isUi c || isXid c || isTest c || isFrmr c) false (ltb 1 len)
+
+-- octets follow a kind without info: I has info; S is its control field; U by its kind
+unfoldable pub hasTail : Mode → List ℕ → Bool
+hasTail m s =
+    cond (isI (getD s 0 0)) false
+    (cond (isS (getD s 0 0)) (ltb (controls m) (length s))
+    (uTail (getD s 0 0) (length s)))
+
+-- neither, of content that reading accepts
+abbrev pub asWritten : Mode → List ℕ → Bool
+asWritten m s = not (hasTail m s) && isTidy m s
 
 -- the info of content that is read as this kind: what follows the octets before it
 abbrev pub infoOf : Mode → FrameContent → List ℕ → List ℕ

@@ -1,12 +1,10 @@
-// Whether content is just as writing gives it.
+// Whether content is just as writing gives it: the bits that reading ignores are zero, and there is no tail. Of I, UI, XID and TEST every
+// octet is written as it was read.
 use control::Mode;
 ghost use mathlib.Core.Path.{_≡_};
-ghost use mathlib.Core.Bool.{_&&_};
-ghost use lib.Dec.{eqb};
 ghost use lib.ListN.{getD};
-ghost use Rattle.control.specs.Mode.{controls};
 ghost use Rattle.parse.specs.Numbers.{isI, isS};
-ghost use Rattle.content_as_written.specs.AsWritten.{frmrTidy, sTidy, uAsWritten, asWritten};
+ghost use Rattle.content_as_written.specs.AsWritten.{frmrTidy, sTidy, isTidy, uTail, hasTail};
 
 // An octet, or 0 past the end.
 fn octet(bytes: &[u8], at: usize) -> u8
@@ -49,41 +47,47 @@ fn s_tidy(mode: Mode, control: u8) -> bool
     }
 }
 
-// So many octets of an S frame: tidy, no tail.
-fn is_s_as_written(mode: Mode, control: u8, len: usize) -> bool
-    ensures { λ r. ⌜ r ≡ (sTidy mode control && eqb len (controls mode)) ⌝ }
+// Whether the bits that reading ignores are zero, in content that it accepts: those of FRMR, and in the long mode those of S. What is missing
+// counts as 0 here, and nothing is refused.
+pub fn is_tidy(mode: Mode, bytes: &[u8]) -> bool
+    ensures { λ r. ⌜ r ≡ isTidy mode (now (bytes .entry)) ⌝ }
 {
-    if !s_tidy(mode, control) {
-        return false;
+    let control = octet(bytes, 0);
+    if is_s(control) {
+        return s_tidy(mode, control);
     }
-    len == mode.controls()
+    let kind = control & 0b1110_1111;
+    if kind != 0b1000_0111 {
+        return true;
+    }
+    frmr_tidy(octet(bytes, 1), octet(bytes, 2))
 }
 
-// A U frame: UI, XID and TEST as they are; FRMR tidy; no tail in another.
-fn is_u_as_written(control: u8, bytes: &[u8]) -> bool
-    ensures { λ r. ⌜ r ≡ uAsWritten control (now (bytes .entry)) ⌝ }
+// So many octets of a U frame: UI, XID, TEST and FRMR have no tail.
+fn u_has_tail(control: u8, len: usize) -> bool
+    ensures { λ r. ⌜ r ≡ uTail control len ⌝ }
 {
     let kind = control & 0b1110_1111;
     match kind {
-        0b0000_0011 => true,
-        0b1010_1111 => true,
-        0b1110_0011 => true,
-        0b1000_0111 => frmr_tidy(octet(bytes, 1), octet(bytes, 2)),
-        _ => bytes.len() == 1,
+        0b0000_0011 => false,
+        0b1010_1111 => false,
+        0b1110_0011 => false,
+        0b1000_0111 => false,
+        _ => 1 < len,
     }
 }
 
-// Content from its control octet on: the bits that reading ignores zero, no tail; of I, UI, XID and TEST every octet is written as it was
-// read. The answer means something only of content that reading accepts: what is missing counts as 0 here, and nothing is refused.
-pub fn is_as_written(mode: Mode, bytes: &[u8]) -> bool
-    ensures { λ r. ⌜ r ≡ asWritten mode (now (bytes .entry)) ⌝ }
+// Whether octets follow a kind without info, in content that reading accepts. Of other content the answer says nothing, and nothing is
+// refused.
+pub fn has_tail(mode: Mode, bytes: &[u8]) -> bool
+    ensures { λ r. ⌜ r ≡ hasTail mode (now (bytes .entry)) ⌝ }
 {
     let control = octet(bytes, 0);
     if is_i(control) {
-        return true;
+        return false;
     }
     if is_s(control) {
-        return is_s_as_written(mode, control, bytes.len());
+        return mode.controls() < bytes.len();
     }
-    is_u_as_written(control, bytes)
+    u_has_tail(control, bytes.len())
 }

@@ -10,7 +10,7 @@ use borrow.Author.Tests.{ne-eqb, eqb-true, le-leb}
 use types.Run.{OneOf, miss}
 use denote.Enum.Declared.{tagOf}
 use lib.Bits.{and-mask}
-use lib.Dec.{ltb}
+use lib.Dec.{eqb, ltb}
 use lib.ListN.{length, getD, set}
 use Rattle.octets.specs.Octet.{Octets, bit}
 use Rattle.octets.specs.First.{first}
@@ -19,7 +19,7 @@ use Rattle.octets.proofs.First.{first-is, first-beyond, first-sooner, first-sam
 use Rattle.parse.proofs.ContentAnswer.{the-type}
 use Rattle.parse.specs.declared.ContentAnswer.{ContentAnswer}
 use Rattle.parse.specs.declared.ContentAnswer.the-variants as content
-use Rattle.decode.specs.Answer.{isAccepted}
+use Rattle.decode.specs.Answer.{numberOf, isAccepted}
 use Rattle.decode.specs.declared.DecodeAnswer.{DecodeAnswer}
 use Rattle.decode.specs.declared.DecodeAnswer.the-variants as answer
 use Rattle.decode.proofs.DecodeAnswer.{the-type as decode-type}
@@ -88,3 +88,18 @@ told-content content.UnrecognisedUFieldType h = refl
 told-content content.WrongSizeFrmrInfo h = refl
 told-content content.FrameRejectInLongMode h = refl
 told-content content.MissingControlOctet h = refl
+
+-- a decode is accepted where its number is 0
+pub zero-accepted : (a : DecodeAnswer) → eqb (numberOf a) 0 ≡ isAccepted a
+zero-accepted answer.Accepted = refl
+zero-accepted answer.OnlyNullBytes = refl
+zero-accepted answer.NoEndToAddressField = refl
+zero-accepted (answer.AddressFieldTooShort start end) = refl
+zero-accepted (answer.FrameTooShort len) = refl
+zero-accepted answer.MissingPidField = refl
+zero-accepted answer.UnrecognisedUFieldType = refl
+zero-accepted answer.WrongSizeFrmrInfo = refl
+zero-accepted answer.TooManyRepeaters = refl
+zero-accepted answer.LeadingNullBytes = refl
+zero-accepted answer.FrameRejectInLongMode = refl
+zero-accepted answer.MissingControlOctet = refl

@@ -1,9 +1,10 @@
-// The demands on the calls that C links, all in the short mode, as contracts of the code, as in `demand_contracts_frames`.
+// The demands on the calls that C links, in the short mode but for the reason's, as contracts of the code, as in `demand_contracts_frames`.
 ghost use mathlib.Core.Path.{_≡_};
 ghost use mathlib.Core.Bool.{true, false};
 ghost use mathlib.Core.Logic.{_↔_};
 ghost use Prim.Native.Nat.{_≤_, _<_};
 ghost use lib.ListN.{length};
+ghost use Rattle.control.specs.Mode.{modeOf};
 ghost use Rattle.control.specs.declared.Mode.the-variants.{Short};
 ghost use Rattle.decode.specs.Answer.{numberOf, isAccepted};
 ghost use Rattle.decode.specs.Read.{decode};
@@ -40,6 +41,17 @@ pub fn canonical(input: &[u8]) -> u32
     ensures { λ r. ⌜ ((Spelled Short (now (input .entry)) → ⊥) → r ≡ 0) ⌝ }
 {
     loader::ax25_canonical(input)
+}
+
+// Document 02, M-110: 0 exactly when some plain frame spells the input in that mode; a number below 5, and no number and no place beside it,
+// where the input is accepted; else 5, with the number of the first row of the table that holds.
+pub fn told(input: &[u8], mode: u32, number: &mut u32, place: &mut usize) -> u32
+    ensures { λ r. ⌜ (r ≡ 0) ↔ Spelled (modeOf mode) (now (input .entry)) ⌝ }
+    ensures { λ r. ⌜ (isAccepted (decode (modeOf mode) (now (input .entry)) .answer) ≡ true → (r < 5) × (now (number .exit) ≡ 0) × (now (place .exit) ≡ 0)) ⌝ }
+    ensures { λ r. ⌜ (isAccepted (decode (modeOf mode) (now (input .entry)) .answer) ≡ false → r ≡ 5) ⌝ }
+    ensures { λ r. ⌜ FirstRow (decodeTable (modeOf mode) (now (input .entry))) (now (number .exit)) ⌝ }
+{
+    loader::ax25_reason(input, mode, number, place)
 }
 
 // How many octets the respelling has; 0 where the input is refused.

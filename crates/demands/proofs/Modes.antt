@@ -26,12 +26,12 @@ use Rattle.decode.specs.declared.Decoded.{Decoded}
 use Rattle.decode.specs.declared.DecodeAnswer.{DecodeAnswer}
 use Rattle.decode.specs.declared.DecodeAnswer.the-variants as read
 use Rattle.decode.proofs.Accepts.{accepts}
+use Rattle.decode.proofs.Read.{zero-accepted}
 use Rattle.grammar.proofs.Numbers.{decode-rows}
 use Rattle.spelling.specs.Canonical.{again, canonical}
 use Rattle.respelling.specs.Reencode.{due}
 use Rattle.demands.specs.Examples.{Outcome, outcome}
 use Rattle.demands.specs.Modes.{longCases, bothCases, AllButContent}
-use Rattle.demands.proofs.Relay.{zero-accepted}
 
 abbrev content : List ℕ → List ℕ
 content s = drop (endOf s + 1) s

@@ -22,8 +22,7 @@ use Rattle.frame.specs.declared.Ax25Frame.{Ax25Frame}
 use Rattle.decode.specs.Answer.{numberOf, isAccepted}
 use Rattle.decode.specs.Read.{decode}
 use Rattle.decode.specs.declared.Decoded.{Decoded}
-use Rattle.decode.specs.declared.DecodeAnswer.{DecodeAnswer}
-use Rattle.decode.specs.declared.DecodeAnswer.the-variants as read
+use Rattle.decode.proofs.Read.{zero-accepted}
 use Rattle.grammar.proofs.Numbers.{decode-rows}
 use Rattle.grammar.proofs.Marks.{remarked, route, route-length, place-read, decode-marked, info-marked, direct-marked}
 use Rattle.hops.specs.Hops.{duePlace, broken}
@@ -53,21 +52,6 @@ given-append (row ∷ a) b e =
     let nonzero : eqb (row .0) 0 ≡ false = by (eqb (row .0) 0) (λ z. absurd (false≢true (rw z at e))) (λ z. z) in
     let rest : all (λ (r : ℕ × Bool). not (eqb (r .0) 0)) a ≡ true = rw nonzero at e in
     by (row .1) (λ t. rw (t, nonzero) refl) (λ t. rw t (given-append a b rest))
-
--- a decode is accepted where its number is 0
-pub zero-accepted : (a : DecodeAnswer) → eqb (numberOf a) 0 ≡ isAccepted a
-zero-accepted read.Accepted = refl
-zero-accepted read.OnlyNullBytes = refl
-zero-accepted read.NoEndToAddressField = refl
-zero-accepted (read.AddressFieldTooShort start end) = refl
-zero-accepted (read.FrameTooShort len) = refl
-zero-accepted read.MissingPidField = refl
-zero-accepted read.UnrecognisedUFieldType = refl
-zero-accepted read.WrongSizeFrmrInfo = refl
-zero-accepted read.TooManyRepeaters = refl
-zero-accepted read.LeadingNullBytes = refl
-zero-accepted read.FrameRejectInLongMode = refl
-zero-accepted read.MissingControlOctet = refl
 
 decoded-rows : (s : List ℕ) → given (decodeTable Short s) ≡ numberOf (decode Short s .answer)
 unfolding given
@@ -245,7 +229,7 @@ module _ (own : Address) (s : List ℕ) (z : numbered (relayAnswer own s) ≡ 0)
   same-canonical : Octets s → canonical Short t ≡ canonical Short s
   same-canonical o =
       canonical-direct Short t (octets-again o) again-accepted
-      ∙ rw read-again (direct-marked Short s (d .accepted) i (orMark b) (d .inner) (mark-low b))
+      ∙ direct-marked Short s (d .accepted) i (orMark b) (d .inner) (mark-low b)
       ∙ sym (canonical-direct Short s o (d .accepted))
 
   -- the mark was not set

@@ -23,12 +23,14 @@ use Rattle.decode.specs.declared.DecodeAnswer.{DecodeAnswer}
 use Rattle.decode.specs.declared.DecodeAnswer.the-variants as answer
 use Rattle.frame.specs.declared.RouteEntry.{RouteEntry}
 use Rattle.grammar.proofs.Plain.{Stations, stations, inside}
+use Rattle.reason.specs.Reason.{reasonOf}
+use Rattle.reason.specs.declared.Reason.{Reason}
 use Rattle.spelling.specs.Canonical.{canonical}
 use Rattle.words.specs.Ascii.{ascii}
-use Rattle.words.specs.Words.{character, markText, kindText, controlText, pidText, yesNo}
-use Rattle.words.proofs.Laws.{character-short, mark-short, kind-short, pid-short, yes-no-short}
+use Rattle.words.specs.Words.{character, markText, kindText, controlText, pidText, yesNo, reasonText}
+use Rattle.words.proofs.Laws.{character-short, mark-short, kind-short, pid-short, yes-no-short, reason-short}
 use Rattle.dump.specs.Text.{fourDigits, leading, decimal, characters, ssidText, addressText, entryText, routeText}
-use Rattle.dump.specs.Dump.{stationLines, contentLines, frameText, detailText, refusalText, decodedText, dumpText}
+use Rattle.dump.specs.Dump.{stationLines, contentLines, spellingLines, frameText, detailText, refusalText, decodedText, dumpText}
 
 pub decimal-short : (n : ℕ) → length (decimal n) ≤ 4
 decimal-short n = omega (arith, length-drop (leading n) (fourDigits n))
@@ -85,15 +87,22 @@ stations-short f p h =
     let d : List ℕ = ascii "mark=" ++ (markText (f .«command_or_response») ++ ascii "\n") in
     omega (arith, h, length-append a (b ++ (c ++ d)), length-append b (c ++ d), length-append c d, line-long (ascii "destination=") (addressText (f .destination)), line-long (ascii "source=") (addressText (f .source)), line-long (ascii "route=") (routeText (f .route) (f .«route_count»)), line-long (ascii "mark=") (markText (f .«command_or_response»)), address-short (f .destination) (p .destination), address-short (f .source) (p .source), route-short (f .route) (f .«route_count») (p .repeaters), mark-short (f .«command_or_response»))
 
-frame-short : (d : Decoded) (c : Bool) → Stations (d .frame) → d .frame .«route_count» ≤ 8 → length (frameText d c) ≤ 512
+spellings-short : (c : Bool) (r : Reason) → length (spellingLines c r) ≤ 30
+unfolding spellingLines
+spellings-short c r =
+    let a : List ℕ = ascii "canonical=" ++ (yesNo c ++ ascii "\n") in
+    let b : List ℕ = ascii "reason=" ++ (reasonText r ++ ascii "\n") in
+    omega (arith, length-append a b, line-long (ascii "canonical=") (yesNo c), line-long (ascii "reason=") (reasonText r), yes-no-short c, reason-short r)
+
+frame-short : (d : Decoded) (c : Bool) (r : Reason) → Stations (d .frame) → d .frame .«route_count» ≤ 8 → length (frameText d c r) ≤ 512
 unfolding frameText
-frame-short d c p h =
+frame-short d c r p h =
     let a : List ℕ = ascii "answer=" ++ (decimal 0 ++ ascii "\n") in
     let f : List ℕ = stationLines (d .frame) in
     let k : List ℕ = contentLines (d .frame .content) in
     let i : List ℕ = ascii "info_length=" ++ (decimal (d .«info_len») ++ ascii "\n") in
-    let y : List ℕ = ascii "canonical=" ++ (yesNo c ++ ascii "\n") in
-    omega (arith, length-append a (f ++ (k ++ (i ++ y))), length-append f (k ++ (i ++ y)), length-append k (i ++ y), length-append i y, line-long (ascii "answer=") (decimal 0), decimal-short 0, stations-short (d .frame) p h, contents-short (d .frame .content), line-long (ascii "info_length=") (decimal (d .«info_len»)), decimal-short (d .«info_len»), line-long (ascii "canonical=") (yesNo c), yes-no-short c)
+    let y : List ℕ = spellingLines c r in
+    omega (arith, length-append a (f ++ (k ++ (i ++ y))), length-append f (k ++ (i ++ y)), length-append k (i ++ y), length-append i y, line-long (ascii "answer=") (decimal 0), decimal-short 0, stations-short (d .frame) p h, contents-short (d .frame .content), line-long (ascii "info_length=") (decimal (d .«info_len»)), decimal-short (d .«info_len»), spellings-short c r)
 
 -- a line with a number
 number-short : (key : List ℕ) (n : ℕ) → length key ≤ 12 → length (key ++ (decimal n ++ ascii "\n")) ≤ 17
@@ -122,11 +131,11 @@ refusal-short a =
     let n : List ℕ = ascii "answer=" ++ (decimal (numberOf a) ++ ascii "\n") in
     omega (arith, length-append n (detailText a), number-short (ascii "answer=") (numberOf a) (omega arith), detail-short a)
 
-pub decoded-short : (s : List ℕ) → Octets s → (c : Bool) → length (decodedText (decode Short s) c) ≤ 512
+pub decoded-short : (s : List ℕ) → Octets s → (c : Bool) (r : Reason) → length (decodedText (decode Short s) c r) ≤ 512
 unfolding decodedText
-decoded-short s o c =
+decoded-short s o c r =
     either (λ (t : List ℕ). length t ≤ 512) (isAccepted (decode Short s .answer))
-    (λ e. frame-short (decode Short s) c (stations Short s o e) (inside Short s e .few))
+    (λ e. frame-short (decode Short s) c r (stations Short s o e) (inside Short s e .few))
     (λ e. refusal-short (decode Short s .answer))
 
 pub fifty-short : length (ascii "answer=" ++ (decimal 50 ++ ascii "\n")) ≤ 512
@@ -136,4 +145,4 @@ fifty-short = omega (arith, number-short (ascii "answer=") 50 (omega arith))
 pub dump-short : (s : List ℕ) → Octets s → length (dumpText s) ≤ 512
 unfolding dumpText
 dump-short s o =
-    either (λ (t : List ℕ). length t ≤ 512) (ltb 4096 (length s)) (λ e. fifty-short) (λ e. decoded-short s o (canonical Short s))
+    either (λ (t : List ℕ). length t ≤ 512) (ltb 4096 (length s)) (λ e. fifty-short) (λ e. decoded-short s o (canonical Short s) (reasonOf Short s))

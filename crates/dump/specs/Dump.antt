@@ -13,9 +13,11 @@ use Rattle.frame.specs.declared.Ax25Frame.{Ax25Frame}
 use Rattle.decode.specs.declared.DecodeAnswer.{DecodeAnswer}
 use Rattle.decode.specs.declared.DecodeAnswer.the-variants as answer
 use Rattle.decode.specs.declared.Decoded.{Decoded}
+use Rattle.reason.specs.Reason.{reasonOf}
+use Rattle.reason.specs.declared.Reason.{Reason}
 use Rattle.spelling.specs.Canonical.{canonical}
 use Rattle.words.specs.Ascii.{ascii}
-use Rattle.words.specs.Words.{markText, kindText, controlText, pidText, yesNo}
+use Rattle.words.specs.Words.{markText, kindText, controlText, pidText, yesNo, reasonText}
 use Rattle.dump.specs.Text.{decimal, addressText, routeText}
 use Rattle.dump.specs.declared.DumpAnswer.{DumpAnswer}
 use Rattle.dump.specs.declared.DumpAnswer.the-variants.{Done, NoRoom}
@@ -35,11 +37,15 @@ stationLines f =
 unfoldable pub contentLines : FrameContent → List ℕ
 contentLines k = line "kind=" (kindText k) ++ (line "control=" (controlText k) ++ line "pid=" (pidText k))
 
+-- the last lines: whether it is canonical, and why not (document 02, M-110)
+unfoldable pub spellingLines : Bool → Reason → List ℕ
+spellingLines c r = line "canonical=" (yesNo c) ++ line "reason=" (reasonText r)
+
 -- the lines of an accepted frame
-unfoldable pub frameText : Decoded → Bool → List ℕ
-frameText d c =
+unfoldable pub frameText : Decoded → Bool → Reason → List ℕ
+frameText d c r =
     line "answer=" (decimal 0)
-    ++ (stationLines (d .frame) ++ (contentLines (d .frame .content) ++ (line "info_length=" (decimal (d .«info_len»)) ++ line "canonical=" (yesNo c))))
+    ++ (stationLines (d .frame) ++ (contentLines (d .frame .content) ++ (line "info_length=" (decimal (d .«info_len»)) ++ spellingLines c r)))
 
 -- the details that a refusal's number gives
 abbrev pub detailText : DecodeAnswer → List ℕ
@@ -59,12 +65,12 @@ detailText answer.MissingControlOctet = []
 unfoldable pub refusalText : DecodeAnswer → List ℕ
 refusalText a = line "answer=" (decimal (numberOf a)) ++ detailText a
 
-unfoldable pub decodedText : Decoded → Bool → List ℕ
-decodedText d c = cond (isAccepted (d .answer)) (frameText d c) (refusalText (d .answer))
+unfoldable pub decodedText : Decoded → Bool → Reason → List ℕ
+decodedText d c r = cond (isAccepted (d .answer)) (frameText d c r) (refusalText (d .answer))
 
 -- the whole: over 4,096 octets, answer 50 alone
 unfoldable pub dumpText : List ℕ → List ℕ
-dumpText s = cond (ltb 4096 (length s)) (line "answer=" (decimal 50)) (decodedText (decode Short s) (canonical Short s))
+dumpText s = cond (ltb 4096 (length s)) (line "answer=" (decimal 50)) (decodedText (decode Short s) (canonical Short s) (reasonOf Short s))
 
 -- all of it where there is room, else 24
 unfoldable pub dumped : List ℕ → ℕ → Dumped

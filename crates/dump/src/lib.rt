@@ -2,6 +2,7 @@
 use control::Mode;
 use decode::DecodeAnswer;
 use decode::Decoded;
+use reason::Reason;
 ghost use mathlib.Core.Path.{_≡_};
 ghost use mathlib.Core.Bool.{true};
 ghost use Prim.Native.Nat.{_+_, _≤_};
@@ -36,9 +37,9 @@ impl DumpAnswer {
     }
 }
 
-fn put_frame(out: &mut [u8], decoded: Decoded, canonical: bool) -> usize
-    requires { ⌜ (decoded .frame .«route_count» ≤ 8) × (length (frameText decoded canonical) ≤ length (now out)) ⌝ }
-    ensures { λ r. ⌜ Put (now (out .entry)) (now (out .exit)) 0 r (frameText decoded canonical) ⌝ }
+fn put_frame(out: &mut [u8], decoded: Decoded, canonical: bool, reason: Reason) -> usize
+    requires { ⌜ (decoded .frame .«route_count» ≤ 8) × (length (frameText decoded canonical reason) ≤ length (now out)) ⌝ }
+    ensures { λ r. ⌜ Put (now (out .entry)) (now (out .exit)) 0 r (frameText decoded canonical reason) ⌝ }
 {
     let frame = decoded.frame;
     let content = frame.content;
@@ -46,7 +47,7 @@ fn put_frame(out: &mut [u8], decoded: Decoded, canonical: bool) -> usize
     let at = lines::put_station_lines(out, at, frame);
     let at = lines::put_content_lines(out, at, content);
     let at = lines::put_number_line(out, at, b"info_length=", decoded.info_len);
-    lines::put_word_line(out, at, b"canonical=", words::yes_no(canonical))
+    lines::put_spelling_lines(out, at, canonical, reason)
 }
 
 fn put_details(out: &mut [u8], at: usize, answer: DecodeAnswer) -> usize
@@ -81,15 +82,15 @@ fn put_refusal(out: &mut [u8], answer: DecodeAnswer) -> usize
     put_details(out, at, answer)
 }
 
-fn put_decoded(out: &mut [u8], decoded: Decoded, canonical: bool) -> usize
-    requires { ⌜ (isAccepted (decoded .answer) ≡ true → decoded .frame .«route_count» ≤ 8) × (length (decodedText decoded canonical) ≤ length (now out)) ⌝ }
-    ensures { λ r. ⌜ Put (now (out .entry)) (now (out .exit)) 0 r (decodedText decoded canonical) ⌝ }
+fn put_decoded(out: &mut [u8], decoded: Decoded, canonical: bool, reason: Reason) -> usize
+    requires { ⌜ (isAccepted (decoded .answer) ≡ true → decoded .frame .«route_count» ≤ 8) × (length (decodedText decoded canonical reason) ≤ length (now out)) ⌝ }
+    ensures { λ r. ⌜ Put (now (out .entry)) (now (out .exit)) 0 r (decodedText decoded canonical reason) ⌝ }
 {
     let answer = decoded.answer;
     let DecodeAnswer::Accepted = answer else {
         return put_refusal(out, answer);
     };
-    put_frame(out, decoded, canonical)
+    put_frame(out, decoded, canonical, reason)
 }
 
 fn put_dump(out: &mut [u8], input: &[u8]) -> usize
@@ -101,7 +102,8 @@ fn put_dump(out: &mut [u8], input: &[u8]) -> usize
     }
     let decoded = reading::from_bytes(Mode::Short, input);
     let canonical = spelling::is_canonical(Mode::Short, input);
-    put_decoded(out, decoded, canonical)
+    let reason = reason::reason_of(Mode::Short, input);
+    put_decoded(out, decoded, canonical, reason)
 }
 
 // The text, written at the start of `out`. Where there is no room for all of it, `out` is left alone.

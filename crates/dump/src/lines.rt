@@ -8,6 +8,7 @@ use address::Address;
 use content::FrameContent;
 use frame::Ax25Frame;
 use frame::RouteEntry;
+use reason::Reason;
 use words::Word;
 ghost use mathlib.Core.List.{_++_};
 ghost use Prim.Native.Nat.{_+_, _≤_};
@@ -15,7 +16,7 @@ ghost use lib.ListN.{length};
 ghost use Rattle.words.specs.Ascii.{ascii};
 ghost use Rattle.words.specs.Words.{textIn};
 ghost use Rattle.dump.specs.Text.{decimal, addressText, routeText, Put};
-ghost use Rattle.dump.specs.Dump.{stationLines, contentLines};
+ghost use Rattle.dump.specs.Dump.{stationLines, contentLines, spellingLines};
 
 pub(crate) fn put_word_line(out: &mut [u8], at: usize, key: &[u8], word: Word) -> usize
     requires { ⌜ (word .length ≤ 8) × (at + length (now key ++ (textIn word ++ ascii "\n")) ≤ length (now out)) ⌝ }
@@ -80,4 +81,17 @@ pub(crate) fn put_content_lines(out: &mut [u8], at: usize, content: FrameContent
     let next = put_word_line(out, at, b"kind=", words::kind(content));
     let next = put_word_line(out, next, b"control=", words::control(content));
     put_word_line(out, next, b"pid=", words::pid(content))
+}
+
+pub(crate) fn put_spelling_lines(
+    out: &mut [u8],
+    at: usize,
+    canonical: bool,
+    reason: Reason,
+) -> usize
+    requires { ⌜ at + length (spellingLines canonical reason) ≤ length (now out) ⌝ }
+    ensures { λ r. ⌜ Put (now (out .entry)) (now (out .exit)) at r (spellingLines canonical reason) ⌝ }
+{
+    let next = put_word_line(out, at, b"canonical=", words::yes_no(canonical));
+    put_word_line(out, next, b"reason=", words::reason(reason))
 }

@@ -1,5 +1,5 @@
 // The dumper's text of one input after the other, and into buffers of several sizes. The stored output was typed out from
-// document 01's rules, and of the layer 3 class, of reserved bits and of leading nulls from document 02's (M-105, M-106, M-108).
+// document 01's rules, and of the layer 3 class, of reserved bits, of leading nulls and of reasons from document 02's (M-105, M-106, M-108, M-110).
 use libc::STDOUT_FILENO;
 
 mod sizes; // sizes.rt: long inputs, and buffers that are short, exactly full and longer
@@ -123,6 +123,15 @@ fn spellings() {
     contents(b"\x02\x01\xAA\x04\x87\xF1\x03\x44");
 }
 
+// Of several reasons the first is printed: leftover octets before absent marks and a tail, absent marks before a tail and before FRMR's bits.
+// Then six leftover octets; and FRMR's bits one at a time, the highest of the flags and the low one of the octet after them.
+fn reasons() {
+    frames(
+        b"\x11\x8E\x82\xAA\x8E\x8A\x40\x60\x84\x9E\xB0\x62\x64\x40\x66\x41\x01\xAA\x10\x8E\x82\xAA\x8E\x8A\x40\x60\x84\x9E\xB0\x62\x64\x40\x67\x01\xAA\x12\x8E\x82\xAA\x8E\x8A\x40\x60\x84\x9E\xB0\x62\x64\x40\x67\x87\xF1\x03\x44\x16\x8E\x82\xAA\x8E\x8A\x40\xE0\x84\x9E\xB0\x62\x64\x40\x66\x40\x40\x40\x40\x40\x41\x03\xF0",
+    );
+    contents(b"\x04\x87\x80\x02\x44\x04\x87\x01\x03\x44");
+}
+
 // Letters of both cases and digits as they are, all others in hex; padding and the empty callsign.
 fn characters() {
     frames(
@@ -139,6 +148,7 @@ fn main() {
     layer3();
     reserved();
     spellings();
+    reasons();
     characters();
     sizes::all();
 }

@@ -92,9 +92,9 @@ fn into(input: &[u8], out: &mut [u8]) {
 fn rooms(frame: &[u8]) {
     let mut none = [0xAAu8; 0];
     into(frame, &mut none);
-    let mut short = [0xAAu8; 115];
+    let mut short = [0xAAu8; 127];
     into(frame, &mut short);
-    let mut full = [0xAAu8; 116];
+    let mut full = [0xAAu8; 128];
     into(frame, &mut full);
     let mut longer = [0xAAu8; 512];
     into(frame, &mut longer);

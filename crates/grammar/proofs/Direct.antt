@@ -1,11 +1,11 @@
--- The direct look passes exactly where an accepted input is what its frame spells.
-use Prim.Native.Nat.{ℕ, zero, suc, _+_, _-_, _*_, _≤_, _<_}
+-- A direct look at the octets of an accepted input passes exactly where it is what its frame spells.
+use Prim.Native.Nat.{ℕ, zero, suc, _+_, _-_, _*_, _%_, _≤_, _<_}
 use mathlib.Core.Path.{_≡_, refl, ap, sym, _∙_}
-use mathlib.Core.Bool.{Bool, true, false, true≢false, false≢true, _&&_}
+use mathlib.Core.Bool.{Bool, true, false, false≢true, _&&_}
 use mathlib.Core.List.{List, _++_}
 use native.Mathlib.Omega.{arith}
-use borrow.Author.Tests.{lt-ltb, eqb-true, eqb-false, leb-true, leb-false}
-use lib.Dec.{eqb, leb, eqb·suc-suc, eqb·zero-suc, eqb·suc-zero}
+use borrow.Author.Tests.{lt-ltb, eq-eqb, eqb-true, eqb-false}
+use lib.Dec.{eqb, eqb·suc-suc, eqb·zero-suc, eqb·suc-zero}
 use lib.ListN.{length, length-drop, getD, take, drop, take-append-drop}
 use lib.Seq.{drop-drop, take-add, take-all, length-take-le}
 use Rattle.octets.specs.Octet.{Octets, bit}
@@ -19,7 +19,7 @@ use Rattle.content.specs.Spell.{hasInfo, front}
 use Rattle.content_as_written.specs.AsWritten.{asWritten, infoOf}
 use Rattle.content.specs.declared.FrameContent.{FrameContent}
 use Rattle.control.specs.declared.Mode.{Mode}
-use Rattle.content_as_written.proofs.Laws.{content-kept, content-exact, front-some}
+use Rattle.content_as_written.proofs.Laws.{content-kept, content-exact}
 use Rattle.content_as_written.proofs.AsWritten.{as-written-spelled}
 use Rattle.decode.specs.Read.{endOf, groupAt, parsedAt, entryAt, placeAt, routeAt, commandOf, frameAt, acceptedWith, decode, infoIn}
 use Rattle.frame.specs.Spell.{past, repeaterAt, groupsOf, destinationMark, sourceMark, addressField, spell, marked, Plain, inUse}
@@ -28,9 +28,20 @@ use Rattle.frame.specs.declared.Mark.{Mark}
 use Rattle.frame.specs.declared.Mark.the-variants.{Command, Response, Absent}
 use Rattle.frame.specs.declared.Ax25Frame.{Ax25Frame}
 use Rattle.decode.specs.declared.Decoded.{Decoded}
-use Rattle.grammar.specs.Direct.{direct}
 use Rattle.decode.proofs.Accepts.{Accepts}
 use Rattle.grammar.proofs.Back.{group-front, in-order, after-dest, after-field, spelled-end, frame-spell}
+
+-- the address field ends with a whole group; the marks of destination and source differ; content just as writing gives it. Callsigns, SSIDs and
+-- reserved bits may be any
+abbrev pub direct : Mode → List ℕ → Bool
+direct m s =
+    eqb ((endOf s + 1) % 7) 0
+    && (marked (commandOf (markSet (getD s 6 0)) (markSet (getD s 13 0))) && asWritten m (drop (endOf s + 1) s))
+
+-- the mark of a group, by its last octet in the input
+pub parsed-mark : (s : List ℕ) (at : ℕ) → parsedAt s at .«high_bit» ≡ markSet (getD s (at + 6) 0)
+unfolding parsedAt
+parsed-mark s at = mark-last (groupAt s at) ∙ ap markSet (getD-part 7 at s 6 0 (omega arith))
 
 always-marked : (m : Mark) → marked (commandOf (destinationMark m) (sourceMark m)) ≡ true
 always-marked Command = refl
@@ -45,21 +56,20 @@ module _ (mode : Mode) (f : Ax25Frame) (i : List ℕ) (p : Plain mode f i) where
   n = f .«route_count»
 
   -- the marks of destination and source are those that writing gives
-  spelled-marks : marked (commandOf (parsedAt s 0 .«high_bit») (parsedAt s 7 .«high_bit»)) ≡ true
+  spelled-marks : marked (commandOf (markSet (getD s 6 0)) (markSet (getD s 13 0))) ≡ true
   unfolding parsedAt
   spelled-marks =
       let to : markOf (groupAt s 0) ≡ destinationMark (f .«command_or_response») = rw (in-order mode f i p, group-front) (mark-written _ _ _) in
       let from : markOf (groupAt s 7) ≡ sourceMark (f .«command_or_response») = rw (after-dest mode f i p, group-front) (mark-written _ _ _) in
-      rw (to, from) (always-marked (f .«command_or_response»))
+      rw (sym (parsed-mark s 0) ∙ to, sym (parsed-mark s 7) ∙ from) (always-marked (f .«command_or_response»))
 
-  pub direct-spelled : direct mode s (decode mode s .frame .«route_count») ≡ true
-  unfolding direct inUse
+  pub direct-spelled : direct mode s ≡ true
   direct-spelled =
-      let l = spell-length mode f i in
-      let end : bit 0 (getD s (13 + 7 * n) 0) ≡ true =
-      rw (spelled-end mode f i p) at (first-passes (bit 0) s 0 (rw (spelled-end mode f i p) (omega (arith, front-some mode (f .content) (p .content))))) in
-      let tail : asWritten mode (drop (14 + 7 * n) s) ≡ true = rw (after-field mode f i p) (as-written-spelled mode (f .content) i (p .content) (p .bare)) in
-      rw (frame-spell mode f i p, end, spelled-marks, tail)
+      let e : endOf s ≡ 13 + 7 * n = spelled-end mode f i p in
+      let at : endOf s + 1 ≡ 14 + 7 * n = omega (arith, e) in
+      let tail : asWritten mode (drop (endOf s + 1) s) ≡ true =
+      rw (at, after-field mode f i p) (as-written-spelled mode (f .content) i (p .content) (p .bare)) in
+      rw (eq-eqb ((endOf s + 1) % 7) 0 (omega (arith, e)), spelled-marks, tail)
 
 marks-back : (a b : Bool) → marked (commandOf a b) ≡ true → (destinationMark (commandOf a b) ≡ a) × (sourceMark (commandOf a b) ≡ b)
 marks-back true true e = absurd (false≢true e)
@@ -156,38 +166,18 @@ module _ (mode : Mode) (s : List ℕ) (o : Octets s) (a : Accepts mode s (decode
       let k : decode mode s .frame .content ≡ a .kind = ap (λ (f : Ax25Frame). f .content) made-frame in
       rw (k, info-tail) (content-kept mode (drop (endOf s + 1) s) (octets-drop s (endOf s + 1) o) (a .kind) (a .read) (rw k at e))
 
-  pub direct-again : direct mode s (decode mode s .frame .«route_count») ≡ true → spell mode (decode mode s .frame) (infoIn s (decode mode s)) ≡ s
-  unfolding direct frameAt
+  pub direct-again : direct mode s ≡ true → spell mode (decode mode s .frame) (infoIn s (decode mode s)) ≡ s
+  unfolding frameAt
   direct-again e =
       let n : ℕ = a .count in
-      let t = rw made-frame at e in
-      let t1 = both (bit 0 (getD s (13 + 7 * n) 0)) _ t in
-      let t2 = both (marked (commandOf (parsedAt s 0 .«high_bit») (parsedAt s 7 .«high_bit»))) _ (t1 .1) in
-      let counted = a .counted in
-      let long = a .long in
-      let late : 13 + 7 * n ≤ endOf s = omega arith in
-      let soon : endOf s ≤ 13 + 7 * n =
-      by (leb (endOf s) (13 + 7 * n)) (leb-true (endOf s) (13 + 7 * n))
-      (λ g. absurd (true≢false (sym (t1 .0) ∙ first-before (bit 0) s 0 (13 + 7 * n) (leb-false (endOf s) (13 + 7 * n) g)))) in
-      let end : endOf s ≡ 13 + 7 * n = omega arith in
-      let at : endOf s + 1 ≡ 14 + 7 * n = omega arith in
+      let t1 = both (eqb ((endOf s + 1) % 7) 0) _ e in
+      let t2 = both (marked (commandOf (markSet (getD s 6 0)) (markSet (getD s 13 0)))) _ (t1 .1) in
+      let end : endOf s ≡ 13 + 7 * n = omega (arith, a .counted, a .long, eqb-true ((endOf s + 1) % 7) 0 (t1 .0)) in
+      let at : endOf s + 1 ≡ 14 + 7 * n = omega (arith, end) in
       let c : List ℕ = drop (endOf s + 1) s in
-      let x = content-exact mode c (octets-drop s (endOf s + 1) o) (a .kind) (a .read) (rw at (t2 .1)) in
+      let x = content-exact mode c (octets-drop s (endOf s + 1) o) (a .kind) (a .read) (t2 .1) in
       let tail : front mode (a .kind) ++ infoIn s (decode mode s) ≡ drop (14 + 7 * n) s =
       ap (λ (y : List ℕ). front mode (a .kind) ++ y) info-tail ∙ x ∙ ap (λ (j : ℕ). drop j s) at in
       rw made-frame
-      (spell-again s o n end (a .end-in) (a .few) mode (a .kind) (infoIn s (decode mode s)) (t2 .0)
+      (spell-again s o n end (a .end-in) (a .few) mode (a .kind) (infoIn s (decode mode s)) (rw (parsed-mark s 0, parsed-mark s 7) (t2 .0))
       ∙ rw (tail, take-append-drop (14 + 7 * n) s) refl)
-
--- the mark of a group, by its last octet in the input
-pub parsed-mark : (s : List ℕ) (at : ℕ) → parsedAt s at .«high_bit» ≡ markSet (getD s (at + 6) 0)
-unfolding parsedAt
-parsed-mark s at = mark-last (groupAt s at) ∙ ap markSet (getD-part 7 at s 6 0 (omega arith))
-
--- the three tests, in their order
-pub direct-is : (mode : Mode) (s : List ℕ) (n : ℕ)
-    → direct mode s n
-    ≡ (bit 0 (getD s (13 + 7 * n) 0)
-    && (marked (commandOf (markSet (getD s 6 0)) (markSet (getD s 13 0))) && asWritten mode (drop (14 + 7 * n) s)))
-unfolding direct
-direct-is mode s n = rw (parsed-mark s 0, parsed-mark s 7) refl

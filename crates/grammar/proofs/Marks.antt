@@ -25,8 +25,7 @@ use Rattle.decode.specs.Read.{startOf, endOf, groupAt, parsedAt, entryAt, place
 use Rattle.decode.specs.declared.Decoded.{Decoded}
 use Rattle.decode.proofs.Read.{start-first}
 use Rattle.decode.proofs.Accepts.{Accepts, accepts}
-use Rattle.grammar.specs.Direct.{direct}
-use Rattle.grammar.proofs.Direct.{place-at, route-at, parsed-mark, direct-is}
+use Rattle.grammar.proofs.Direct.{direct, place-at, route-at, parsed-mark}
 
 -- where a group and its parts stand
 pub parsed-is : (s : List ℕ) (at : ℕ) → parsedAt s at ≡ record { address = addressOf (groupAt s at); «high_bit» = markOf (groupAt s at) }
@@ -222,17 +221,15 @@ module _ (mode : Mode) (s : List ℕ) (e : isAccepted (decode mode s .answer) �
   decode-marked = read-marked ∙ rw (frame-marked, a .made) refl
 
   -- the direct look passes where it passed
-  pub direct-marked : direct mode u (decode mode s .frame .«route_count») ≡ direct mode s (decode mode s .frame .«route_count»)
+  pub direct-marked : direct mode u ≡ direct mode s
   direct-marked =
-      rw count-read
-      (direct-is mode u (a .count)
-      ∙ rw (
+      rw (
+        same-end,
         getD-set-other s p 6 v 0 (λ e. omega (arith, e)),
         getD-set-other s p 13 v 0 (λ e. omega (arith, e)),
-        same-low (13 + 7 * a .count),
-        drop-set-lt (14 + 7 * a .count) s p v (omega (arith, inner)),
+        same-content,
       )
-      (sym (direct-is mode s (a .count))))
+      refl
 
   -- the same info octets
   pub info-marked : infoIn u (decode mode s) ≡ infoIn s (decode mode s)

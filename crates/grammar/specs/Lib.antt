@@ -1,4 +1,3 @@
-pub mod Direct
 pub mod Kept
 pub mod Stations
 pub mod Moved

@@ -1,1 +1,1 @@
-// No code: the laws of the frame's grammar and its reader (proofs/), and the canonical check as a direct look (specs/).
+// No code: the laws of the frame's grammar and its reader.

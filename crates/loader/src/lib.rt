@@ -1,4 +1,4 @@
-// The calls that C links, all in the short mode. A slice is a pointer and a length there; include/ax25.h says what the caller owes.
+// The calls that C links, all in the short mode but for `ax25_reason`, which takes the mode. A slice is a pointer and a length there; include/ax25.h says what the caller owes.
 use control::Mode;
 use kiss_state::Stream;
 use kiss_stream::Packet;
@@ -10,6 +10,8 @@ ghost use Rattle.octets.specs.Splice.{splice};
 ghost use Rattle.decode.specs.Answer.{reportOf};
 ghost use Rattle.decode.specs.Read.{decode};
 ghost use Rattle.old_captures.specs.Old.{decodeOld};
+ghost use Rattle.control.specs.Mode.{modeOf};
+ghost use Rattle.reason.specs.Reason.{whyOf, codeOf};
 ghost use Rattle.spelling.specs.Canonical.{canonical};
 ghost use Rattle.respelling.specs.Reencode.{due, reencode, reencoded, reportOf as reencodeReport};
 ghost use Rattle.relay.specs.Relay.{relayAnswerAs, relayedAs, reportOf as relayReport};
@@ -47,6 +49,22 @@ pub extern "C" fn ax25_canonical(input: &[u8]) -> u32
     } else {
         0
     }
+}
+
+// Why the input is not canonical in that mode, where 0 is the short one and any other the long one: 0 where it is, 1 to 4 for the first reason
+// that holds, and 5 where it is refused. The decode number and the place in the input that it is about go to where they are lent; both are 0
+// unless it is refused.
+#[no_mangle]
+pub extern "C" fn ax25_reason(input: &[u8], mode: u32, number: &mut u32, place: &mut usize) -> u32
+    ensures { λ r. ⌜ r ≡ codeOf (whyOf (modeOf mode) (now (input .entry)) .reason) ⌝ }
+    ensures { λ r. ⌜ now (number .exit) ≡ whyOf (modeOf mode) (now (input .entry)) .number ⌝ }
+    ensures { λ r. ⌜ now (place .exit) ≡ whyOf (modeOf mode) (now (input .entry)) .place ⌝ }
+{
+    let why = reason::why_of(Mode::of_number(mode), input);
+    *number = why.number;
+    *place = why.place;
+    let reason = why.reason;
+    reason.code()
 }
 
 // How many octets re-encoding gives; 0 where the input is refused.

@@ -1,11 +1,11 @@
 -- The canonical check is exact, and an accepted input spelled again is canonical: the facts that the demands state.
 use Prim.Native.Nat.{ℕ, _+_, _*_, _≤_, _<_}
-use mathlib.Core.Path.{_≡_, ap, sym, subst, _∙_}
+use mathlib.Core.Path.{_≡_, refl, ap, sym, subst, _∙_}
 use mathlib.Core.Bool.{true, false}
 use mathlib.Core.List.{List}
 use lib.ListN.{length, drop}
 use Rattle.octets.specs.Octet.{Octets}
-use Rattle.octets.proofs.Choice.{both, equal}
+use Rattle.octets.proofs.Choice.{by, both, equal}
 use Rattle.octets.proofs.Same.{same-refl, same-eq}
 use Rattle.content.specs.Spell.{hasInfo}
 use Rattle.control.specs.declared.Mode.{Mode}
@@ -13,14 +13,15 @@ use Rattle.decode.specs.Answer.{isAccepted}
 use Rattle.decode.specs.Read.{endOf, decode, infoIn}
 use Rattle.frame.specs.Spell.{withMark, spell, Plain}
 use Rattle.frame.specs.declared.Ax25Frame.{Ax25Frame}
-use Rattle.grammar.specs.Direct.{direct}
 use Rattle.grammar.specs.Stations.{reservedAt}
 use Rattle.decode.proofs.Accepts.{accepts}
 use Rattle.grammar.proofs.Back.{info-spell, frame-spell}
 use Rattle.grammar.proofs.Plain.{read}
 use Rattle.grammar.proofs.Respell.{mark-spell, use-spell, use-mark, accepted-spell, content-spell}
-use Rattle.grammar.proofs.Direct.{direct-spelled, direct-again}
+use Rattle.grammar.proofs.Direct.{direct, direct-spelled, direct-again}
 use Rattle.grammar.proofs.Stations.{reserved-again}
+use Rattle.reason.specs.Reason.{isNone, reasonOf}
+use Rattle.reason.proofs.Laws.{none-is}
 use Rattle.spelling.specs.Canonical.{again, canonical}
 
 -- a canonical input is accepted, and its frame, which is plain, spells it
@@ -46,18 +47,28 @@ pub spell-canonical : (mode : Mode) (f : Ax25Frame) (i : List ℕ) → Plain mod
 unfolding canonical
 spell-canonical mode f i p = rw (again-spell mode f i p, same-refl, accepted-spell mode f i p)
 
+pub refused-not-canonical : (mode : Mode) (s : List ℕ) → isAccepted (decode mode s .answer) ≡ false → canonical mode s ≡ false
+unfolding canonical
+refused-not-canonical mode s e = rw e
+
 module _ (mode : Mode) (s : List ℕ) (o : Octets s) where
   again-canonical : isAccepted (decode mode s .answer) ≡ true → spell mode (decode mode s .frame) (infoIn s (decode mode s)) ≡ s → canonical mode s ≡ true
   unfolding canonical again
   again-canonical a e = rw (a, e, same-refl s)
 
   -- the direct look at an accepted input is the canonical check
-  pub canonical-direct : isAccepted (decode mode s .answer) ≡ true
-      → canonical mode s ≡ direct mode s (decode mode s .frame .«route_count»)
+  pub canonical-direct : isAccepted (decode mode s .answer) ≡ true → canonical mode s ≡ direct mode s
   canonical-direct a =
       equal (canonical mode s) _
       (λ e. let w = canonical-plain mode s o e in rw (w .2) at (direct-spelled mode _ _ (w .1)))
       (λ e. again-canonical a (direct-again mode s o (accepts mode s a) e))
+
+  -- no reason is given exactly of canonical input
+  pub canonical-none : canonical mode s ≡ isNone (reasonOf mode s)
+  canonical-none =
+      by (isAccepted (decode mode s .answer))
+      (λ e. canonical-direct e ∙ sym (none-is mode s ∙ rw e refl))
+      (λ e. refused-not-canonical mode s e ∙ sym (none-is mode s ∙ rw e refl))
 
   -- of a kind with info re-encoding keeps every octet after the address field
   pub again-content : isAccepted (decode mode s .answer) ≡ true → hasInfo (decode mode s .frame .content) ≡ true
@@ -70,10 +81,6 @@ module _ (mode : Mode) (s : List ℕ) (o : Octets s) where
       → (j : ℕ) → j < decode mode s .frame .«route_count» + 2 → reservedAt (again mode s) j ≡ reservedAt s j
   unfolding again
   again-reserved a j h = reserved-again mode s o a j h
-
-pub refused-not-canonical : (mode : Mode) (s : List ℕ) → isAccepted (decode mode s .answer) ≡ false → canonical mode s ≡ false
-unfolding canonical
-refused-not-canonical mode s e = rw e
 
 -- an accepted input re-encoded: accepted, canonical, no longer, the same frame with a mark, the same info
 pub again-facts : (mode : Mode) (s : List ℕ) → Octets s → isAccepted (decode mode s .answer) ≡ true

@@ -11,8 +11,10 @@ use Rattle.content.specs.declared.FrameContent.{FrameContent}
 use Rattle.content.specs.declared.FrameContent.the-variants as kind
 use Rattle.frame.specs.declared.Mark.{Mark}
 use Rattle.frame.specs.declared.Mark.the-variants.{Command, Response, Absent}
+use Rattle.reason.specs.declared.Reason.{Reason}
+use Rattle.reason.specs.declared.Reason.the-variants as reason
 use Rattle.words.specs.declared.Word.{Word}
-use Rattle.words.specs.Words.{character, markText, kindText, hasPid, pidText, yesNo, wordOf, textIn}
+use Rattle.words.specs.Words.{character, markText, kindText, hasPid, pidText, yesNo, reasonText, wordOf, textIn}
 
 -- a word holds a text of up to eight characters
 pub word-text : (t : List ℕ) → length t ≤ 8 → textIn (wordOf t) ≡ t
@@ -58,6 +60,14 @@ kind-short kind.UnknownContent = omega arith
 
 pub pid-short : (k : FrameContent) → length (pidText k) ≤ 2
 pid-short k = either (λ (t : List ℕ). length t ≤ 2) (hasPid k) (λ e. omega arith) (λ e. omega arith)
+
+pub reason-short : (r : Reason) → length (reasonText r) ≤ 8
+reason-short reason.None = omega arith
+reason-short reason.Leftover = omega arith
+reason-short reason.Marks = omega arith
+reason-short reason.Tail = omega arith
+reason-short reason.Fixed = omega arith
+reason-short reason.Refused = omega arith
 
 pub yes-no-short : (b : Bool) → length (yesNo b) ≤ 3
 yes-no-short true = omega arith

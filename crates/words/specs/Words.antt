@@ -1,5 +1,5 @@
 -- The words of the dumper's lines (document 01, Loader calls and dumper): hex, an address character, mark, kind, control and PID in the short
--- mode, yes and no; and how a word is held.
+-- mode, yes and no, reasons; and how a word is held.
 use Prim.Native.Nat.{ℕ, _+_, _/_, _%_}
 use mathlib.Core.Bool.{Bool, true, false, cond}
 use mathlib.Core.List.{List, [], _∷_}
@@ -12,6 +12,8 @@ use Rattle.content.specs.declared.FrameContent.{FrameContent}
 use Rattle.content.specs.declared.FrameContent.the-variants as kind
 use Rattle.frame.specs.declared.Mark.{Mark}
 use Rattle.frame.specs.declared.Mark.the-variants.{Command, Response, Absent}
+use Rattle.reason.specs.declared.Reason.{Reason}
+use Rattle.reason.specs.declared.Reason.the-variants as reason
 use Rattle.words.specs.Ascii.{ascii}
 use Rattle.words.specs.declared.Word.{Word}
 
@@ -77,6 +79,15 @@ pidText k = cond (hasPid k) (hex (getD (front Short k) 1 0)) (ascii "-")
 
 abbrev pub yesNo : Bool → List ℕ
 yesNo b = cond b (ascii "yes") (ascii "no")
+
+-- why it is not canonical (document 02, M-110); of a refused input nothing is printed
+abbrev pub reasonText : Reason → List ℕ
+reasonText reason.None = ascii "none"
+reasonText reason.Leftover = ascii "leftover"
+reasonText reason.Marks = ascii "marks"
+reasonText reason.Tail = ascii "tail"
+reasonText reason.Fixed = ascii "fixed"
+reasonText reason.Refused = ascii "-"
 
 -- a word of up to eight characters, zeros after it: what a function can return of a text by value
 abbrev pub wordOf : List ℕ → Word

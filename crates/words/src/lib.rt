@@ -1,10 +1,11 @@
-// The words of the dumper's lines, short ones by value: hex, address characters, marks, kinds, control and PID, yes and no.
+// The words of the dumper's lines, short ones by value: hex, address characters, marks, kinds, control and PID, yes and no, reasons.
 use content::FrameContent;
 use control::Mode;
 use frame::Mark;
+use reason::Reason;
 ghost use mathlib.Core.Path.{_≡_};
 ghost use Prim.Native.Nat.{_<_};
-ghost use Rattle.words.specs.Words.{hexDigit, hex, character, wordOf, markText, kindText, hasPid, controlText, pidText, yesNo};
+ghost use Rattle.words.specs.Words.{hexDigit, hex, character, wordOf, markText, kindText, hasPid, controlText, pidText, yesNo, reasonText};
 
 // Up to eight characters, zeros after them.
 pub struct Word {
@@ -191,5 +192,36 @@ pub fn yes_no(yes: bool) -> Word
     Word {
         letters: [b'n', b'o', 0, 0, 0, 0, 0, 0],
         length: 2,
+    }
+}
+
+pub fn reason(reason: Reason) -> Word
+    ensures { λ r. ⌜ r ≡ wordOf (reasonText reason) ⌝ }
+{
+    match reason {
+        Reason::None => Word {
+            letters: [b'n', b'o', b'n', b'e', 0, 0, 0, 0],
+            length: 4,
+        },
+        Reason::Leftover => Word {
+            letters: [b'l', b'e', b'f', b't', b'o', b'v', b'e', b'r'],
+            length: 8,
+        },
+        Reason::Marks => Word {
+            letters: [b'm', b'a', b'r', b'k', b's', 0, 0, 0],
+            length: 5,
+        },
+        Reason::Tail => Word {
+            letters: [b't', b'a', b'i', b'l', 0, 0, 0, 0],
+            length: 4,
+        },
+        Reason::Fixed => Word {
+            letters: [b'f', b'i', b'x', b'e', b'd', 0, 0, 0],
+            length: 5,
+        },
+        Reason::Refused => Word {
+            letters: [b'-', 0, 0, 0, 0, 0, 0, 0],
+            length: 1,
+        },
     }
 }

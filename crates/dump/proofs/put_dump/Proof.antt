@@ -7,6 +7,7 @@ use lib.ListN.{length}
 use Rattle.control.specs.declared.Mode.the-variants.{Short}
 use Rattle.decode.specs.Read.{decode}
 use Rattle.grammar.proofs.Plain.{inside}
+use Rattle.reason.specs.Reason.{reasonOf}
 use Rattle.spelling.specs.Canonical.{canonical}
 use Rattle.dump.specs.Text.{decimal}
 use Rattle.dump.specs.Dump.{line, decodedText, dumpText}
@@ -19,7 +20,7 @@ over : (s : List ℕ) → 4096 < length s → dumpText s ≡ line "answer=" (dec
 unfolding dumpText
 over s h = rw (lt-ltb 4096 (length s) h) refl
 
-within : (s : List ℕ) → length s ≤ 4096 → dumpText s ≡ decodedText (decode Short s) (canonical Short s)
+within : (s : List ℕ) → length s ≤ 4096 → dumpText s ≡ decodedText (decode Short s) (canonical Short s) (reasonOf Short s)
 unfolding dumpText
 within s h = rw (le-ltb 4096 (length s) h) refl
 
@@ -44,24 +45,28 @@ from-bytes-requires c κs = search needs
 is-canonical-requires : tie.Need-is-canonical-requires
 is-canonical-requires c κs = search needs
 
+reason-of-requires : tie.Need-reason-of-requires
+reason-of-requires c κs = search needs
+
 put-decoded-requires : tie.Need-put-decoded-requires
 put-decoded-requires c κs =
-    let shared-slice-known = c .before .before .before .before .shared-slice-known in
-    let p = c .before .before .before .before .before .before .pre in
-    let g = c .before .before .before .before .before .before .args in
-    rw (c .before .before .from-bytes .ensures)
-    ((λ e. inside Short (g .input .now) e .few), omega (arith, decoded-short (g .input .now) (λ k. shared-slice-known .given k .fits) (c .before .is-canonical .result), p))
+    let shared-slice-known = c .before .before .before .before .before .shared-slice-known in
+    let p = c .before .before .before .before .before .before .before .pre in
+    let g = c .before .before .before .before .before .before .before .args in
+    let short = decoded-short (g .input .now) (λ k. shared-slice-known .given k .fits) (c .before .before .is-canonical .result) (c .before .reason-of .result) in
+    rw (c .before .before .before .from-bytes .ensures) ((λ e. inside Short (g .input .now) e .few), omega (arith, short, p))
 
 same-length-2 : tie.Need-same-length-2
 same-length-2 c = search needs
 
 returns-2 : tie.Need-returns-2
 returns-2 c =
-    let is-canonical = c .before .before .before .before .is-canonical in
-    let from-bytes = c .before .before .before .before .before .from-bytes in
-    let if1 = c .before .before .before .before .before .before .if1 in
-    let g = c .before .before .before .before .before .before .before .before .before .args in
-    rw (within (g .input .now) (if1 .left), ← from-bytes .ensures, ← is-canonical .ensures) (c .before .before .put-decoded .ensures)
+    let reason-of = c .before .before .before .before .reason-of in
+    let is-canonical = c .before .before .before .before .before .is-canonical in
+    let from-bytes = c .before .before .before .before .before .before .from-bytes in
+    let if1 = c .before .before .before .before .before .before .before .if1 in
+    let g = c .before .before .before .before .before .before .before .before .before .before .args in
+    rw (within (g .input .now) (if1 .left), ← from-bytes .ensures, ← is-canonical .ensures, ← reason-of .ensures) (c .before .before .put-decoded .ensures)
 
 pub put-dump-spec : {M : Type 1} → statement M
 put-dump-spec =
@@ -73,6 +78,7 @@ put-dump-spec =
     returns
     from-bytes-requires
     is-canonical-requires
+    reason-of-requires
     put-decoded-requires
     same-length-2
     returns-2)

@@ -6,10 +6,9 @@ use Prim.Native.Nat.{ℕ, _+_, _≤_}
 use mathlib.Core.List.{List, _++_}
 use lib.ListN.{length}
 use Rattle.decode.specs.declared.Decoded.{Decoded}
-use Rattle.words.specs.Words.{yesNo, textIn}
-use Rattle.words.proofs.Laws.{yes-no-short, word-is}
+use Rattle.reason.specs.declared.Reason.{Reason}
 use Rattle.dump.specs.Text.{decimal}
-use Rattle.dump.specs.Dump.{line, stationLines, contentLines, frameText}
+use Rattle.dump.specs.Dump.{line, stationLines, contentLines, spellingLines, frameText}
 use Rattle.dump.proofs.Laws.{from-zero, fits-first, fits-next, put-then, fits-one, fits-two, fits-three, put-three}
 use borrow.Author.Needs.{needs}
 use Rattle.dump.proofs.put_frame.Statement.{statement}
@@ -21,39 +20,29 @@ head = line "answer=" (decimal 0)
 abbrev infoLine : Decoded → List ℕ
 infoLine d = line "info_length=" (decimal (d .«info_len»))
 
-abbrev lastLine : Bool → List ℕ
-lastLine y = line "canonical=" (yesNo y)
-
 -- what follows the stations
-abbrev rest : Decoded → Bool → List ℕ
-rest d y = contentLines (d .frame .content) ++ (infoLine d ++ lastLine y)
+abbrev rest : Decoded → Bool → Reason → List ℕ
+rest d y r = contentLines (d .frame .content) ++ (infoLine d ++ spellingLines y r)
 
 room : (c : tie.After-slice-known) →
     let g = c .before .args in
-    0 + length (head ++ (stationLines (g .decoded .frame) ++ rest (g .decoded) (g .canonical))) ≤ length (g .out .now)
+    0 + length (head ++ (stationLines (g .decoded .frame) ++ rest (g .decoded) (g .canonical) (g .reason))) ≤ length (g .out .now)
 unfolding frameText
 room c =
     let g = c .before .args in
-    from-zero (frameText (g .decoded) (g .canonical)) (g .out .now) (c .before .pre .1)
+    from-zero (frameText (g .decoded) (g .canonical) (g .reason)) (g .out .now) (c .before .pre .1)
 
 room-stations : (c : tie.After-put-number-line) →
     let g = c .before .before .before .before .before .args in
-    c .put-number-line .result + length (stationLines (g .decoded .frame) ++ rest (g .decoded) (g .canonical)) ≤ length (c .put-number-line .last .0)
+    c .put-number-line .result + length (stationLines (g .decoded .frame) ++ rest (g .decoded) (g .canonical) (g .reason)) ≤ length (c .put-number-line .last .0)
 room-stations c = fits-next _ 0 head _ (room (c .before .before .before .before)) (c .put-number-line .ensures)
 
 room-content : (c : tie.After-put-station-lines) →
     let g = c .before .before .before .before .before .before .before .before .before .args in
-    c .put-station-lines .result + length (rest (g .decoded) (g .canonical)) ≤ length (c .put-station-lines .last .0)
+    c .put-station-lines .result + length (rest (g .decoded) (g .canonical) (g .reason)) ≤ length (c .put-station-lines .last .0)
 room-content c =
     let g = c .before .before .before .before .before .before .before .before .before .args in
     fits-next _ _ (stationLines (g .decoded .frame)) _ (room-stations (c .before .before .before .before)) (c .put-station-lines .ensures)
-
-spelled : (c : tie.After-yes-no) →
-    let y = c .before .before .before .before .before .before .before .before .before .before .before .before .before .before .before .before .before .before .before .before .before .before .before .args .canonical in
-    (c .yes-no .result .length ≤ 8) × (textIn (c .yes-no .result) ≡ yesNo y)
-spelled c =
-    let g = c .before .before .before .before .before .before .before .before .before .before .before .before .before .before .before .before .before .before .before .before .before .before .before .args in
-    word-is _ _ (c .yes-no .ensures) (omega (arith, yes-no-short (g .canonical)))
 
 slice-aggregate-put-number-line : tie.Need-slice-aggregate-put-number-line
 slice-aggregate-put-number-line c = search needs
@@ -62,21 +51,21 @@ put-number-line-requires : tie.Need-put-number-line-requires
 put-number-line-requires c κs =
     let g = c .before .before .before .before .args in
     let d = g .decoded in
-    fits-first (g .out .now) 0 head (stationLines (d .frame) ++ rest d (g .canonical)) (room (c .before .before .before))
+    fits-first (g .out .now) 0 head (stationLines (d .frame) ++ rest d (g .canonical) (g .reason)) (room (c .before .before .before))
 
 put-station-lines-requires : tie.Need-put-station-lines-requires
 put-station-lines-requires c κs =
     let put-number-line = c .before .before .before .put-number-line in
     let p = c .before .before .before .before .before .before .before .before .pre in
     let g = c .before .before .before .before .before .before .before .before .args in
-    (p .0, fits-first (put-number-line .last .0) _ (stationLines (g .decoded .frame)) (rest (g .decoded) (g .canonical)) (room-stations (c .before .before .before)))
+    (p .0, fits-first (put-number-line .last .0) _ (stationLines (g .decoded .frame)) (rest (g .decoded) (g .canonical) (g .reason)) (room-stations (c .before .before .before)))
 
 put-content-lines-requires : tie.Need-put-content-lines-requires
 put-content-lines-requires c κs =
     let put-station-lines = c .before .before .before .put-station-lines in
     let g = c .before .before .before .before .before .before .before .before .before .before .before .before .args in
     let d = g .decoded in
-    fits-one (put-station-lines .last .0) _ (contentLines (d .frame .content)) (infoLine d) (lastLine (g .canonical))
+    fits-one (put-station-lines .last .0) _ (contentLines (d .frame .content)) (infoLine d) (spellingLines (g .canonical) (g .reason))
     (room-content (c .before .before .before))
 
 slice-aggregate-put-number-line-2 : tie.Need-slice-aggregate-put-number-line-2
@@ -87,23 +76,17 @@ put-number-line-requires-2 c κs =
     let put-content-lines = c .before .before .before .before .put-content-lines in
     let g = c .before .before .before .before .before .before .before .before .before .before .before .before .before .before .before .before .before .args in
     let d = g .decoded in
-    fits-two _ _ (contentLines (d .frame .content)) (infoLine d) (lastLine (g .canonical))
+    fits-two _ _ (contentLines (d .frame .content)) (infoLine d) (spellingLines (g .canonical) (g .reason))
     (room-content (c .before .before .before .before .before .before .before .before)) (put-content-lines .ensures)
 
-slice-aggregate-put-word-line : tie.Need-slice-aggregate-put-word-line
-slice-aggregate-put-word-line c = search needs
-
-yes-no-requires : tie.Need-yes-no-requires
-yes-no-requires c κs = search needs
-
-put-word-line-requires : tie.Need-put-word-line-requires
-put-word-line-requires c κs =
-    let put-number-line2 = c .before .before .before .before .before .put-number-line2 in
-    let put-content-lines = c .before .before .before .before .before .before .before .before .before .before .put-content-lines in
-    let g = c .before .before .before .before .before .before .before .before .before .before .before .before .before .before .before .before .before .before .before .before .before .before .before .args in
+put-spelling-lines-requires : tie.Need-put-spelling-lines-requires
+put-spelling-lines-requires c κs =
+    let put-number-line2 = c .before .before .before .put-number-line2 in
+    let put-content-lines = c .before .before .before .before .before .before .before .before .put-content-lines in
+    let g = c .before .before .before .before .before .before .before .before .before .before .before .before .before .before .before .before .before .before .before .before .before .args in
     let d = g .decoded in
-    let w = spelled (c) in
-    (w .0, rw (w .1) (fits-three _ _ (contentLines (d .frame .content)) (infoLine d) (lastLine (g .canonical)) (room-content (c .before .before .before .before .before .before .before .before .before .before .before .before .before .before)) (put-content-lines .ensures) (put-number-line2 .ensures)))
+    fits-three _ _ (contentLines (d .frame .content)) (infoLine d) (spellingLines (g .canonical) (g .reason))
+    (room-content (c .before .before .before .before .before .before .before .before .before .before .before .before)) (put-content-lines .ensures) (put-number-line2 .ensures)
 
 same-length : tie.Need-same-length
 same-length c = search needs
@@ -111,17 +94,18 @@ same-length c = search needs
 returns : tie.Need-returns
 unfolding frameText
 returns c =
-    let put-number-line2 = c .before .before .before .before .before .before .before .before .put-number-line2 in
-    let put-content-lines = c .before .before .before .before .before .before .before .before .before .before .before .before .before .put-content-lines in
-    let put-station-lines = c .before .before .before .before .before .before .before .before .before .before .before .before .before .before .before .before .before .put-station-lines in
-    let put-number-line = c .before .before .before .before .before .before .before .before .before .before .before .before .before .before .before .before .before .before .before .before .before .put-number-line in
-    let g = c .before .before .before .before .before .before .before .before .before .before .before .before .before .before .before .before .before .before .before .before .before .before .before .before .before .before .args in
+    let put-number-line2 = c .before .before .before .before .before .before .put-number-line2 in
+    let put-content-lines = c .before .before .before .before .before .before .before .before .before .before .before .put-content-lines in
+    let put-station-lines = c .before .before .before .before .before .before .before .before .before .before .before .before .before .before .before .put-station-lines in
+    let put-number-line = c .before .before .before .before .before .before .before .before .before .before .before .before .before .before .before .before .before .before .before .put-number-line in
+    let g = c .before .before .before .before .before .before .before .before .before .before .before .before .before .before .before .before .before .before .before .before .before .before .before .before .args in
     let d = g .decoded in
     let y = g .canonical in
-    put-then _ 0 head (stationLines (d .frame) ++ rest d y)
-    (room (c .before .before .before .before .before .before .before .before .before .before .before .before .before .before .before .before .before .before .before .before .before .before .before .before .before))
+    let e = g .reason in
+    put-then _ 0 head (stationLines (d .frame) ++ rest d y e)
+    (room (c .before .before .before .before .before .before .before .before .before .before .before .before .before .before .before .before .before .before .before .before .before .before .before))
     (put-number-line .ensures)
-    (put-then _ _ (stationLines (d .frame)) (rest d y) (room-stations (c .before .before .before .before .before .before .before .before .before .before .before .before .before .before .before .before .before .before .before .before .before)) (put-station-lines .ensures) (put-three _ _ (contentLines (d .frame .content)) (infoLine d) (lastLine y) (room-content (c .before .before .before .before .before .before .before .before .before .before .before .before .before .before .before .before .before)) (put-content-lines .ensures) (put-number-line2 .ensures) (rw (spelled (c .before .before .before) .1) at (c .before .before .put-word-line .ensures))))
+    (put-then _ _ (stationLines (d .frame)) (rest d y e) (room-stations (c .before .before .before .before .before .before .before .before .before .before .before .before .before .before .before .before .before .before .before)) (put-station-lines .ensures) (put-three _ _ (contentLines (d .frame .content)) (infoLine d) (spellingLines y e) (room-content (c .before .before .before .before .before .before .before .before .before .before .before .before .before .before .before)) (put-content-lines .ensures) (put-number-line2 .ensures) (c .before .before .put-spelling-lines .ensures)))
 
 pub put-frame-spec : {M : Type 1} → statement M
 put-frame-spec =
@@ -133,8 +117,6 @@ put-frame-spec =
     put-content-lines-requires
     slice-aggregate-put-number-line-2
     put-number-line-requires-2
-    slice-aggregate-put-word-line
-    yes-no-requires
-    put-word-line-requires
+    put-spelling-lines-requires
     same-length
     returns)

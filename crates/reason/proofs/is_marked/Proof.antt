@@ -3,8 +3,8 @@ use mathlib.Core.Path.{_≡_, refl}
 use mathlib.Core.Bool.{Bool, true, false, not}
 use Rattle.frame.specs.Spell.{marked}
 use Rattle.decode.specs.Read.{commandOf}
-use Rattle.spelling.proofs.is_marked.Statement.{statement}
-use Rattle.spelling.proofs.is_marked.Tie as tie
+use Rattle.reason.proofs.is_marked.Statement.{statement}
+use Rattle.reason.proofs.is_marked.Tie as tie
 
 unlike : (b : Bool) → not b ≡ marked (commandOf true b)
 unlike true = refl

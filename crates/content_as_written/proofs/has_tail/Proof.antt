@@ -2,10 +2,10 @@
 use mathlib.Core.Path.{_≡_, sym}
 use lib.ListN.{getD}
 use Rattle.parse.specs.Numbers.{isI, isS}
-use Rattle.content_as_written.specs.AsWritten.{asWritten}
+use Rattle.content_as_written.specs.AsWritten.{hasTail}
 use borrow.Author.Needs.{needs}
-use Rattle.content_as_written.proofs.is_as_written.Statement.{statement}
-use Rattle.content_as_written.proofs.is_as_written.Tie as tie
+use Rattle.content_as_written.proofs.has_tail.Statement.{statement}
+use Rattle.content_as_written.proofs.has_tail.Tie as tie
 
 i-test : (c : tie.After-is-i) → isI (getD (c .before .before .before .args .bytes .now) 0 0) ≡ c .is-i .result
 i-test c = rw (← c .before .octet .ensures) (sym (c .is-i .ensures))
@@ -20,39 +20,39 @@ is-i-requires : tie.Need-is-i-requires
 is-i-requires c κs = search needs
 
 returns : tie.Need-returns
-unfolding asWritten
+unfolding hasTail
 returns c = simp (i-test (c .before), c .if1 .taken)
 
 is-s-requires : tie.Need-is-s-requires
 is-s-requires c κs = search needs
 
-is-s-as-written-requires : tie.Need-is-s-as-written-requires
-is-s-as-written-requires c κs = search needs
+controls-requires : tie.Need-controls-requires
+controls-requires c κs = search needs
 
 returns-2 : tie.Need-returns-2
-unfolding asWritten
+unfolding hasTail
 returns-2 c =
     let t = c .before .before in
-    simp (i-test (t .before .before), t .before .if1 .left, s-test t, c .before .if2 .taken, c .is-s-as-written .ensures, t .before .before .before .octet .ensures)
+    simp (i-test (t .before .before), t .before .if1 .left, s-test t, c .before .if2 .taken, c .controls .ensures)
 
-is-u-as-written-requires : tie.Need-is-u-as-written-requires
-is-u-as-written-requires c κs = search needs
+u-has-tail-requires : tie.Need-u-has-tail-requires
+u-has-tail-requires c κs = search needs
 
 returns-3 : tie.Need-returns-3
-unfolding asWritten
+unfolding hasTail
 returns-3 c =
     let t = c .before .before in
-    simp (i-test (t .before .before), t .before .if1 .left, s-test t, c .before .if2 .left, c .is-u-as-written .ensures, t .before .before .before .octet .ensures)
+    simp (i-test (t .before .before), t .before .if1 .left, s-test t, c .before .if2 .left, c .u-has-tail .ensures, t .before .before .before .octet .ensures)
 
-pub is-as-written-spec : {M : Type 1} → statement M
-is-as-written-spec =
+pub has-tail-spec : {M : Type 1} → statement M
+has-tail-spec =
     tie.close
     (tie.spec
     octet-requires
     is-i-requires
     returns
     is-s-requires
-    is-s-as-written-requires
+    controls-requires
     returns-2
-    is-u-as-written-requires
+    u-has-tail-requires
     returns-3)
