@@ -6,6 +6,10 @@ import os
 import re
 import sys
 
+sys.dont_write_bytecode = True
+sys.path.insert(0, 'compare')
+from reasons import MEANINGS
+
 passed = failed = 0
 
 
@@ -343,15 +347,20 @@ def listed(kind, octets):
     return found[1].split(' ') if found else []
 
 
+REASONS = ['none', *MEANINGS]
+
+
 def example_frames(table, field):
     """What is wrong with the examples of frames; `field` is what [A] stands for."""
-    for name, octets, number, details, canonical, again, _ in table:
+    for name, octets, number, details, canonical, why, again, _ in table:
         octets, respelled = (''.join(re.findall(r'\b[\dA-F]{2}\b', cell.replace('[A]', field))) for cell in (octets, again))
         told = dict(re.findall(r'(\w+) (\d+)', details))
         line = listed('D', octets)
-        # number, start, end and length; info's place and the record; then number, canonical, number, length, octets and three more
-        said = [number, *(told.get(key, '0') for key in ('start', 'end', 'length')), str(int(canonical == 'yes')), str(len(respelled) // 2)]
-        if line[:4] + line[8:9] + line[10:11] != said or not line[11].startswith(respelled):
+        # number, start, end and length; info's place and the record; then number, canonical; reason, number, place; number, length, octets and
+        # three more
+        said = [number, *(told.get(key, '0') for key in ('start', 'end', 'length')), str(int(canonical == 'yes'))]
+        said += [str(REASONS.index(why)), '0', '0'] if why in REASONS else [str(len(REASONS)), number, why.removeprefix('place ')]
+        if line[:4] + line[8:12] != said or line[13] != str(len(respelled) // 2) or not line[14].startswith(respelled):
             yield f'{name}: {" ".join(line)}'
 
 
@@ -400,6 +409,9 @@ def numbers():
     # The dumper reads in the short mode, which has no 11 and 12; and 6 is no longer given.
     owed = {row[0]: row[2] for row in table if int(row[0]) in (*range(6), *range(7, 11), 50)}
     check("README's table of the dumper's answers has its words", [n for n in dumped | owed if dumped.get(n) != owed.get(n)])
+    reasons = {row[0]: row[1] for table in tables(sections(read('README.md'))['Looking at a frame']) if table[0][0] == 'reason' for row in table[1:]}
+    differs = [word for word in reasons | MEANINGS if not reasons.get(word, '').lower().startswith(MEANINGS.get(word, '-') + ':')]
+    check("its table of reasons begins with the words that ./look and the laboratory's report have", differs if list(reasons) == list(MEANINGS) else list(reasons))
     octets = {row[0]: row[1].removeprefix('F ') for row in rows(page['What looks like a broken frame and is none'])}
     frame, left_on = (bytes.fromhex(octets[name]) for name in ('F, a frame as it should be', 'a frame with its check sequence'))
     check('its example has the right check sequence', [] if left_on == check_sequence(frame) else [check_sequence(frame).hex(' ')])

@@ -6,6 +6,7 @@ use crate::domain;
 use crate::flat::{self, Flat, FlatAddress, ADDRESS, COUNT, FLAT, GROUP, KIND, ROUTE};
 use crate::inputs;
 use crate::oracle::{self, Decode};
+use crate::reasons::{Reason, Why};
 use crate::relays::Own;
 use crate::show;
 use ax25::frame::Ax25Frame;
@@ -14,12 +15,13 @@ pub const HEADING: &str = "\
 # Inputs and the answers that are owed to them, by the Rust crate ax25 0.4.0, unchanged. Made by 'compare/build' and
 # 'target/compare/compare replay-list'; never edited by hand. Where a heading says 'document 01', the Rust has no such answer, and
 # the lines under it were worked out from that paper's rules. So is what is left in lent octets, everywhere. Where it says
-# 'document 02', they were worked out from what the Rust decodes and that paper's rules (M-100, M-102, M-105, M-106, M-108, M-109).
+# 'document 02', they were worked out from what the Rust decodes and that paper's rules (M-100, M-102, M-105, M-106, M-108 to M-110).
 # One octet is nowhere the Rust's: for every PID of the layer 3 class (bits 5 and 4 are 01 or 10) the Rust writes 10 hex, and its
 # identifier holds no octet. By document 02 (M-105) the octet that was read, or that stands in the record, is the one that is written,
 # on every line, and canonical is 1 where what is so written is the input. Nor are two bits of every group, the reserved ones (6 and 5
 # of its seventh octet): the Rust writes ones, and its address holds none. By document 02 (M-106) those that were read, or that stand
-# in the record, are written, on every line, and canonical goes by them too; text, from_parts and the default frame have 3.
+# in the record, are written, on every line, and canonical goes by them too; text, from_parts and the default frame have 3. The reason,
+# with its number and place, is nowhere the Rust's: by document 02 (M-110) it is told from the octets, on every line of D.
 # Nor is 10: the Rust skips leading nulls and reads what follows. By document 02 (M-108) such an input is refused, on every line of D and
 # of R, unless it is all nulls. An old capture, on lines of O, is what the Rust reads, or 9 as on other lines; beside every input of D
 # that starts with a null stands the same of O.
@@ -34,7 +36,7 @@ pub const HEADING: &str = "\
 # Octets that are lent are EE before the call. Behind a number stands what it left there: a dot where it touched none, else all of
 # them, and three more after them, which have to stay. A frame to be relayed is lent itself, and stands there untouched too; a dot
 # where it is empty.
-# D input: number start end length info_start info_length record; by the loader's calls: number canonical number length octets
+# D input: number start end length info_start info_length record; by the loader's calls: number canonical, reason number place, number length octets
 # O input: number start end length info_start info_length record; by the loader's call: number     an old capture
 # K content: number flat_content                   content read alone
 # E flat_content info room: number length octets   content written alone, into room for so many octets
@@ -83,7 +85,9 @@ impl List {
         };
         let number = owed.number;
         let canonical = u8::from(number == 0 && octets == input);
-        let again = format!("{} {} {} {}", canonical, number, octets.len(), lent(&octets, octets.len()));
+        let why = if number == 0 { Why::accepted(Reason::of(input)) } else { Why::refused(input, number) };
+        let why = format!("{} {} {}", why.answer, why.number, why.place);
+        let again = format!("{} {} {} {} {}", canonical, why, number, octets.len(), lent(&octets, octets.len()));
         self.line(format!("D {} {} {} {}", hex(input), decoded(&owed), number, again));
         if input.first() == Some(&0) {
             self.old_capture(input);

@@ -9,6 +9,7 @@ ghost use Rattle.control.specs.declared.Mode.the-variants.{Short};
 ghost use Rattle.decode.specs.Answer.{numberOf, isAccepted};
 ghost use Rattle.decode.specs.Read.{decode};
 ghost use Rattle.old_captures.specs.Old.{former};
+ghost use Rattle.reason.specs.Reason.{whyOf, codeOf};
 ghost use Rattle.spelling.specs.Canonical.{again};
 ghost use Rattle.octets.specs.Table.{FirstRow};
 ghost use Rattle.demands.specs.Numbers.{decodeTable};
@@ -44,12 +45,14 @@ pub fn canonical(input: &[u8]) -> u32
 }
 
 // Document 02, M-110: 0 exactly when some plain frame spells the input in that mode; a number below 5, and no number and no place beside it,
-// where the input is accepted; else 5, with the number of the first row of the table that holds.
+// where the input is accepted; else 5, with the number of the first row of the table that holds. Which of the numbers below 5, and which place,
+// is as `whyOf` says.
 pub fn told(input: &[u8], mode: u32, number: &mut u32, place: &mut usize) -> u32
     ensures { λ r. ⌜ (r ≡ 0) ↔ Spelled (modeOf mode) (now (input .entry)) ⌝ }
     ensures { λ r. ⌜ (isAccepted (decode (modeOf mode) (now (input .entry)) .answer) ≡ true → (r < 5) × (now (number .exit) ≡ 0) × (now (place .exit) ≡ 0)) ⌝ }
     ensures { λ r. ⌜ (isAccepted (decode (modeOf mode) (now (input .entry)) .answer) ≡ false → r ≡ 5) ⌝ }
     ensures { λ r. ⌜ FirstRow (decodeTable (modeOf mode) (now (input .entry))) (now (number .exit)) ⌝ }
+    ensures { λ r. ⌜ (r ≡ codeOf (whyOf (modeOf mode) (now (input .entry)) .reason)) × (now (place .exit) ≡ whyOf (modeOf mode) (now (input .entry)) .place) ⌝ }
 {
     loader::ax25_reason(input, mode, number, place)
 }

@@ -15,22 +15,24 @@ use Rattle.reason.specs.Reason.{firstOf, acceptedReason, reasonOf, placeOf, why
 use Rattle.reason.specs.declared.Reason.{Reason}
 use Rattle.reason.specs.declared.Reason.the-variants.{None, Refused}
 use Rattle.reason.specs.declared.Why.{Why}
-use Rattle.reason.proofs.Laws.{refused-why, accepted-why}
+use Rattle.reason.proofs.Laws.{why-is, refused-why, accepted-why}
 use Rattle.spelling.proofs.Laws.{canonical-none}
 use Rattle.demands.proofs.Numbers.{decoding}
 use Rattle.demands.specs.Reasons.{Told, Pair, pairs, Place, places}
 
 pub told : (m : Mode) (s : List ℕ) → Octets s → Told m s
-unfolding whyOf
-told m s o = record {
-  none = (
-    (λ e. canonical-none m s o ∙ eq-eqb (codeOf (reasonOf m s)) 0 e),
-    (λ e. eqb-true (codeOf (reasonOf m s)) 0 (sym (canonical-none m s o) ∙ e)),
-  );
-  number = decoding m s _ .0 refl;
-  refused = refused-why m s;
-  accepted = accepted-why m s;
-}
+told m s o =
+    let why = why-is m s in
+    let code = ap codeOf (why .0) in
+    record {
+      none = (
+        (λ e. canonical-none m s o ∙ eq-eqb (codeOf (reasonOf m s)) 0 (sym code ∙ e)),
+        (λ e. code ∙ eqb-true (codeOf (reasonOf m s)) 0 (sym (canonical-none m s o) ∙ e)),
+      );
+      number = decoding m s _ .0 (sym (why .1));
+      refused = refused-why m s;
+      accepted = accepted-why m s;
+    }
 
 pub reason-pairs : map {B = Reason × Reason} (λ (p : Pair). (reasonOf (p .mode) (p .with), reasonOf (p .mode) (p .without))) pairs
     ≡ map {B = Reason × Reason} (λ (p : Pair). (p .reason, None)) pairs

@@ -1,5 +1,5 @@
-// The canonical check and re-encoding in either mode, for the second model in C and for nothing else: the calls of C have the short mode
-// alone. A mode is a number: 0 is the short one, any other the long one. They stand apart from `probe` so that its archive is compiled as
+// The canonical check and re-encoding in either mode, for the second model in C and for nothing else: the calls of C for these have the short
+// mode alone. A mode is a number: 0 is the short one, any other the long one. They stand apart from `probe` so that its archive is compiled as
 // it was: whatever else calls the outline keeps the compiler from making it a part of the decoder there.
 use control::Mode;
 ghost use mathlib.Core.Path.{_≡_};

@@ -49,6 +49,11 @@ first-below false false true fixed = omega arith
 first-below false false false true = omega arith
 first-below false false false false = omega arith
 
+-- the reason and the number of the whole
+pub why-is : (m : Mode) (s : List ℕ) → (whyOf m s .reason ≡ reasonOf m s) × (whyOf m s .number ≡ numberOf (decode m s .answer))
+unfolding whyOf
+why-is m s = (refl, refl)
+
 -- refused just where decoding is, and else no number and no place
 pub refused-why : (m : Mode) (s : List ℕ) → isAccepted (decode m s .answer) ≡ false → whyOf m s .reason ≡ Refused
 unfolding whyOf reasonOf

@@ -46,10 +46,19 @@ fn decode(letter: u8, input: &[u8]) {
     show_lent(&flat);
 }
 
+fn reason(input: &[u8]) {
+    let mut number = 0xEEEE_EEEE;
+    let mut place = 0xEEEE_EEEE;
+    show_answer(loader::ax25_reason(input, SHORT, &mut number, &mut place));
+    show_answer(number);
+    show_number(place);
+}
+
 fn reencode(input: &[u8]) {
     let mut out = [0xEEu8; 515];
     show_answer(loader::ax25_decode(input));
     show_answer(loader::ax25_canonical(input));
+    reason(input);
     let length = loader::ax25_reencoded_length(input);
     let answer = loader::ax25_reencode(input, &mut out);
     show_written(answer, length, first(&out, shown(length)));

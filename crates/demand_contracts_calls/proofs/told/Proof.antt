@@ -23,7 +23,7 @@ returns c =
       ((λ z. exact .0 (t .none .0 (sym (e .0) ∙ z))), (λ w. e .0 ∙ t .none .1 (exact .1 w))),
       (
         (λ y. let x = t .accepted y in (rw (e .0) (x .0), e .1 .0 ∙ x .1, e .1 .1 ∙ x .2)),
-        ((λ y. e .0 ∙ ap codeOf (t .refused y)), rw (e .1 .0) (t .number)),
+        ((λ y. e .0 ∙ ap codeOf (t .refused y)), (rw (e .1 .0) (t .number), (e .0, e .1 .1))),
       ),
     )
 
