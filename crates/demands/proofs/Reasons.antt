@@ -1,10 +1,8 @@
 -- Document 02, M-110, proved; the settled cases compute.
 use Prim.Native.Nat.{ℕ}
 use mathlib.Core.Path.{_≡_, refl, ap, sym, _∙_}
-use mathlib.Core.Bool.{true}
 use mathlib.Core.List.{List, map}
 use borrow.Author.Tests.{eq-eqb, eqb-true}
-use lib.Dec.{eqb}
 use Rattle.octets.specs.First.{first}
 use Rattle.octets.specs.Octet.{Octets}
 use Rattle.control.specs.declared.Mode.{Mode}

@@ -11,7 +11,7 @@ use Rattle.decode.specs.Answer.{isAccepted}
 use Rattle.decode.specs.Read.{decode}
 use Rattle.reason.specs.Reason.{whyOf, codeOf}
 use Rattle.reason.specs.declared.Reason.{Reason}
-use Rattle.reason.specs.declared.Reason.the-variants.{None, Leftover, Marks, Tail, Fixed, Refused}
+use Rattle.reason.specs.declared.Reason.the-variants.{Leftover, Marks, Tail, Fixed, Refused}
 use Rattle.spelling.specs.Canonical.{canonical}
 use Rattle.octets.specs.Table.{FirstRow}
 use Rattle.demands.specs.Numbers.{decodeTable}

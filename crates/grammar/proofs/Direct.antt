@@ -22,14 +22,13 @@ use Rattle.control.specs.declared.Mode.{Mode}
 use Rattle.content_as_written.proofs.Laws.{content-kept, content-exact}
 use Rattle.content_as_written.proofs.AsWritten.{as-written-spelled}
 use Rattle.decode.specs.Read.{endOf, groupAt, parsedAt, entryAt, placeAt, routeAt, commandOf, frameAt, acceptedWith, decode, infoIn}
-use Rattle.frame.specs.Spell.{past, repeaterAt, groupsOf, destinationMark, sourceMark, addressField, spell, marked, Plain, inUse}
-use Rattle.frame.proofs.Write.{spell-length}
+use Rattle.frame.specs.Spell.{past, repeaterAt, groupsOf, destinationMark, sourceMark, addressField, spell, marked, Plain}
 use Rattle.frame.specs.declared.Mark.{Mark}
 use Rattle.frame.specs.declared.Mark.the-variants.{Command, Response, Absent}
 use Rattle.frame.specs.declared.Ax25Frame.{Ax25Frame}
 use Rattle.decode.specs.declared.Decoded.{Decoded}
 use Rattle.decode.proofs.Accepts.{Accepts}
-use Rattle.grammar.proofs.Back.{group-front, in-order, after-dest, after-field, spelled-end, frame-spell}
+use Rattle.grammar.proofs.Back.{group-front, in-order, after-dest, after-field, spelled-end}
 
 -- the address field ends with a whole group; the marks of destination and source differ; content just as writing gives it. Callsigns, SSIDs and
 -- reserved bits may be any

@@ -31,6 +31,7 @@ firstOf leftover marks tail fixed = cond leftover Leftover (cond marks Marks (co
 unfoldable pub acceptedReason : Mode → List ℕ → ℕ → Reason
 acceptedReason m s end = firstOf (isLeftover end) (isUnmarked s) (hasTail m (drop (end + 1) s)) (not (isTidy m (drop (end + 1) s)))
 
+-- of any input: refused where decoding is
 unfoldable pub reasonOf : Mode → List ℕ → Reason
 reasonOf m s = cond (isAccepted (decode m s .answer)) (acceptedReason m s (endOf s)) Refused
 
@@ -60,5 +61,6 @@ codeOf Tail = 3
 codeOf Fixed = 4
 codeOf Refused = 5
 
+-- whether there is none against the input
 abbrev pub isNone : Reason → Bool
 isNone r = eqb (codeOf r) 0

@@ -3,7 +3,7 @@ use control::Mode;
 use decode::DecodeAnswer;
 use decode::Outline;
 ghost use mathlib.Core.Path.{_≡_};
-ghost use Prim.Native.Nat.{_+_, _≤_, _<_};
+ghost use Prim.Native.Nat.{_≤_, _<_};
 ghost use lib.ListN.{length};
 ghost use Rattle.frame.specs.Spell.{marked};
 ghost use Rattle.decode.specs.Read.{commandOf};
@@ -103,7 +103,8 @@ pub fn reason_of(mode: Mode, bytes: &[u8]) -> Reason
     by_outline(mode, bytes, decode::outline_of(mode, bytes))
 }
 
-// The place that a decode number is about. The end is searched for once more, where it is asked for: a refusal's outline has none.
+// The place that a decode number is about: none of 0, 1, 2 and 10, where a ninth repeater starts of 9, the end of 3 and 4, the control octet of
+// all others. The end is searched for once more where it is wanted: a refusal's outline has none.
 fn place_of(number: u32, bytes: &[u8]) -> usize
     ensures { λ r. ⌜ r ≡ placeOf number (now (bytes .entry)) ⌝ }
 {
@@ -120,6 +121,7 @@ fn place_of(number: u32, bytes: &[u8]) -> usize
     end + 1
 }
 
+// The reason with the decode number and the place.
 pub fn why_of(mode: Mode, bytes: &[u8]) -> Why
     ensures { λ r. ⌜ r ≡ whyOf mode (now (bytes .entry)) ⌝ }
 {

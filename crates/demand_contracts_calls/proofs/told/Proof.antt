@@ -1,5 +1,5 @@
 -- What the call leaves is the definition's, of which the demand is proved.
-use mathlib.Core.Path.{_≡_, ap, sym, _∙_}
+use mathlib.Core.Path.{ap, sym, _∙_}
 use Rattle.octets.specs.Octet.{Octets}
 use Rattle.control.specs.Mode.{modeOf}
 use Rattle.reason.specs.Reason.{codeOf}

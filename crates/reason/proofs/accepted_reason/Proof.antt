@@ -1,5 +1,5 @@
 -- Each test as the definition has it.
-use mathlib.Core.Path.{_≡_, refl, _∙_}
+use mathlib.Core.Path.{_∙_}
 use Rattle.octets.proofs.Splice.{part-from}
 use Rattle.reason.specs.Reason.{acceptedReason}
 use borrow.Author.Needs.{needs}

@@ -1,5 +1,5 @@
 -- A refused input is told by its answer; of an accepted one the outline has the end.
-use mathlib.Core.Path.{_≡_, refl, ap, sym, _∙_}
+use mathlib.Core.Path.{_≡_, refl, ap, _∙_}
 use mathlib.Core.Bool.{true, false}
 use native.Mathlib.Omega.{arith}
 use Rattle.decode.specs.Answer.{isAccepted}

@@ -1,6 +1,5 @@
 -- No reason is given exactly of canonical input.
-use mathlib.Core.Path.{_≡_, refl, ap, sym, _∙_}
-use Rattle.octets.specs.Octet.{Octets}
+use mathlib.Core.Path.{_≡_, ap, sym, _∙_}
 use Rattle.reason.specs.Reason.{isNone}
 use Rattle.reason.proofs.Laws.{told-some}
 use Rattle.spelling.specs.Canonical.{canonical}
