@@ -41,7 +41,7 @@ hasTail m s =
     (cond (isS (getD s 0 0)) (ltb (controls m) (length s))
     (uTail (getD s 0 0) (length s)))
 
--- neither, of content that reading accepts
+-- content that reading accepts is just as writing gives it where it has no tail and no such bit is set
 abbrev pub asWritten : Mode → List ℕ → Bool
 asWritten m s = not (hasTail m s) && isTidy m s
 

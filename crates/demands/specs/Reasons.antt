@@ -50,8 +50,8 @@ pairs =
     -- P11: FRMR's bits; and those of an S frame of the long mode
     ∷ record { mode = Short; reason = Fixed; with = addresses ++ (0x87 ∷ 0xF1 ∷ 0x03 ∷ 0x44 ∷ []); without = addresses ++ (0x87 ∷ 0x01 ∷ 0x02 ∷ 0x44 ∷ []) }
     ∷ record { mode = Long; reason = Fixed; with = addresses ++ (0xFD ∷ 0x03 ∷ []); without = addresses ++ (0x0D ∷ 0x03 ∷ []) }
-    -- of two, the first: leftover and marks, marks and tail, tail and fixed
-    ∷ record { mode = Short; reason = Leftover; with = take 6 unmarked ++ (0x60 ∷ 0x84 ∷ 0x9E ∷ 0xB0 ∷ 0x62 ∷ 0x64 ∷ 0x40 ∷ 0x66 ∷ 0x41 ∷ 0x01 ∷ []); without = addresses ++ (0x01 ∷ []) }
+    -- of two defects the first, beside the same without both: leftover and marks, marks and tail, tail and fixed
+    ∷ record { mode = Short; reason = Leftover; with = take 13 unmarked ++ (0x66 ∷ 0x41 ∷ 0x01 ∷ []); without = addresses ++ (0x01 ∷ []) }
     ∷ record { mode = Short; reason = Marks; with = unmarked ++ (0x01 ∷ 0xAA ∷ []); without = addresses ++ (0x01 ∷ []) }
     ∷ record { mode = Long; reason = Tail; with = addresses ++ (0xF1 ∷ 0x02 ∷ 0xAA ∷ []); without = addresses ++ (0x01 ∷ 0x02 ∷ []) }
     ∷ []

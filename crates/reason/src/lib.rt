@@ -10,7 +10,7 @@ ghost use Rattle.decode.specs.Read.{commandOf};
 ghost use Rattle.decode.specs.Outline.{outlineOf};
 ghost use Rattle.reason.specs.Reason.{firstOf, acceptedReason, reasonOf, placeOf, whyOf, codeOf};
 
-// Of an accepted input the first that holds, in this order, or that none does.
+// Of an accepted input that there is none, or the first that holds in this order; of any other that it is refused.
 pub enum Reason {
     None,
     Leftover,
