@@ -11,8 +11,10 @@ use Rattle.content_as_written.specs.AsWritten.{hasTail, isTidy}
 use Rattle.frame.specs.Spell.{marked}
 use Rattle.decode.specs.Answer.{numberOf, isAccepted}
 use Rattle.decode.specs.Read.{endOf, commandOf, decode}
+use Rattle.decode.specs.Outline.{outlineOf}
 use Rattle.reason.specs.declared.Reason.{Reason}
 use Rattle.reason.specs.declared.Reason.the-variants.{None, Leftover, Marks, Tail, Fixed, Refused}
+use Rattle.reason.specs.declared.Judged.{Judged}
 use Rattle.reason.specs.declared.Why.{Why}
 
 -- leftover: the span of the address field, which starts with the first octet, is not a multiple of seven
@@ -34,6 +36,10 @@ acceptedReason m s end = firstOf (isLeftover end) (isUnmarked s) (hasTail m (dro
 -- of any input: refused where decoding is
 unfoldable pub reasonOf : Mode → List ℕ → Reason
 reasonOf m s = cond (isAccepted (decode m s .answer)) (acceptedReason m s (endOf s)) Refused
+
+-- beside the outline
+abbrev pub judgedOf : Mode → List ℕ → Judged
+judgedOf m s = record { outline = outlineOf m s; reason = reasonOf m s }
 
 -- the place, by the decode number: 0 for 1, 2 and 10, and of an accepted input; the end octet for 3 and 4; for 9 where a ninth repeater
 -- starts; the control octet for all others

@@ -8,7 +8,7 @@ ghost use lib.ListN.{length};
 ghost use Rattle.frame.specs.Spell.{marked};
 ghost use Rattle.decode.specs.Read.{commandOf};
 ghost use Rattle.decode.specs.Outline.{outlineOf};
-ghost use Rattle.reason.specs.Reason.{firstOf, acceptedReason, reasonOf, placeOf, whyOf, codeOf};
+ghost use Rattle.reason.specs.Reason.{firstOf, acceptedReason, reasonOf, judgedOf, placeOf, whyOf, codeOf};
 
 // Of an accepted input that there is none, or the first that holds in this order; of any other that it is refused.
 pub enum Reason {
@@ -25,6 +25,12 @@ pub struct Why {
     pub reason: Reason,
     pub number: u32,
     pub place: usize,
+}
+
+// The outline that an input's answer is told by, and the reason that it leads to.
+pub struct Judged {
+    pub outline: Outline,
+    pub reason: Reason,
 }
 
 impl Reason {
@@ -101,6 +107,15 @@ pub fn reason_of(mode: Mode, bytes: &[u8]) -> Reason
     ensures { λ r. ⌜ r ≡ reasonOf mode (now (bytes .entry)) ⌝ }
 {
     by_outline(mode, bytes, decode::outline_of(mode, bytes))
+}
+
+// The reason beside the outline, from one look at the octets: for who goes on from both.
+pub fn judge(mode: Mode, bytes: &[u8]) -> Judged
+    ensures { λ r. ⌜ r ≡ judgedOf mode (now (bytes .entry)) ⌝ }
+{
+    let outline = decode::outline_of(mode, bytes);
+    let reason = by_outline(mode, bytes, outline);
+    Judged { outline, reason }
 }
 
 // The place that a decode number is about: none of 0, 1, 2 and 10, where a ninth repeater starts of 9, the end of 3 and 4, the control octet of
