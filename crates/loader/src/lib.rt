@@ -1,4 +1,5 @@
 // The calls that C links, all in the short mode but for `ax25_reason`, which takes the mode. A slice is a pointer and a length there; include/ax25.h says what the caller owes.
+use captures::CaptureRecord;
 use control::Mode;
 use kiss_state::Stream;
 use kiss_stream::Packet;
@@ -13,6 +14,7 @@ ghost use Rattle.old_captures.specs.Old.{decodeOld};
 ghost use Rattle.control.specs.Mode.{modeOf};
 ghost use Rattle.reason.specs.Reason.{whyOf, codeOf};
 ghost use Rattle.spelling.specs.Canonical.{canonical};
+ghost use Rattle.captures.specs.Capture.{filledAll};
 ghost use Rattle.respelling.specs.Reencode.{due, reencode, reencoded, reportOf as reencodeReport};
 ghost use Rattle.relay.specs.Relay.{relayAnswerAs, relayedAs, reportOf as relayReport};
 ghost use Rattle.kiss.specs.Write.{numberOf as writeNumber, written, octetsWritten};
@@ -65,6 +67,15 @@ pub extern "C" fn ax25_reason(input: &[u8], mode: u32, number: &mut u32, place: 
     *place = why.place;
     let reason = why.reason;
     reason.code()
+}
+
+// Each record filled as the calls above answer for its part of the input, in the mode of that number: the decode number, or 61 where the part
+// is not inside the input; 1 where it is canonical, else 0; the number of its kind.
+#[no_mangle]
+pub extern "C" fn ax25_captures(input: &[u8], mode: u32, records: &mut [CaptureRecord])
+    ensures { λ _. ⌜ now (records .exit) ≡ filledAll (modeOf mode) (now (input .entry)) (now (records .entry)) ⌝ }
+{
+    captures::fill(Mode::of_number(mode), input, records)
 }
 
 // How many octets re-encoding gives; 0 where the input is refused.
