@@ -7,12 +7,13 @@ use frame::Ax25Frame;
 use parse::ContentAnswer;
 use reason::Reason;
 ghost use mathlib.Core.Path.{_≡_};
-ghost use mathlib.Core.Bool.{cond};
+ghost use mathlib.Core.Bool.{true, cond};
+ghost use lib.ListN.{length};
 ghost use Rattle.frame.specs.Frame.{defaultFrame};
 ghost use Rattle.decode.specs.Outline.{outlineOf};
 ghost use Rattle.decode.specs.Read.{decode};
 ghost use Rattle.reason.specs.Reason.{isNone};
-ghost use Rattle.captures.specs.Capture.{kindOf, isInside, answered, outside, filled, filledAll};
+ghost use Rattle.captures.specs.Capture.{kindOf, partOf, isInside, answered, outside, filled, filledAll};
 
 // Where a capture lies in the buffer, and what is known of it: the decode number, or 61 where it is not inside the buffer; 1 where it is
 // canonical, else 0; the number of its kind.
@@ -85,16 +86,19 @@ fn one_if_none(reason: Reason) -> u16
     if code == 0 { 1 } else { 0 }
 }
 
-// The record of a part that is inside: all three answers from one look at its octets.
-fn answered(mode: Mode, part: &[u8], capture: CaptureRecord) -> CaptureRecord
-    ensures { λ r. ⌜ r ≡ answered mode (now (part .entry)) capture ⌝ }
+// The record of a part that is inside: all three answers from one outline of its octets.
+fn answered(mode: Mode, input: &[u8], capture: CaptureRecord) -> CaptureRecord
+    requires { ⌜ isInside (length (now input)) capture ≡ true ⌝ }
+    ensures { λ r. ⌜ r ≡ answered mode (partOf (now (input .entry)) capture) capture ⌝ }
 {
-    let judged = reason::judge(mode, part);
-    let outline = judged.outline;
+    let start = capture.start;
+    let end = start + capture.length;
+    let part = &input[start..end];
+    let outline = decode::outline_of(mode, part);
     let answer = outline.answer;
-    let reason = judged.reason;
+    let reason = reason::from_outline(mode, part, outline);
     CaptureRecord {
-        start: capture.start,
+        start,
         length: capture.length,
         number: answer.number(),
         canonical: one_if_none(reason),
@@ -128,9 +132,7 @@ pub fn filled(mode: Mode, input: &[u8], capture: CaptureRecord) -> CaptureRecord
     if !is_inside(input.len(), capture) {
         return outside(capture);
     }
-    let start = capture.start;
-    let end = start + capture.length;
-    answered(mode, &input[start..end], capture)
+    answered(mode, input, capture)
 }
 
 // All of them, in their order and where they lie.

@@ -1,17 +1,39 @@
--- The outline has decoding's answer, and there is no reason exactly where the part is canonical.
-use mathlib.Core.Path.{_≡_, refl, ap, sym, _∙_}
-use Rattle.decode.specs.Answer.{numberOf}
-use Rattle.decode.specs.Outline.{outlineOf}
-use Rattle.reason.specs.declared.Judged.{Judged}
-use Rattle.reason.specs.Reason.{reasonOf}
+-- The part's outline has decoding's answer, and leads to no reason exactly where the part is canonical.
+use Prim.Native.Nat.{ℕ, _+_, _-_, _≤_}
+use mathlib.Core.Path.{_≡_, refl, ap}
+use mathlib.Core.List.{List}
+use native.Mathlib.Omega.{arith}
+use lib.ListN.{length, take, drop}
+use Rattle.octets.specs.Octet.{Octets}
+use Rattle.octets.proofs.Octet.{octets-take, octets-drop}
+use Rattle.reason.proofs.Laws.{by-outline}
 use Rattle.spelling.proofs.Laws.{canonical-none}
-use Rattle.captures.specs.Capture.{answered}
+use Rattle.captures.specs.Capture.{partOf, answered}
+use Rattle.captures.proofs.Laws.{inside-ends}
 use borrow.Author.Needs.{needs}
 use Rattle.captures.proofs.answered.Statement.{statement}
 use Rattle.captures.proofs.answered.Tie as tie
 
-judge-requires : tie.Need-judge-requires
-judge-requires c κs = search needs
+ends : (c : tie.After-struct-known) → let a = c .before .before .args in a .capture .start + a .capture .length ≤ length (a .input .now)
+ends c = inside-ends _ _ (c .before .before .pre)
+
+add-end : tie.Need-add-end
+add-end c = omega (arith, ends c)
+
+sub-part : tie.Need-sub-part
+sub-part c = search needs
+
+part-part-start : tie.Need-part-part-start
+part-part-start c = search needs
+
+part-part-end : tie.Need-part-part-end
+part-part-end c = ends c
+
+outline-of-requires : tie.Need-outline-of-requires
+outline-of-requires c κs = search needs
+
+from-outline-requires : tie.Need-from-outline-requires
+from-outline-requires c κs = search needs
 
 number-requires : tie.Need-number-requires
 number-requires c κs = search needs
@@ -20,15 +42,34 @@ one-if-none-requires : tie.Need-one-if-none-requires
 one-if-none-requires c κs = search needs
 
 kind-by-requires : tie.Need-kind-by-requires
-kind-by-requires c κs = ap (λ (j : Judged). j .outline) (c .before .before .before .judge .ensures)
+kind-by-requires c κs = search needs
 
 returns : tie.Need-returns
 unfolding answered
 returns c =
-    let p = c .before .before .before .before in
-    let octets = canonical-none (p .before .before .args .mode) (p .before .before .args .part .now) (λ k. p .before .shared-slice-known .given k .fits) in
-    rw (c .kind-by .ensures, c .before .one-if-none .ensures, c .before .before .number .ensures, p .judge .ensures, octets) refl
+    let from-outline = c .before .before .before .from-outline in
+    let outline-of = c .before .before .before .before .outline-of in
+    let p = c .before .before .before .before .before .before .before in
+    let a = p .before .args in
+    let part : List ℕ = partOf (a .input .now) (a .capture) in
+    let octets : Octets part =
+    octets-take (drop (a .capture .start) (a .input .now)) (a .capture .length) (octets-drop (a .input .now) (a .capture .start) (λ k. p .shared-slice-known .given k .fits)) in
+    let long : a .capture .start + a .capture .length - a .capture .start ≡ a .capture .length = omega arith in
+    let is : take (a .capture .start + a .capture .length - a .capture .start) (drop (a .capture .start) (a .input .now)) ≡ part =
+    ap (λ (n : ℕ). take n (drop (a .capture .start) (a .input .now))) long in
+    rw (c .kind-by .ensures, c .before .one-if-none .ensures, c .before .before .number .ensures, from-outline .ensures, outline-of .ensures, is, by-outline (a .mode) part, canonical-none (a .mode) part octets) refl
 
 pub answered-spec : {M : Type 1} → statement M
 answered-spec =
-    tie.close (tie.spec judge-requires number-requires one-if-none-requires kind-by-requires returns)
+    tie.close
+    (tie.spec
+    add-end
+    sub-part
+    part-part-start
+    part-part-end
+    outline-of-requires
+    from-outline-requires
+    number-requires
+    one-if-none-requires
+    kind-by-requires
+    returns)

@@ -323,10 +323,13 @@ module _ {M : Type 1} (𝓤 : URA M) (H : Heap 𝓤) (A : Atoms 𝓤) (W : Given
       (walk 𝓤 H A W mem run (κs .0) (κs .1 .0) (qs .0) (qs .1 .0) (a .0) (are .0) (a .1 .0) (a .1 .1 .0 .ptr .0) (a .1 .1 .0 .ptr .1) (a .1 .1 .0 .name) (a .1 .1 .0 .now) 𝓣 known (are .1 .0 .0 .1) (are .1 .1 .0 .0 .1)))
 
   goes : AllGo 𝓤 H A W 2 (fill.signature .params) (fill.ended .kept) stayed
-  goes =
-      (goes-none 𝓤 H A W 2 (λ _. Md.the-row) yes (λ κs x f. refl),
-      (goes-none-slice 𝓤 H A W 2 (0 ∷ []) tt (plain (λ _. u8)) yes,
-      (goes-slice 𝓤 H A W 2 1 tt (plain (λ _. Cr.the-row)), tt)))
+  goes = (
+    goes-none 𝓤 H A W 2 (λ _. Md.the-row) yes (λ κs x f. refl),
+    (
+      goes-none-slice 𝓤 H A W 2 (0 ∷ []) tt (plain (λ _. u8)) yes,
+      (goes-slice 𝓤 H A W 2 1 tt (plain (λ _. Cr.the-row)), tt),
+    ),
+  )
 
 fill-meets : {M : Type 1} (𝓤 : URA M) (H : Heap 𝓤) (A : Atoms 𝓤) → Given 𝓤 H A → (mem : Memory → SProp 𝓤) (run : Routine → Fun 𝓤) (𝓣 : Tables 𝓤 H) → Triple 𝓤 (𝓣 .C #captures·filled) (FilledC 𝓤 H A mem run)
     → Meets 𝓤 H A fill.signature (WpFn 𝓤 H (𝓣 .C) (𝓣 .Λ) code.function) (fill.spec 𝓤 H A mem run)

@@ -172,10 +172,13 @@ module _ {M : Type 1} (𝓤 : URA M) (H : Heap 𝓤) (A : Atoms 𝓤) (W : Given
       (walk 𝓤 H A W mem run (κs .0) (κs .1 .0) (qs .0) (qs .1 .0) (a .0) (a .1 .0) (are .1 .0 .1) (a .1 .1 .0 .ptr .0) (a .1 .1 .0 .ptr .1) (a .1 .1 .0 .name) (a .1 .1 .0 .now) C Λ fm known-mode known-fill (are .0 .0 .1) (are .1 .1 .0 .0 .1)))
 
   goes : AllGo 𝓤 H A W 2 (ax25-captures.signature .params) (ax25-captures.ended .kept) stayed
-  goes =
-      (goes-none-slice 𝓤 H A W 2 (0 ∷ []) tt (plain (λ _. u8)) yes,
-      (goes-none 𝓤 H A W 2 (λ _. u32) yes (λ κs x f. refl),
-      (goes-gave-slice 𝓤 H A W 2 1 tt (plain (λ _. Cr.the-row)), tt)))
+  goes = (
+    goes-none-slice 𝓤 H A W 2 (0 ∷ []) tt (plain (λ _. u8)) yes,
+    (
+      goes-none 𝓤 H A W 2 (λ _. u32) yes (λ κs x f. refl),
+      (goes-gave-slice 𝓤 H A W 2 1 tt (plain (λ _. Cr.the-row)), tt),
+    ),
+  )
 
 ax25-captures-meets : {M : Type 1} (𝓤 : URA M) (H : Heap 𝓤) (A : Atoms 𝓤) → Given 𝓤 H A → (mem : Memory → SProp 𝓤) (run : Routine → Fun 𝓤) (𝓣 : Tables 𝓤 H)
     → Triple 𝓤 (𝓣 .C #control·Mode·of-number) (ModeC 𝓤 H A mem run) → Triple 𝓤 (𝓣 .C #captures·fill) (FillC 𝓤 H A mem run)
