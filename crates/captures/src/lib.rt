@@ -86,7 +86,7 @@ fn one_if_none(reason: Reason) -> u16
     if code == 0 { 1 } else { 0 }
 }
 
-// The record of a part that is inside: all three answers from one outline of its octets.
+// The record of a part that is inside: all three answers from one look at its octets.
 fn answered(mode: Mode, input: &[u8], capture: CaptureRecord) -> CaptureRecord
     requires { ⌜ isInside (length (now input)) capture ≡ true ⌝ }
     ensures { λ r. ⌜ r ≡ answered mode (partOf (now (input .entry)) capture) capture ⌝ }
@@ -94,9 +94,10 @@ fn answered(mode: Mode, input: &[u8], capture: CaptureRecord) -> CaptureRecord
     let start = capture.start;
     let end = start + capture.length;
     let part = &input[start..end];
-    let outline = decode::outline_of(mode, part);
+    let judged = reason::judge(mode, part);
+    let outline = judged.outline;
     let answer = outline.answer;
-    let reason = reason::from_outline(mode, part, outline);
+    let reason = judged.reason;
     CaptureRecord {
         start,
         length: capture.length,

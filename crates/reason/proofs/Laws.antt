@@ -1,5 +1,4 @@
--- There is no reason exactly where the input is accepted and none of the conditions holds; the reason by an outline; and what a match tells of
--- a reason.
+-- There is no reason exactly where the input is accepted and none of the conditions holds; and what a match tells of a reason.
 use Prim.Native.Nat.{ℕ, _+_, _%_, _<_}
 use mathlib.Core.Path.{_≡_, refl, _∙_}
 use mathlib.Core.Bool.{Bool, true, false, cond, not, _&&_}
@@ -7,20 +6,17 @@ use mathlib.Core.List.{List, [], _∷_}
 use types.Run.{OneOf, miss}
 use denote.Enum.Declared.{tagOf}
 use native.Mathlib.Omega.{arith}
-use borrow.Author.Tests.{eqb-true, lt-ltb, le-leb}
+use borrow.Author.Tests.{eqb-true}
 use lib.Dec.{eqb}
-use lib.ListN.{length, getD, drop}
-use Rattle.octets.proofs.Choice.{by}
+use lib.ListN.{getD, drop}
 use Rattle.group.specs.Group.{markSet}
 use Rattle.control.specs.declared.Mode.{Mode}
 use Rattle.content_as_written.specs.AsWritten.{hasTail, isTidy, asWritten}
 use Rattle.frame.specs.Spell.{marked}
 use Rattle.decode.specs.Answer.{numberOf, isAccepted}
 use Rattle.decode.specs.Read.{endOf, commandOf, decode}
-use Rattle.decode.specs.Outline.{outlineOf}
-use Rattle.decode.proofs.Accepts.{accepts}
 use Rattle.decode.proofs.Read.{zero-accepted}
-use Rattle.reason.specs.Reason.{codeOf, isNone, firstOf, acceptedReason, reasonBy, reasonOf, placeOf, whyOf}
+use Rattle.reason.specs.Reason.{codeOf, isNone, firstOf, acceptedReason, reasonOf, placeOf, whyOf}
 use Rattle.reason.proofs.Reason.{the-type}
 use Rattle.reason.specs.declared.Reason.{Reason}
 use Rattle.reason.specs.declared.Reason.the-variants.{None, Leftover, Marks, Tail, Fixed, Refused}
@@ -44,14 +40,6 @@ unfolding reasonOf acceptedReason
 none-is m s =
     by-tests (isAccepted (decode m s .answer)) (eqb ((endOf s + 1) % 7) 0) (marked (commandOf (markSet (getD s 6 0)) (markSet (getD s 13 0))))
     (hasTail m (drop (endOf s + 1) s)) (isTidy m (drop (endOf s + 1) s))
-
--- the input's own outline leads to the reason
-pub by-outline : (m : Mode) (s : List ℕ) → reasonBy m s (outlineOf m s) ≡ reasonOf m s
-unfolding reasonBy reasonOf
-by-outline m s =
-    by (isAccepted (decode m s .answer))
-    (λ e. let a = accepts m s e in rw (e, lt-ltb (endOf s) (length s) (a .end-in), le-leb 14 (endOf s + 1) (a .long)) refl)
-    (λ e. rw e refl)
 
 first-below : (leftover marks tail fixed : Bool) → codeOf (firstOf leftover marks tail fixed) < 5
 unfolding firstOf

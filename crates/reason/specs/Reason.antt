@@ -1,20 +1,20 @@
 -- Why an input is not canonical (document 02, M-110), told from its octets: of an accepted input the first condition that holds, of a refused
 -- one the number and a place.
 use Prim.Native.Nat.{ℕ, _+_, _%_}
-use mathlib.Core.Bool.{Bool, cond, not, _&&_, _||_}
+use mathlib.Core.Bool.{Bool, cond, not, _||_}
 use mathlib.Core.List.{List}
 use lib.Dec.{eqb}
-use lib.ListN.{length, getD, drop}
+use lib.ListN.{getD, drop}
 use Rattle.group.specs.Group.{markSet}
 use Rattle.control.specs.declared.Mode.{Mode}
 use Rattle.content_as_written.specs.AsWritten.{hasTail, isTidy}
 use Rattle.frame.specs.Spell.{marked}
 use Rattle.decode.specs.Answer.{numberOf, isAccepted}
 use Rattle.decode.specs.Read.{endOf, commandOf, decode}
-use Rattle.decode.specs.Outline.{holds}
-use Rattle.decode.specs.declared.Outline.{Outline}
+use Rattle.decode.specs.Outline.{outlineOf}
 use Rattle.reason.specs.declared.Reason.{Reason}
 use Rattle.reason.specs.declared.Reason.the-variants.{None, Leftover, Marks, Tail, Fixed, Refused}
+use Rattle.reason.specs.declared.Judged.{Judged}
 use Rattle.reason.specs.declared.Why.{Why}
 
 -- leftover: the span of the address field, which starts with the first octet, is not a multiple of seven
@@ -33,13 +33,13 @@ firstOf leftover marks tail fixed = cond leftover Leftover (cond marks Marks (co
 unfoldable pub acceptedReason : Mode → List ℕ → ℕ → Reason
 acceptedReason m s end = firstOf (isLeftover end) (isUnmarked s) (hasTail m (drop (end + 1) s)) (not (isTidy m (drop (end + 1) s)))
 
--- by an outline: refused where that is, or where it tells of more than the octets hold
-unfoldable pub reasonBy : Mode → List ℕ → Outline → Reason
-reasonBy m s o = cond (isAccepted (o .answer) && holds (length s) (o .end) 0) (acceptedReason m s (o .end)) Refused
-
 -- of any input: refused where decoding is
 unfoldable pub reasonOf : Mode → List ℕ → Reason
 reasonOf m s = cond (isAccepted (decode m s .answer)) (acceptedReason m s (endOf s)) Refused
+
+-- beside the outline
+abbrev pub judgedOf : Mode → List ℕ → Judged
+judgedOf m s = record { outline = outlineOf m s; reason = reasonOf m s }
 
 -- the place, by the decode number: 0 for 1, 2 and 10, and of an accepted input; the end octet for 3 and 4; for 9 where a ninth repeater
 -- starts; the control octet for all others

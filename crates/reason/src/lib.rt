@@ -7,7 +7,8 @@ ghost use Prim.Native.Nat.{_≤_, _<_};
 ghost use lib.ListN.{length};
 ghost use Rattle.frame.specs.Spell.{marked};
 ghost use Rattle.decode.specs.Read.{commandOf};
-ghost use Rattle.reason.specs.Reason.{firstOf, acceptedReason, reasonBy, reasonOf, placeOf, whyOf, codeOf};
+ghost use Rattle.decode.specs.Outline.{outlineOf};
+ghost use Rattle.reason.specs.Reason.{firstOf, acceptedReason, reasonOf, judgedOf, placeOf, whyOf, codeOf};
 
 // Of an accepted input that there is none, or the first that holds in this order; of any other that it is refused.
 pub enum Reason {
@@ -24,6 +25,12 @@ pub struct Why {
     pub reason: Reason,
     pub number: u32,
     pub place: usize,
+}
+
+// The outline that an input's answer is told by, and the reason that it leads to.
+pub struct Judged {
+    pub outline: Outline,
+    pub reason: Reason,
 }
 
 impl Reason {
@@ -84,29 +91,31 @@ fn accepted_reason(mode: Mode, bytes: &[u8], end: usize) -> Reason
     )
 }
 
-// The reason that an outline leads to. An outline of other octets, which tells of more than these hold, is refused.
-pub fn from_outline(mode: Mode, bytes: &[u8], outline: Outline) -> Reason
-    ensures { λ r. ⌜ r ≡ reasonBy mode (now (bytes .entry)) outline ⌝ }
+fn by_outline(mode: Mode, bytes: &[u8], outline: Outline) -> Reason
+    requires { ⌜ outline ≡ outlineOf mode (now bytes) ⌝ }
+    ensures { λ r. ⌜ r ≡ reasonOf mode (now (bytes .entry)) ⌝ }
 {
     let answer = outline.answer;
     let DecodeAnswer::Accepted = answer else {
         return Reason::Refused;
     };
-    let end = outline.end;
-    if end < 13 {
-        return Reason::Refused;
-    }
-    if bytes.len() <= end {
-        return Reason::Refused;
-    }
-    accepted_reason(mode, bytes, end)
+    accepted_reason(mode, bytes, outline.end)
 }
 
 // The reason alone: the canonical check and the dumper ask for no more.
 pub fn reason_of(mode: Mode, bytes: &[u8]) -> Reason
     ensures { λ r. ⌜ r ≡ reasonOf mode (now (bytes .entry)) ⌝ }
 {
-    from_outline(mode, bytes, decode::outline_of(mode, bytes))
+    by_outline(mode, bytes, decode::outline_of(mode, bytes))
+}
+
+// The reason beside the outline, from one look at the octets: for who goes on from both.
+pub fn judge(mode: Mode, bytes: &[u8]) -> Judged
+    ensures { λ r. ⌜ r ≡ judgedOf mode (now (bytes .entry)) ⌝ }
+{
+    let outline = decode::outline_of(mode, bytes);
+    let reason = by_outline(mode, bytes, outline);
+    Judged { outline, reason }
 }
 
 // The place that a decode number is about: none of 0, 1, 2 and 10, where a ninth repeater starts of 9, the end of 3 and 4, the control octet of
@@ -135,7 +144,7 @@ pub fn why_of(mode: Mode, bytes: &[u8]) -> Why
     let answer = outline.answer;
     let number = answer.number();
     Why {
-        reason: from_outline(mode, bytes, outline),
+        reason: by_outline(mode, bytes, outline),
         number,
         place: place_of(number, bytes),
     }

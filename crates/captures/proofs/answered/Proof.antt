@@ -1,4 +1,4 @@
--- The part's outline has decoding's answer, and leads to no reason exactly where the part is canonical.
+-- The part's outline has decoding's answer, and there is no reason against it exactly where the part is canonical.
 use Prim.Native.Nat.{ℕ, _+_, _-_, _≤_}
 use mathlib.Core.Path.{_≡_, refl, ap}
 use mathlib.Core.List.{List}
@@ -6,7 +6,7 @@ use native.Mathlib.Omega.{arith}
 use lib.ListN.{length, take, drop}
 use Rattle.octets.specs.Octet.{Octets}
 use Rattle.octets.proofs.Octet.{octets-take, octets-drop}
-use Rattle.reason.proofs.Laws.{by-outline}
+use Rattle.reason.specs.declared.Judged.{Judged}
 use Rattle.spelling.proofs.Laws.{canonical-none}
 use Rattle.captures.specs.Capture.{partOf, answered}
 use Rattle.captures.proofs.Laws.{inside-ends}
@@ -29,11 +29,8 @@ part-part-start c = search needs
 part-part-end : tie.Need-part-part-end
 part-part-end c = ends c
 
-outline-of-requires : tie.Need-outline-of-requires
-outline-of-requires c κs = search needs
-
-from-outline-requires : tie.Need-from-outline-requires
-from-outline-requires c κs = search needs
+judge-requires : tie.Need-judge-requires
+judge-requires c κs = search needs
 
 number-requires : tie.Need-number-requires
 number-requires c κs = search needs
@@ -42,13 +39,11 @@ one-if-none-requires : tie.Need-one-if-none-requires
 one-if-none-requires c κs = search needs
 
 kind-by-requires : tie.Need-kind-by-requires
-kind-by-requires c κs = search needs
+kind-by-requires c κs = ap (λ (j : Judged). j .outline) (c .before .before .before .judge .ensures)
 
 returns : tie.Need-returns
 unfolding answered
 returns c =
-    let from-outline = c .before .before .before .from-outline in
-    let outline-of = c .before .before .before .before .outline-of in
     let p = c .before .before .before .before .before .before .before in
     let a = p .before .args in
     let part : List ℕ = partOf (a .input .now) (a .capture) in
@@ -57,7 +52,7 @@ returns c =
     let long : a .capture .start + a .capture .length - a .capture .start ≡ a .capture .length = omega arith in
     let is : take (a .capture .start + a .capture .length - a .capture .start) (drop (a .capture .start) (a .input .now)) ≡ part =
     ap (λ (n : ℕ). take n (drop (a .capture .start) (a .input .now))) long in
-    rw (c .kind-by .ensures, c .before .one-if-none .ensures, c .before .before .number .ensures, from-outline .ensures, outline-of .ensures, is, by-outline (a .mode) part, canonical-none (a .mode) part octets) refl
+    rw (c .kind-by .ensures, c .before .one-if-none .ensures, c .before .before .number .ensures, c .before .before .before .before .judge .ensures, is, canonical-none (a .mode) part octets) refl
 
 pub answered-spec : {M : Type 1} → statement M
 answered-spec =
@@ -67,8 +62,7 @@ answered-spec =
     sub-part
     part-part-start
     part-part-end
-    outline-of-requires
-    from-outline-requires
+    judge-requires
     number-requires
     one-if-none-requires
     kind-by-requires

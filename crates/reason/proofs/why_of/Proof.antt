@@ -4,7 +4,6 @@ use Rattle.decode.specs.Answer.{numberOf}
 use Rattle.decode.specs.Read.{decode}
 use Rattle.decode.specs.declared.Outline.{Outline}
 use Rattle.reason.specs.Reason.{whyOf}
-use Rattle.reason.proofs.Laws.{by-outline}
 use borrow.Author.Needs.{needs}
 use Rattle.reason.proofs.why_of.Statement.{statement}
 use Rattle.reason.proofs.why_of.Tie as tie
@@ -18,16 +17,15 @@ outline-of-requires c κs = search needs
 number-requires : tie.Need-number-requires
 number-requires c κs = search needs
 
-from-outline-requires : tie.Need-from-outline-requires
-from-outline-requires c κs = search needs
+by-outline-requires : tie.Need-by-outline-requires
+by-outline-requires c κs = search needs
 
 place-of-requires : tie.Need-place-of-requires
 place-of-requires c κs = search needs
 
 returns : tie.Need-returns
 unfolding whyOf
-returns c =
-    rw (c .place-of .ensures, c .before .from-outline .ensures, c .before .before .before .outline-of .ensures, by-outline, counted (c .before .before)) refl
+returns c = rw (c .place-of .ensures, c .before .by-outline .ensures, counted (c .before .before)) refl
 
 pub why-of-spec : {M : Type 1} → statement M
-why-of-spec = tie.close (tie.spec outline-of-requires number-requires from-outline-requires place-of-requires returns)
+why-of-spec = tie.close (tie.spec outline-of-requires number-requires by-outline-requires place-of-requires returns)
