@@ -1,9 +1,9 @@
 /* AX.25 frames for the relay box: the calls of libax25frame.a, for x86-64.
 
-   Ten calls on octets that the caller lends: seven on frames, two on the KISS packets that carry frames to a modem and back, and
-   one on a serial line, which gives such packets in pieces. Each is proved to give exactly the answer that its contract states,
-   for every input, to read and write nothing but what is lent to it, and to return. It is a port of the Rust crate ax25 0.4.0, under
-   the licence Apache-2.0: the file NOTICE has its text, and says whose work this is.
+   Eleven calls on octets that the caller lends: seven on a frame, one on many frames at once, two on the KISS packets that carry
+   frames to a modem and back, and one on a serial line, which gives such packets in pieces. Each is proved to give exactly the answer
+   that its contract states, for every input, to read and write nothing but what is lent to it, and to return. It is a port of the
+   Rust crate ax25 0.4.0, under the licence Apache-2.0: the file NOTICE has its text, and says whose work this is.
 
    What a frame is here: the octets between the flags, from the destination's first to the last of the info, as they are before bits are
    stuffed. It has no flags (7E), no check sequence (FCS) and nothing of KISS. Whoever takes octets off a line removes these first: no
@@ -22,12 +22,13 @@
    - `in`, `callsign` and `piece` point to `in_len`, `callsign_len` and `piece_len` octets that may be read, `out` to `out_len`
      octets that may be written, `frame` to `frame_len` octets that may be read and written. `port`, where it is a pointer, points to
      one uint8_t, `number` to one uint32_t, `length` and `place` to one size_t each and `packet` to one struct, all of which may be
-     written; what they held does not matter. `stream` points to one struct that may be read and written. No octet is kept or looked
-     at after the return, and `in`, `callsign` and `piece` are never written.
-   - No pointer is null. Where a length is 0, any pointer that is not null will do.
+     written; what they held does not matter. `stream` points to one struct and `records` to `count` structs, which may be read and
+     written. No octet is kept or looked at after the return, and `in`, `callsign` and `piece` are never written.
+   - No pointer is null. Where a length or the count is 0, any pointer that is not null will do.
    - No two of the things that are lent to one call overlap, not even in part.
-   - `number`, `length`, `place`, `stream` and `packet` are aligned as C aligns a uint32_t, a size_t and the structs. No other alignment
-     is asked, and no length is too long or too short: whatever can't be read as a frame or as a packet gets a number, or is passed over.
+   - `number`, `length`, `place`, `stream`, `packet` and `records` are aligned as C aligns a uint32_t, a size_t and the structs. No other
+     alignment is asked, and no length is too long or too short: whatever can't be read as a frame or as a packet gets a number, or is
+     passed over.
    - The calling convention is that of System V for x86-64: a stack aligned to 16 octets, and SSE2 usable.
 
    What every call leaves alone: there is no heap, no state but what is lent, no input or output and no lock. So any call may run at
@@ -43,6 +44,7 @@
        ax25_decode_old_capture   yes   no         no
        ax25_canonical            yes   no         no
        ax25_reason               yes   no         no
+       ax25_captures             yes   no         no
        ax25_relay                yes   no         no
        ax25_reencoded_length     yes   no         no
        ax25_reencode             yes   no         yes
@@ -69,18 +71,18 @@ extern "C" {
 
 /* The version of the component: header and archive belong together. A step of the first number changes an answer of a call, one of
    the second adds something, one of the third does neither. */
-#define AX25_VERSION "2.1.0"
+#define AX25_VERSION "2.2.0"
 #define AX25_VERSION_MAJOR 2
-#define AX25_VERSION_MINOR 1
+#define AX25_VERSION_MINOR 2
 #define AX25_VERSION_PATCH 0
 
 /* No call uses more stack than this, in octets, its return address included. What memcpy and memset use comes on top. */
 #define AX25_STACK 1024
 
-/* Every number that the component gives. The calls give 0 to 5, 7 to 12, 22, 24, 41 to 43 and 51 to 56; the others belong to parts
+/* Every number that the component gives. The calls give 0 to 5, 7 to 12, 22, 24, 41 to 43, 51 to 56 and 61; the others belong to parts
    that C does not reach: writing records, text and the dumper. A frame is of the short mode, in which sequence numbers are taken
-   modulo 8, or of the long one, which takes them modulo 128. ax25_reason reads in the mode that it is told, and gives 11 and 12 in the
-   long one; the other calls read and write frames in the short mode alone. */
+   modulo 8, or of the long one, which takes them modulo 128. ax25_reason and ax25_captures read in the mode that they are told, and give
+   11 and 12 in the long one; the other calls read and write frames in the short mode alone. */
 enum ax25_number {
     AX25_ACCEPTED = 0,
 
@@ -129,7 +131,11 @@ enum ax25_number {
     AX25_KISS_NO_CLOSING = 53,         /* no C0 at the end, or octets after it */
     AX25_KISS_NOT_DATA = 54,           /* a command other than 0 */
     AX25_KISS_EMPTY = 55,              /* nothing between the two C0 */
-    AX25_KISS_PORT_TOO_HIGH = 56       /* a port over 11 */
+    AX25_KISS_PORT_TOO_HIGH = 56,      /* a port over 11 */
+
+    /* A part of a buffer of captures. */
+    AX25_PART_OUTSIDE = 61             /* the part is not inside the buffer: its start and its length together are over the buffer's
+                                          length */
 };
 
 /* Whether the input can be read as a frame, of the short mode: AX25_ACCEPTED, or the first of 1, 10, 2, 3, 4, 9, 5, 7, 8 that holds.
@@ -176,6 +182,63 @@ enum ax25_reason_code {
    - the control octet, which is the one after the end, for all others.
    So in[*place] is an octet of the input, unless that is empty. */
 uint32_t ax25_reason(const uint8_t *in, size_t in_len, uint32_t mode, uint32_t *number, size_t *place);
+
+/* The kinds of frames: what ax25_captures gives. There are no others. */
+enum ax25_kind {
+    AX25_KIND_I = 0,
+    AX25_KIND_RR = 1,
+    AX25_KIND_RNR = 2,
+    AX25_KIND_REJ = 3,
+    AX25_KIND_SREJ = 4,
+    AX25_KIND_SABM = 5,
+    AX25_KIND_SABME = 6,
+    AX25_KIND_DISC = 7,
+    AX25_KIND_DM = 8,
+    AX25_KIND_UA = 9,
+    AX25_KIND_FRMR = 10, /* of the short mode alone: the long one refuses it, by AX25_FRMR_IN_LONG_MODE */
+    AX25_KIND_UI = 11,   /* also where there is no frame, because the part was refused */
+    AX25_KIND_XID = 12,
+    AX25_KIND_TEST = 13
+};
+
+/* One of many captures: a part of a buffer, of which the caller gives the first two fields, and ax25_captures fills the others. It has no
+   padding and points nowhere. */
+struct ax25_capture {
+    size_t start;       /* where the part begins in the buffer, from 0 on */
+    size_t length;      /* how many octets it has */
+    uint32_t number;    /* AX25_ACCEPTED, the number by which decoding refuses the part, or AX25_PART_OUTSIDE */
+    uint16_t canonical; /* 1 where the part is canonical, else 0 */
+    uint16_t kind;      /* one of enum ax25_kind: the frame's, where the number is AX25_ACCEPTED, else AX25_KIND_UI */
+};
+
+/* A day's captures in one call: `in` holds the octets of all of them, and each of the `count` records names a part of it, the
+   `length` octets from in[start] on. Each record gets what the single calls give for its part, in the short mode where `mode` is 0, and
+   in the long one where it is any other number. The mode is that of the link on which the frames were sent, and one call has one: the
+   frames of a link that counts modulo 128 go into a call of their own.
+   - number is what decoding the part in that mode gives: in the short one the number of ax25_decode, in the long one the *number of
+     ax25_reason.
+   - canonical is 1 exactly where ax25_reason gives AX25_REASON_NONE for the part in that mode, else 0: in the short one it is what
+     ax25_canonical gives.
+   - kind is the kind of the frame that decoding the part in that mode gives.
+   LOOK AT THE NUMBER FIRST. Where it is not AX25_ACCEPTED there is no frame: canonical is 0 and kind is AX25_KIND_UI, which many frames
+   have too. Nulls before a frame are AX25_LEADING_NULL_BYTES here, as in ax25_decode.
+
+       struct ax25_capture day[] = {{0, 18, 0, 0, 0}, {18, 25, 0, 0, 0}};    two frames of a buffer of 43 octets
+       ax25_captures(in, 43, 0, day, 2);
+       for (size_t i = 0; i < 2; i++)
+           if (day[i].number == AX25_ACCEPTED)
+               use(in + day[i].start, day[i].length, day[i].kind);
+
+   A part is inside the buffer where start + length, as a sum that does not wrap, is at most in_len; any start and any length may be
+   given. Of a part that is not inside no octet is read: its number is AX25_PART_OUTSIDE, its canonical 0 and its kind AX25_KIND_UI. An
+   empty part is inside up to the end, the very end (start == in_len) included, and is AX25_ONLY_NULL_BYTES; with a start beyond that it
+   is not inside.
+
+   Parts may overlap, repeat, leave octets out and stand in any order. What a record gets depends on its own part and the mode alone: not
+   on other records, and not on what its number, canonical and kind held before, which need not be set. Starts, lengths and the order of
+   the records stay, and so do all octets of `in` and the memory behind the last record. Where `count` is 0 nothing is touched. The
+   stack that is used does not depend on `count`. */
+void ax25_captures(const uint8_t *in, size_t in_len, uint32_t mode, struct ax25_capture *records, size_t count);
 
 /* THIS IS THE CALL FOR FORWARDING A FRAME; ax25_reencode is not. Where the repeater that is due is our own station, its mark is set
    in `frame` and the answer is AX25_ACCEPTED. That one bit, the highest of frame[20 + 7 * due place], is all that changes: everything

@@ -92,3 +92,53 @@ size_t random_group(uint8_t *out) {
     out[6] = (uint8_t)(below(2) << 7 | (one_in(2) ? below(4) << 5 : 0x60) | below(16) << 1);
     return 7;
 }
+
+static const uint8_t known_controls[] = {0x00, 0x01, 0x05, 0x09, 0x0D, 0x2F, 0x6F, 0x43, 0x0F, 0x63, 0x87, 0x03, 0xAF, 0xE3};
+static const uint8_t known_pids[] = {0x01, 0x06, 0x07, 0x08, 0xC3, 0xC4, 0xCA, 0xCB, 0xCC, 0xCD, 0xCE, 0xCF, 0xF0, 0xFF, 0x10, 0x20, 0x9A, 0xA5};
+
+static size_t draw_content(uint8_t *out) {
+    unsigned control = one_in(4) ? below(256) : known_controls[below(sizeof known_controls)];
+    if (one_in(2)) control ^= 0x10;
+    if ((control & 3) != 3 && one_in(2)) control ^= below(8) << 5;
+    size_t len = 0;
+    out[len++] = (uint8_t)control;
+    int has_pid = (control & 1) == 0 || (control & 0xEF) == 0x03;
+    int has_info = has_pid || (control & 0xEF) == 0xAF || (control & 0xEF) == 0xE3;
+    if (has_pid && !one_in(8)) out[len++] = one_in(3) ? (uint8_t)below(256) : known_pids[below(sizeof known_pids)];
+    if ((control & 3) == 1 && one_in(3)) out[len++] = (uint8_t)below(256); /* in the long mode it belongs to the control field */
+    if ((control & 0xEF) == 0x87 && !one_in(4)) {
+        out[len++] = (uint8_t)(one_in(2) ? below(256) : below(16));
+        out[len++] = (uint8_t)(one_in(2) ? below(256) : below(128) << 1);
+        out[len++] = (uint8_t)below(256);
+    } else if (has_info ? !one_in(4) : one_in(4)) {
+        for (size_t n = one_in(8) ? below(400) : below(24); n > 0; n--) out[len++] = (uint8_t)below(256);
+    }
+    return len;
+}
+
+size_t draw_frame(uint8_t *out) {
+    size_t len = 0;
+    if (one_in(4)) for (size_t n = 1 + below(20); n > 0; n--) out[len++] = 0;
+    size_t groups = 2 + (one_in(3) ? 0 : below(one_in(6) ? 12 : 9));
+    size_t at = len;
+    for (size_t n = groups; n > 0; n--) len += random_group(out + len);
+    if (one_in(2)) { /* the repeaters' marks in order */
+        size_t due = 2 + below((unsigned)groups - 1);
+        for (size_t i = 2; i < groups; i++) out[at + 7 * i + 6] = (uint8_t)((out[at + 7 * i + 6] & 0x7F) | (i < due ? 0x80 : 0));
+    }
+    if (!one_in(6)) { /* one of the two marks */
+        out[at + 6] = (uint8_t)((out[at + 6] & 0x7F) | (out[at + 13] & 0x80 ? 0 : 0x80));
+    }
+    if (one_in(8)) for (size_t n = below(7); n > 0; n--) out[len++] = (uint8_t)(below(128) << 1);
+    if (!one_in(40)) out[len - 1] |= 1;
+    if (!one_in(20)) len += draw_content(out + len);
+    return len;
+}
+
+size_t draw_octets(uint8_t *out) {
+    size_t len = below(one_in(4) ? 160 : 40);
+    unsigned odd = 1 + below(60);
+    for (size_t i = 0; i < len; i++) out[i] = (uint8_t)(below(128) << 1 | (one_in(odd) ? 1 : 0));
+    if (one_in(4)) memset(out, 0, below((unsigned)len + 1));
+    return len;
+}

@@ -30,4 +30,10 @@ void fill(uint8_t *out, size_t len, enum filling filling);
    them. */
 size_t random_group(uint8_t *out);
 
+/* A frame that is near to a good one: sometimes with nulls before it, octets left over, too many repeaters. And octets without a plan, the
+   low bits mostly clear so that an address field gets long. DRAWN octets are room for either, and for damage behind it. */
+enum { DRAWN = 1024 };
+size_t draw_frame(uint8_t *out);
+size_t draw_octets(uint8_t *out);
+
 #endif

@@ -7,9 +7,11 @@
 #include "lent.h"
 #include "sets.h"
 
-static struct arena input_arena, output_arena, cells_arena;
+static struct arena input_arena, output_arena, cells_arena, records_arena;
 static const struct address *relaying; /* by whom; NULL while another call is looked at */
-static uint32_t asked;                 /* the number by which the reason is asked for in a mode */
+static uint32_t asked;                 /* the number by which a mode is asked for */
+static const struct part *captured;    /* the part of a buffer that is looked at, */
+static size_t captured_in;             /* and how many octets that buffer has */
 
 static void show_station(void) {
     printf("  relayed by SSID %u and the callsign of %zu octets:", relaying->ssid, relaying->len);
@@ -17,13 +19,22 @@ static void show_station(void) {
     printf(relaying->len > 20 ? " ..\n" : "\n");
 }
 
-static void show_asked(void) { printf("  the reason is asked for by the mode %lu\n", (unsigned long)asked); }
+static void show_asked(void) { printf("  asked for by the mode %lu\n", (unsigned long)asked); }
+
+static void show_part(void) {
+    printf("  it is the part of %zu octets from %zu on, in a buffer of %zu; asked for by the mode %lu\n", captured->length, captured->start,
+           captured_in, (unsigned long)asked);
+}
+
+static void ask_for_gathered(void);
 
 void examine_begin(void) {
     sets_begin();
+    at_set_end(ask_for_gathered);
     input_arena = arena_new(LONGEST + 65536);
     output_arena = arena_new(LONGEST + 65536);
     cells_arena = arena_new(65536);
+    records_arena = arena_new(MOST_PARTS * sizeof(struct ax25_capture) + 65536);
 }
 
 /* `in` was lent to be read and held `octets`; `out` was lent to be written. */
@@ -86,6 +97,122 @@ static unsigned reason_of(const uint8_t *octets, size_t len) {
     uint32_t number;
     size_t place;
     return ax25_reason(octets, len, 0, &number, &place);
+}
+
+/* Records of these parts. What the call has to fill holds paint, or in turns such as a call could have left, of every number. They are lent
+   at an edge, where they are aligned: at the lower or the upper one, or between two more records, which are painted all over. */
+struct records {
+    struct lent lent;
+    struct ax25_capture *at;
+    size_t count;
+    int is_between;
+    uint8_t paint;
+};
+
+static struct records lend_records(const struct part *parts, size_t count, unsigned place) {
+    struct records r;
+    r.is_between = place == MIDDLE;
+    r.lent = lend(&records_arena, place == HIGH ? HIGH : LOW, (count + (r.is_between ? 2 : 0)) * sizeof *r.at);
+    r.at = (struct ax25_capture *)(void *)r.lent.at + r.is_between;
+    r.count = count;
+    r.paint = fresh_paint();
+    memset(r.lent.at, r.paint, r.lent.len);
+    for (size_t i = 0; i < count; i++) {
+        struct ax25_capture left = {0, 0, (uint32_t)((r.paint + i) % 64), (uint16_t)((r.paint + i) / 2 % 2), (uint16_t)((r.paint + i) % 14)};
+        if (r.paint % 2) r.at[i] = left;
+        r.at[i].start = parts[i].start;
+        r.at[i].length = parts[i].length;
+    }
+    return r;
+}
+
+static int neighbours_hold(const struct records *r) {
+    return !r->is_between || (filled_with((const uint8_t *)(r->at - 1), sizeof *r->at, r->paint) &&
+                              filled_with((const uint8_t *)(r->at + r->count), sizeof *r->at, r->paint));
+}
+
+/* One record that was filled, beside what it owes and what the single calls give for its part. */
+static void look_at_record(enum mode mode, const struct lent *in, const struct ax25_capture *got, const struct part *part) {
+    const struct captured *want = &part->in_mode[mode];
+    int is_inside = want->number != AX25_PART_OUTSIDE;
+    captured = part;
+    captured_in = in->len;
+    look_from(is_inside ? in->at + part->start : in->at, is_inside ? part->length : 0, show_part);
+    look(CAPTURED, got->number == want->number, want->number, got->number);
+    look(CAPTURED, got->canonical == want->canonical, want->canonical, got->canonical);
+    look(CAPTURED, got->kind == want->kind, want->kind, got->kind);
+    look(KEPT, got->start == part->start && got->length == part->length, part->start, got->start);
+    if (!is_inside) return;
+    const uint8_t *octets = in->at + part->start;
+    uint32_t number;
+    size_t place;
+    unsigned code = ax25_reason(octets, part->length, asked, &number, &place);
+    look(AGREE, got->number == number, number, got->number);
+    look(AGREE, got->canonical == (code == AX25_REASON_NONE), code == AX25_REASON_NONE, got->canonical);
+    if (mode != SHORT_MODE) return;
+    number = ax25_decode(octets, part->length);
+    unsigned canonical = ax25_canonical(octets, part->length);
+    look(AGREE, got->number == number, number, got->number);
+    look(AGREE, got->canonical == canonical, canonical, got->canonical);
+}
+
+/* One call for all of the parts, in one mode and then in the other: what the first left in the records plays no part in the second. */
+static void capture(const uint8_t *octets, size_t len, const struct part *parts, size_t count, unsigned place) {
+    static unsigned turn;
+    struct lent in = lend_octets(&input_arena, place % PLACES, octets, len);
+    struct records records = lend_records(parts, count, place / PLACES % PLACES);
+    turn++;
+    for (unsigned time = 0; time < MODES; time++) {
+        enum mode mode = (enum mode)((time + turn) % MODES);
+        asked = asking_for(mode, turn / MODES);
+        look_from(octets, len, show_asked);
+        ax25_captures(in.at, len, asked, records.at, count);
+        look_at_lent(&in, octets, &records.lent);
+        look(GUARDS, neighbours_hold(&records), 1, 0);
+        for (size_t i = 0; i < count; i++) look_at_record(mode, &in, &records.at[i], &parts[i]);
+    }
+    look_from(octets, len, NULL);
+}
+
+/* The inputs of a set are gathered in one buffer, and ax25_captures is asked for all of them at once, in the order in which they came or
+   from the last to the first. */
+enum { GATHERED = 512 };
+static uint8_t gathered[LONGEST + 32768];
+static struct part waiting[GATHERED];
+static size_t gathered_len, waiting_count;
+
+static void ask_for_gathered(void) {
+    static struct part turned[GATHERED];
+    static unsigned turn;
+    if (waiting_count == 0) return;
+    for (size_t i = 0; i < waiting_count; i++) turned[i] = waiting[waiting_count - 1 - i];
+    capture(gathered, gathered_len, turn % 2 ? turned : waiting, waiting_count, turn / 2);
+    turn++;
+    gathered_len = waiting_count = 0;
+}
+
+static void gather(const uint8_t *octets, size_t len) {
+    if (waiting_count == GATHERED || len > sizeof gathered - gathered_len) ask_for_gathered();
+    struct part *part = &waiting[waiting_count++];
+    *part = part_of(octets, len, 0, len);
+    part->start = gathered_len;
+    if (len) memcpy(gathered + gathered_len, octets, len);
+    gathered_len += len;
+}
+
+struct part part_of(const uint8_t *in, size_t len, size_t start, size_t length) {
+    struct part part = {start, length, {{0, 0, 0}}};
+    for (int mode = 0; mode < MODES; mode++) part.in_mode[mode] = model_capture((enum mode)mode, in, len, start, length);
+    return part;
+}
+
+void examine_captures(const uint8_t *octets, size_t len, const struct part *parts, size_t count, unsigned place) {
+    count_input();
+    capture(octets, len, parts, count, place);
+}
+
+void examine_captures_everywhere(const uint8_t *octets, size_t len, const struct part *parts, size_t count) {
+    for (unsigned place = 0; place < CAPTURE_PLACES; place++) examine_captures(octets, len, parts, count, place);
 }
 
 /* Each call's answer by the others': what is written is canonical and re-encodes as itself, and an input is canonical exactly
@@ -182,23 +309,37 @@ static void relay_by_stations(const uint8_t *octets, size_t len, unsigned place)
     }
 }
 
+static void examine_reasons(enum mode mode, unsigned first, unsigned last, const uint8_t *octets, size_t len, const struct reason *want) {
+    for (unsigned place = first; place <= last; place++) {
+        struct lent in = lend_octets(&input_arena, place, octets, len);
+        count_input();
+        reason_in(mode, &in, octets, want);
+    }
+    gather(octets, len);
+}
+
 void examine_reason(enum mode mode, const uint8_t *octets, size_t len, const struct reason *want, unsigned place) {
-    struct lent in = lend_octets(&input_arena, place, octets, len);
-    count_input();
-    reason_in(mode, &in, octets, want);
+    examine_reasons(mode, place, place, octets, len, want);
 }
 
 void examine_reason_everywhere(enum mode mode, const uint8_t *octets, size_t len, const struct reason *want) {
-    for (unsigned place = 0; place < PLACES; place++) examine_reason(mode, octets, len, want, place);
+    examine_reasons(mode, 0, PLACES - 1, octets, len, want);
+}
+
+static void examine_relays(const struct address *own, unsigned first, unsigned last, const uint8_t *octets, size_t len, const struct relayed *want) {
+    for (unsigned place = first; place <= last; place++) {
+        count_input();
+        relay(own, octets, len, want, place);
+    }
+    gather(octets, len);
 }
 
 void examine_relay(const struct address *own, const uint8_t *octets, size_t len, const struct relayed *want, unsigned place) {
-    count_input();
-    relay(own, octets, len, want, place);
+    examine_relays(own, place, place, octets, len, want);
 }
 
 void examine_relay_everywhere(const struct address *own, const uint8_t *octets, size_t len, const struct relayed *want) {
-    for (unsigned place = 0; place < RELAY_PLACES; place++) examine_relay(own, octets, len, want, place);
+    examine_relays(own, 0, RELAY_PLACES - 1, octets, len, want);
 }
 
 static void examine_in(unsigned place, const uint8_t *octets, size_t len, const struct answer *want, const struct reason *by_mode) {
@@ -239,6 +380,7 @@ static void examine_places(unsigned first, unsigned last, const uint8_t *octets,
     struct reason by_mode[MODES];
     for (int mode = 0; mode < MODES; mode++) by_mode[mode] = model_reason((enum mode)mode, octets, len);
     for (unsigned place = first; place <= last; place++) examine_in(place, octets, len, want, by_mode);
+    gather(octets, len);
 }
 
 void examine(const uint8_t *octets, size_t len, const struct answer *want, unsigned place) { examine_places(place, place, octets, len, want); }

@@ -6,9 +6,9 @@
 #include <stdio.h>
 #include <stdlib.h>
 #include <string.h>
-#include <time.h>
 
 #include "ax25.h"
+#include "clock.h"
 #include "draw.h"
 #include "plain_kiss.h"
 #include "plain_stream.h"
@@ -35,12 +35,6 @@ static const struct {
                   {TEXT, "text, dropped", 0, 0x01, 0, 1},
                   {ANY_OCTETS, "noise, no C0", 1, 0, 0, 0}};
 #define COUNT(list) (sizeof(list) / sizeof *(list))
-
-#ifdef __clang__
-#define COMPILER __VERSION__
-#else
-#define COMPILER "gcc " __VERSION__
-#endif
 
 /* Two calls of the same name: [0] the archive's, [1] the plain C's. */
 static uint32_t (*const reads[2])(const uint8_t *, size_t, uint8_t *, size_t, uint8_t *, size_t *) = {ax25_kiss_read, plain_kiss_read};
@@ -113,12 +107,6 @@ static int same_answers(const struct job *job) {
     memset(out, 0x5A, sizeof out);
     struct answer a = run(job, 0), b = run(job, 1);
     return a.number == 0 && b.number == 0 && a.port == b.port && a.length == b.length && memcmp(out[0], out[1], PACKET) == 0;
-}
-
-static double now(void) {
-    struct timespec t;
-    clock_gettime(CLOCK_MONOTONIC, &t);
-    return (double)t.tv_sec * 1e9 + (double)t.tv_nsec;
 }
 
 /* The nanoseconds of one call, over a round of `calls`. */
@@ -209,7 +197,7 @@ int main(int argc, char **argv) {
         return 2;
     }
     draw_from(0xA25);
-    if (json) fprintf(json, "{\"compiler\": \"%s\", \"kiss\": [", COMPILER);
+    if (json) fprintf(json, "{\"compiler\": \"%s\", \"rows\": [", COMPILER);
     printf("%-6s %-14s %8s %6s %12s %12s %8s\n", "call", "data", "octets", "piece", "port ns", "plain C ns", "C / port");
     int held = measure_packets(rounds, json);
     held &= measure_lines(rounds, json);

@@ -10,6 +10,13 @@
 
 #define LAID_OUT(what, number) static_assert((what) == (number), #what " is not " #number)
 
+LAID_OUT(sizeof(struct ax25_capture), 24);
+LAID_OUT(alignof(struct ax25_capture), 8);
+LAID_OUT(offsetof(struct ax25_capture, start), 0);
+LAID_OUT(offsetof(struct ax25_capture, length), 8);
+LAID_OUT(offsetof(struct ax25_capture, number), 16);
+LAID_OUT(offsetof(struct ax25_capture, canonical), 20);
+LAID_OUT(offsetof(struct ax25_capture, kind), 22);
 LAID_OUT(sizeof(struct ax25_kiss_stream), 1030);
 LAID_OUT(alignof(struct ax25_kiss_stream), 2);
 LAID_OUT(offsetof(struct ax25_kiss_stream, data), 0);

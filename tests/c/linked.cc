@@ -22,6 +22,14 @@ int main() {
     held = held && ax25_reason(frame, sizeof frame, 0, &number, &place) == AX25_REASON_TAIL && number == 0 && place == 0 &&
            ax25_reason(frame, sizeof frame, 1, &number, &place) == AX25_REASON_NONE && number == 0 && place == 0 &&
            ax25_reason(routed, sizeof routed, 1, &number, &place) == AX25_REASON_REFUSED && number == AX25_MISSING_CONTROL_OCTET && place == 21;
+    ax25_capture records[] = {{0, sizeof frame, 99, 99, 99}, {0, 15, 99, 99, 99}, {1, sizeof frame, 99, 99, 99}, {0, sizeof frame, 99, 99, 99}};
+    ax25_captures(frame, sizeof frame, 0, records, 3);
+    held = held && records[0].number == AX25_ACCEPTED && records[0].canonical == 0 && records[0].kind == AX25_KIND_RR && records[1].number == AX25_ACCEPTED &&
+           records[1].canonical == 1 && records[1].kind == AX25_KIND_RR && records[2].number == AX25_PART_OUTSIDE && records[2].canonical == 0 &&
+           records[2].kind == AX25_KIND_UI && records[2].start == 1 && records[2].length == sizeof frame && records[3].number == 99;
+    ax25_captures(frame, sizeof frame, 1, records, 2);
+    held = held && records[0].number == AX25_ACCEPTED && records[0].canonical == 1 && records[0].kind == AX25_KIND_RR &&
+           records[1].number == AX25_MISSING_CONTROL_OCTET && records[1].canonical == 0 && records[1].kind == AX25_KIND_UI;
     const uint8_t data[] = {'O', 0xC0, 'K'};
     uint8_t packet[2 * sizeof data + 3], port = 0;
     size_t length = 0;

@@ -1,7 +1,8 @@
 /* Both modes of the port (document 02, M-109): what the crate `probe` shows of reading and writing, held to the model on every content of
    one and two octets, every two control octets, every sequence number, records that break one rule or several, random and damaged frames,
    and on frames that direwolf sent in connected mode; and canonical frames beside themselves with one bit changed (M-107). Wherever the
-   canonical check is asked, ax25_reason is too, and has to find no reason exactly where it says 1 (M-110).
+   canonical check is asked, ax25_reason is too, and has to find no reason exactly where it says 1 (M-110). And ax25_captures has to give the
+   number and the kind of what is decoded, and what the canonical check says of it (M-111).
    usage: long FRAMES [THOUSANDS [SEED]]: FRAMES is connected.txt; that many thousand random inputs */
 #include <stdio.h>
 #include <stdlib.h>
@@ -20,7 +21,7 @@
 #define PEERS GAUGE "E0 " BOX12 "67 "
 #define ROUTED GAUGE "E0 " BOX12 "66 " HILL1 "E4 " HILL2 "63 "
 
-static struct arena input_arena, info_arena, output_arena, sizes_arena;
+static struct arena input_arena, info_arena, output_arena, sizes_arena, records_arena;
 static enum mode mode;
 static uint32_t asked; /* the number by which the mode is asked for */
 static unsigned turn;  /* of places, rooms and numbers, which go round */
@@ -211,6 +212,22 @@ static void look_at_canonical(const struct answer *want, const struct reason *wh
     look_at_input(&in, octets);
 }
 
+/* What ax25_captures leaves of the octets as the only part of a buffer, held to this. */
+static void look_at_capture(enum check check, const struct captured *want, const uint8_t *octets, size_t len) {
+    struct lent in = lend_input(octets, len), lent = lend(&records_arena, turn % 2 ? LOW : HIGH, sizeof(struct ax25_capture));
+    struct ax25_capture *record = (struct ax25_capture *)(void *)lent.at;
+    memset(record, fresh_paint(), sizeof *record);
+    record->start = 0;
+    record->length = len;
+    ax25_captures(in.at, len, asked, record, 1);
+    look(check, record->number == want->number, want->number, record->number);
+    look(check, record->canonical == want->canonical, want->canonical, record->canonical);
+    look(check, record->kind == want->kind, want->kind, record->kind);
+    look(KEPT, record->start == 0 && record->length == len, len, record->length);
+    look(GUARDS, guards_hold(&lent), 1, 0);
+    look_at_input(&in, octets);
+}
+
 enum { REASONS = 6 };
 static unsigned long met[64], met_old[64], met_kind[KINDS], met_reason[REASONS], met_canonical, met_other;
 
@@ -232,6 +249,8 @@ static void examine_octets(const uint8_t *octets, size_t len) {
     struct answer answer = model_in(mode, octets, len);
     struct reason why = model_reason(mode, octets, len);
     look_at_canonical(&answer, &why, octets, len);
+    struct captured capture = {want.number, answer.canonical, want.number == 0 ? want.record[KIND] : UI};
+    look_at_capture(CAPTURED, &capture, octets, len);
     reencode(&answer, octets, len);
     met_reason[why.code]++;
     met[want.number]++;
@@ -358,6 +377,8 @@ static void run_examples(void) {
         unsigned number = probe_reencode(asked, octets, len, written, sizeof written, &length);
         look(SAID, number == 0 && length == again_len && memcmp(written, again, again_len) == 0, again_len, length);
         int same = len == again_len && memcmp(octets, again, len) == 0;
+        struct captured capture = {0, (unsigned)same, told.kind};
+        look_at_capture(SAID, &capture, octets, len);
         look_at_reason(SAID, same ? AX25_REASON_NONE : again_len < len ? AX25_REASON_TAIL : AX25_REASON_FIXED, octets, len);
     }
     set_end();
@@ -744,7 +765,10 @@ static void examine_connected(const uint8_t *octets, size_t len, const char *wor
     look(SAID, port.record[MARK] == (is_response ? RESPONSE : COMMAND), is_response, port.record[MARK]);
     if (kind == I) look(SAID, pid == 0xF0 && port.record[PID_CASE] == 13, 13, port.record[PID_CASE]);
     /* A SREJ that asks for several frames has them behind its control field, which is a tail here (docs/DIFFERENCES.md, A4). */
-    look_at_reason(SAID, kind == SREJ && len > control + numbers ? AX25_REASON_TAIL : AX25_REASON_NONE, octets, len);
+    unsigned has_tail = kind == SREJ && len > control + numbers;
+    struct captured capture = {0, !has_tail, kind};
+    look_at_reason(SAID, has_tail ? AX25_REASON_TAIL : AX25_REASON_NONE, octets, len);
+    look_at_capture(SAID, &capture, octets, len);
     if (kind < UNKNOWN_KIND) met_connected[mode][kind]++;
 }
 
@@ -795,6 +819,7 @@ int main(int argc, char **argv) {
     info_arena = arena_new(65536);
     output_arena = arena_new(65536);
     sizes_arena = arena_new(65536);
+    records_arena = arena_new(65536);
     for (mode = SHORT_MODE; mode < MODES; mode++) {
         run_examples();
         run_first_octets();

@@ -463,6 +463,24 @@ struct reason model_reason(enum mode mode, const uint8_t *in, size_t len) {
     return r;
 }
 
+/* Captures */
+
+/* A sum of two numbers wraps exactly where it comes out below one of them. */
+static int is_inside(size_t len, size_t start, size_t length) { return start + length >= start && start + length <= len; }
+
+/* Document 02 numbers the kinds in the order in which record.h has them. */
+struct captured model_capture(enum mode mode, const uint8_t *in, size_t len, size_t start, size_t length) {
+    struct fields f;
+    struct captured c = {61, 0, UI}; /* UI is the default frame's kind */
+    if (!is_inside(len, start, length)) return c;
+    c.number = read_frame(&f, mode, in + start, length);
+    if (c.number != 0) return c;
+    write_frame(&f, mode);
+    c.canonical = written_len == length && memcmp(written, in + start, length) == 0;
+    c.kind = f.kind;
+    return c;
+}
+
 /* Relaying */
 
 /* The due place is the first without a mark, or the number of repeaters where all have one. */

@@ -1,6 +1,6 @@
 /* Document 01's rules of reading and writing, with document 02's of the layer 3 PID (M-105), of the reserved bits (M-106), of leading
-   nulls (M-108) and of long sequence numbers (M-109), and document 02's of relaying and of the reason (M-110), written once more in C
-   from their words: what the calls must say of any octets. */
+   nulls (M-108) and of long sequence numbers (M-109), and document 02's of relaying, of the reason (M-110) and of captures (M-111),
+   written once more in C from their words: what the calls must say of any octets. */
 #ifndef MODEL_H
 #define MODEL_H
 
@@ -11,7 +11,8 @@
 
 #define LONGEST ((size_t)1 << 20) /* no test input is longer */
 
-/* Sequence numbers modulo 8, and modulo 128. Of the calls for C, ax25_reason has both, and the others have the first alone. */
+/* Sequence numbers modulo 8, and modulo 128. Of the calls for C, ax25_reason and ax25_captures have both, and the others have the first
+   alone. */
 enum mode { SHORT_MODE, LONG_MODE, MODES };
 
 /* The number by which a call is asked for a mode: 0 for the short one, for the long one any other, in turns. */
@@ -69,6 +70,14 @@ struct reason model_reason(enum mode mode, const uint8_t *in, size_t len);
 
 /* The bits that reading content of this kind ignores in the octet at this place, counted from the control octet. */
 unsigned model_ignored(enum mode mode, unsigned kind, size_t place);
+
+/* What ax25_captures leaves in a record in a mode, whose part of the `len` octets this is. A part that is inside them has at most LONGEST
+   octets. */
+struct captured {
+    unsigned number, canonical, kind;
+};
+
+struct captured model_capture(enum mode mode, const uint8_t *in, size_t len, size_t start, size_t length);
 
 /* A station's address, as ax25_relay is given its own. */
 struct address {

@@ -90,7 +90,7 @@ static const struct {
     {PEERS "01 F3 AF", {SAYS(TAIL), SAYS(TAIL)}},
 };
 
-static int model_gives = 1, model_holds = 1;
+static int model_gives = 1, model_holds = 1, model_knows = 1;
 
 /* Whether the model gives this answer, and has no reason exactly where it writes the input as it is. */
 static void look_at_model(enum mode mode, const uint8_t *in, size_t len, const struct reason *want) {
@@ -138,7 +138,8 @@ static size_t put_field(uint8_t *out, size_t span, unsigned marks) {
 /* What octets behind the content of a kind are. */
 enum behind { INFO, A_TAIL, REFUSED_BY_8 };
 
-/* Each kind as it is written, its numbers and flags 0, or NULL where it is refused; and which bits of its first three octets are ignored. */
+/* Each kind, in the order of the header's enum, as it is written, its numbers and flags 0, or NULL where it is refused; and which bits of
+   its first three octets are ignored. */
 static const struct {
     const char *content[MODES];
     enum behind behind;
@@ -189,6 +190,7 @@ static void examine_frame(enum mode mode, const struct made *m) {
     struct reason want = {reason_of(mode, m), 0, 0};
     owe(want.code);
     examine_made(mode, in, len + m->more, &want);
+    model_knows = model_knows && model_capture(mode, in, len + m->more, 0, len + m->more).kind == m->kind;
 }
 
 /* With none of the ignored bits set, and with each alone. */
@@ -281,5 +283,6 @@ void run_reasons(void) {
     }
     say(model_gives, "the model that the reason is held to gives these examples, and what follows from how the others were made");
     say(model_holds, "and it has no reason exactly where it writes the input as it is");
+    say(model_knows, "and the model that captures are held to gives those frames the kind of which they were made");
     run_empty();
 }

@@ -13,6 +13,7 @@ static const char *const names[CHECKS] = {
     "ax25_decode_old_capture gives the number",
     "ax25_canonical gives 1 or 0",
     "ax25_reason gives the reason, the number and the place",
+    "ax25_captures gives the number, canonical or not, and the kind of each part",
     "ax25_reencoded_length gives the length",
     "ax25_reencode gives the number and the octets",
     "ax25_relay gives the number and the octets",
@@ -23,7 +24,8 @@ static const char *const names[CHECKS] = {
     "a refusal gives port 0 and length 0",
     "guard octets stay",
     "the input, the callsign and the piece stay",
-    "the seven calls on frames agree",
+    "starts, lengths and the order of the records stay",
+    "the eight calls on frames agree",
     "reading and writing undo each other",
     "the plain C gives the same",
     "ax25_kiss_feed takes the piece through a packet's end, else the whole",
@@ -60,7 +62,7 @@ static const char *set = "start";
 static unsigned long inputs, looked[CHECKS], missed[CHECKS], owed_by_number[64];
 static const uint8_t *current;
 static size_t current_len;
-static void (*show_beside)(void);
+static void (*show_beside)(void), (*last_of_set)(void);
 
 static void show_input(void) {
     size_t shown = current_len < 400 ? current_len : 400;
@@ -94,8 +96,11 @@ void set_begin(const char *name) {
     memset(owed_by_number, 0, sizeof owed_by_number);
 }
 
+void at_set_end(void (*last)(void)) { last_of_set = last; }
+
 void set_end_brief(void) {
     char line[200];
+    if (last_of_set) last_of_set();
     unsigned long all = 0, wrong = 0;
     for (int c = 0; c < CHECKS; c++) {
         all += looked[c];
@@ -107,6 +112,7 @@ void set_end_brief(void) {
 
 void set_end(void) {
     char line[200];
+    if (last_of_set) last_of_set();
     for (int c = 0; c < CHECKS; c++) {
         if (missed[c]) snprintf(line, sizeof line, "%s: %s (%lu of %lu failed)", set, names[c], missed[c], looked[c]);
         else snprintf(line, sizeof line, "%s: %s (%lu inputs, %lu looks)", set, names[c], inputs, looked[c]);

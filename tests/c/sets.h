@@ -6,7 +6,8 @@
 #include <stdint.h>
 
 enum check {
-    NUMBER, OLD, CANONICAL, REASON, LENGTH, REENCODED, RELAYED, READ, WRITTEN, BEYOND, REFUSED, CLEARED, GUARDS, INPUT, AGREE, UNDONE, PLAIN,
+    NUMBER, OLD, CANONICAL, REASON, CAPTURED, LENGTH, REENCODED, RELAYED, READ, WRITTEN, BEYOND, REFUSED, CLEARED, GUARDS, INPUT, KEPT, AGREE, UNDONE,
+    PLAIN,
     TAKEN, FED, OWN, DROPPED, IDLE, STATE,
     DECODED, DETAILED, LAID_OUT, DECODED_OLD, DETAILED_OLD, LAID_OUT_OLD, PARSED, PARSED_OUT, IS_CANONICAL, REWRITTEN, RELENGTHENED, RESPELLED,
     ENCODED, LENGTHENED, SPELLED, ENCODED_ALONE, LENGTHENED_ALONE, SPELLED_ALONE, CRAMPED, RETURNED, UNSEEN, SAID, CHECKS
@@ -18,6 +19,9 @@ void sets_begin(void);
 void set_begin(const char *name);
 void set_end(void);
 void set_end_brief(void); /* one line for all checks */
+
+/* What is done at the end of each set from now on, before its lines are printed: looks that wait for more inputs are made then. */
+void at_set_end(void (*last)(void));
 
 /* One more input of this set. */
 void count_input(void);

@@ -38,14 +38,15 @@ __asm__(".text\n"
         "    retq\n"
         ".size on_stack, . - on_stack\n");
 
-enum call { DECODE, OLD, CANONICAL, REASON, LENGTH, REENCODE, RELAY, KISS_READ, KISS_WRITE, KISS_FEED, CALLS };
-static const char *const names[CALLS] = {"ax25_decode", "ax25_decode_old_capture", "ax25_canonical", "ax25_reason", "ax25_reencoded_length",
-                                          "ax25_reencode", "ax25_relay", "ax25_kiss_read", "ax25_kiss_write", "ax25_kiss_feed"};
+enum call { DECODE, OLD, CANONICAL, REASON, CAPTURES, LENGTH, REENCODE, RELAY, KISS_READ, KISS_WRITE, KISS_FEED, CALLS };
+static const char *const names[CALLS] = {"ax25_decode", "ax25_decode_old_capture", "ax25_canonical", "ax25_reason", "ax25_captures",
+                                          "ax25_reencoded_length", "ax25_reencode", "ax25_relay", "ax25_kiss_read", "ax25_kiss_write", "ax25_kiss_feed"};
 static size_t deepest[CALLS];
 
 static uint8_t in[2064], out[sizeof in], port; /* room for a packet of 1,025 octets, each escaped */
 static size_t in_len, length, place;
 static uint32_t number;
+static struct ax25_capture records[4];
 static struct ax25_kiss_stream stream;
 static struct ax25_kiss_packet packet;
 
@@ -55,6 +56,7 @@ static uint64_t address_of(enum call call) {
     case OLD: return (uint64_t)(uintptr_t)ax25_decode_old_capture;
     case CANONICAL: return (uint64_t)(uintptr_t)ax25_canonical;
     case REASON: return (uint64_t)(uintptr_t)ax25_reason;
+    case CAPTURES: return (uint64_t)(uintptr_t)ax25_captures;
     case LENGTH: return (uint64_t)(uintptr_t)ax25_reencoded_length;
     case REENCODE: return (uint64_t)(uintptr_t)ax25_reencode;
     case RELAY: return (uint64_t)(uintptr_t)ax25_relay;
@@ -77,12 +79,12 @@ static const struct {
 
 static int turns_of(enum call call) {
     if (call == KISS_FEED) return sizeof states / sizeof *states;
-    if (call == REASON) return MODES;
+    if (call == REASON || call == CAPTURES) return MODES;
     return call == RELAY || call == KISS_WRITE ? sizeof ssids : 1;
 }
 
 /* The relay is by AAAAAA, the callsign of every repeater of `make`, whose SSID is 0; a packet is written for that number as its port; the
-   reason is asked for in each mode. */
+   reason is asked for in each mode, and so are captures: the whole twice, its first half, and what is beyond it. */
 static size_t used_by(enum call call, size_t room, int turn, uint8_t paint) {
     memset(stack + SIZE - PAINTED, paint, PAINTED);
     if (call == RELAY) {
@@ -90,6 +92,10 @@ static size_t used_by(enum call call, size_t room, int turn, uint8_t paint) {
         on_stack(stack + SIZE, address_of(call), pointer("AAAAAA"), 6, ssids[turn], pointer(out), in_len, 0);
     } else if (call == REASON) {
         on_stack(stack + SIZE, address_of(call), pointer(in), in_len, (uint64_t)turn, pointer(&number), pointer(&place), 0);
+    } else if (call == CAPTURES) {
+        const struct ax25_capture parts[] = {{0, in_len, 0, 0, 0}, {0, in_len / 2, 0, 0, 0}, {in_len, 1, 0, 0, 0}, {0, in_len, 0, 0, 0}};
+        memcpy(records, parts, sizeof records);
+        on_stack(stack + SIZE, address_of(call), pointer(in), in_len, (uint64_t)turn, pointer(records), sizeof records / sizeof *records, 0);
     } else if (call == KISS_WRITE) {
         on_stack(stack + SIZE, address_of(call), ssids[turn], pointer(in), in_len, pointer(out), room, pointer(&length));
     } else if (call == KISS_FEED) {
