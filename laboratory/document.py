@@ -240,6 +240,13 @@ def rooms(part):
     return 'Room lent to writers: ' + ', '.join(f"{name} {many(count, 'time')}" for name, count in part['rooms'].items()) + '.'
 
 
+def records(part):
+    """Parts of a buffer that one call reads (document 02, M-111)."""
+    counts = part['records']
+    return (f"{many(counts['records'], 'part')} of buffers read by {many(counts['calls'], 'call')} of ax25_captures: {counts['refused']:,} of them "
+            f"refused, {counts['not_inside']:,} not inside the buffer.")
+
+
 def capture_row(capture):
     name = Code(capture['file'])
     if 'refused' in capture:
@@ -265,6 +272,23 @@ def spellings(part, every):
     ]
 
 
+def call_row(name, counts):
+    kinds = ', '.join(f'{kind} {count:,}' for kind, count in counts['kinds'].items() if count)
+    return [name, *(f'{counts[what]:,}' for what in ('calls', 'records', 'refused')), kinds or 'none']
+
+
+def in_one_call(part, every):
+    """What the frames of each capture are as one call reads them (document 02, M-111)."""
+    rows = [call_row(Code(capture['file']), capture['in_one_call']) for capture in every if capture['compared']]
+    return [
+        Heading('Frames read in one call'),
+        Paragraph("The frames of each capture were also laid one behind another in a buffer, with a record for each, and read by one call of "
+                  'ax25_captures in the short mode, or by several where there are very many. Each record was held to what the Rust and the port '
+                  'make of the frame by itself. What was owed to the records, and the kinds of those that are accepted:'),
+        Table(['file', 'calls', 'records', 'refused', 'kinds'], [*rows, call_row('all', part['in_one_call'])]),
+    ]
+
+
 CAPTURE_HEADS = ['file', 'format', 'octets', 'frames', 'KISS packets', 'passed over', 'SHA-256', 'doubts']
 
 
@@ -283,7 +307,7 @@ def captures(report):
     said = [f"{many(part['decodes'], 'decode')} and {many(part['writes'], 'write')} compared: {part['accepted']:,} accepted, "
             f"{part['canonical']:,} of them canonical."]
     out += [Paragraph('What came of them:'), Items(said + [of(part) for of in (nulls, relays, pairs, packets, streams, rooms)])]
-    return out + spellings(part, every)
+    return out + spellings(part, every) + in_one_call(part, every)
 
 
 def compared(report):
@@ -293,7 +317,7 @@ def compared(report):
         return out + [Paragraph('Not compared.')]
     said = [f"{part['decodes']:,} decodes, {part['writes']:,} writes and {part['relays']:,} relays compared, {part['relayed']:,} of the relays "
             'passed on.']
-    said += [of(part) for of in (packets, streams, rooms)]
+    said += [of(part) for of in (records, packets, streams, rooms)]
     return out + [Items(said), Paragraph(f"The {len(part['classes'])} classes of inputs stand in the first appendix.")]
 
 

@@ -96,6 +96,8 @@ def differences(part, file, folder):
 
 # What came of a capture's frames: how many were accepted and canonical, and the others of these by reason.
 SPELLED = ('accepted', 'canonical', 'reasons')
+# The same, and what they were as one call read them.
+COUNTED = (*SPELLED, 'in_one_call')
 
 
 def captures_of(checked, compared):
@@ -108,7 +110,7 @@ def captures_of(checked, compared):
 
 def of_frames(capture, other):
     compared = bool(other) and same(capture, other)
-    return {'compared': compared, **{name: other[name] if compared else None for name in SPELLED}}
+    return {'compared': compared, **{name: other[name] if compared else None for name in COUNTED}}
 
 
 def same(capture, other):

@@ -86,6 +86,9 @@ def captures(report):
     other = [capture['file'] for capture in every if 'refused' not in capture and not capture['compared']]
     if other or not every:
         wrong.append(f"what was compared is not what was looked over at the start: {some(other) or 'no capture is told of'}")
+    left_out = [capture['file'] for capture in every if capture['compared'] and capture['in_one_call']['records'] != capture['frames']]
+    if left_out:
+        wrong.append(f"one call over many frames did not read all of {many(len(left_out), 'capture')}: {some(left_out)}")
     frames = sum(capture.get('frames', 0) for capture in every)
     whose = '; these are the samples in tests/captures/, because no capture was given' if report['samples'] else ''
     good = (f"The port and the Rust agree on each of {many(frames, 'frame')} of {many(len(every), 'capture')}, "

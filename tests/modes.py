@@ -24,6 +24,7 @@ FRAME = '8E82AA8E8A40E0849EB06264406703F04F4B'
 # The same on its way by a repeater, and what that repeater makes of it.
 ROUTED, RELAYED = ('8E82AA8E8A40E0849EB0626440669E9C8A4040' + mark + '03F04F4B' for mark in ('4063', '40E3'))
 SAME = 'same: the port answers as it owes'
+KINDS = ('I', 'RR', 'RNR', 'REJ', 'SREJ', 'SABM', 'SABME', 'DISC', 'DM', 'UA', 'FRMR', 'UI', 'XID', 'TEST')
 
 
 def check(what, problem):
@@ -65,6 +66,14 @@ def single_modes():
         ('port: reason none (0) number 0 place 0', 'one', FRAME),
         ('port: reason tail (3) number 0 place 0', 'one', FRAME[:28] + '01AA'),
         ('port: reason refused (5) number 4 place 13', 'one', FRAME[:28]),
+        ('port: record: start 0 length 18 number 0 canonical 1 kind UI (11)', 'one', FRAME),
+        ('port: record: start 0 length 16 number 0 canonical 0 kind RR (1)', 'one', FRAME[:28] + '01AA'),
+        ('port: record: start 1 length 18 number 0 canonical 1 kind UI (11)', 'buffer', '1,18', '00' + FRAME + '41'),
+        ('port: record: start 1 length 19 number 0 canonical 1 kind UI (11)', 'buffer', '0,3', '1,19', '20,1', '00' + FRAME + '41'),
+        ('port: record: start 18 length 0 number 1 canonical 0 kind UI (11)', 'buffer', '18,0', FRAME),
+        ('port: record: start 19 length 0 number 61 canonical 0 kind UI (11)', 'buffer', '18,0', '19,0', FRAME),
+        (f'port: record: start {2 ** 64 - 1} length 2 number 61 canonical 0 kind UI (11)', 'buffer', f'{2 ** 64 - 1},2', FRAME),
+        ('buffer: 18 octets: ' + FRAME, 'buffer', FRAME),
         ('port: the same frame and info; Rust: the same frame and info', 'pair', FRAME, FRAME),
         ('port: number 0 "BOX12 "-3 (reserved 3)', 'text', 'BOX12-3'),
         ('port: number 35 nothing', 'text-hex', 'C3A9'),
@@ -87,7 +96,8 @@ def single_modes():
         ends(shortened(words), ran, 0, line)
         if SAME not in lines(ran.stdout):
             check(f'{words[0]} says that nothing differs', 'it does not')
-    for words in (('one', '-'), ('relay', '4F4E45', 1, '-'), ('kiss', '-'), ('kiss-write', 5, '-'), ('kiss-stream', 2, '-')):
+    for words in (('one', '-'), ('relay', '4F4E45', 1, '-'), ('kiss', '-'), ('kiss-write', 5, '-'), ('kiss-stream', 2, '-'),
+                  ('buffer', '3,4000', '0,5001', '-')):
         ends(shortened(words) + ' with an input of 5,000 octets', run(*words, given=b'C0 00 ' * 2500), 0, SAME)
 
 
@@ -101,6 +111,9 @@ def refusals():
         ("'X' is no hex digit", 'kiss', 'C0X0'),
         ('an SSID is an octet', 'parts-hex', '424F58', 256),
         ("'five' is no number", 'kiss-write', 'five', ''),
+        ("'18' is no START,LENGTH", 'buffer', 18, FRAME),
+        (f"'{2 ** 64}' is no number", 'buffer', f'0,{2 ** 64}', FRAME),
+        ('no mode takes these words: buffer', 'buffer'),
         ('at least one of the lengths is over 0', 'kiss-stream', '0,0', 'C0'),
         ('SCALE is a number from 1 to 1000', 'test', 0),
         ('no class has such a name', 'test', '--only', 'nothing of the kind'),
@@ -163,10 +176,11 @@ def answered(*words, **more):
 def wrong_lists():
     good = ['frame\tline 1\t' + FRAME, packet_line(), 'log\tC05041C0', 'passed over\toctet 9: why', 'end\t' + 'ab' * 32 + '\t4']
     ran, left = answered(listed(good))
-    ends('a list with every sort of line', ran, 0, '4 passed, 0 failed')
+    ends('a list with every sort of line', ran, 0, '5 passed, 0 failed')
     owed = {'file': 'made', 'format': 'KISS log', 'sha256': 'ab' * 32, 'octets': 4, 'frames': 1, 'packets': 1,
             'passed_over': ['octet 9: why'], 'passed_over_more': 0, 'accepted': 1, 'canonical': 1,
-            'reasons': {'leftover': 0, 'marks': 0, 'tail': 0, 'fixed': 0}}
+            'reasons': {'leftover': 0, 'marks': 0, 'tail': 0, 'fixed': 0},
+            'in_one_call': {'calls': 1, 'records': 1, 'refused': 0, 'kinds': {**dict.fromkeys(KINDS, 0), 'UI': 1}}}
     check('its JSON', '' if left['captures'] == [owed] else left['captures'])
     ran, left = answered(listed(good[:2]))
     digest = {key: left['captures'][0][key] for key in ('sha256', 'octets')}
@@ -287,6 +301,8 @@ def memory():
     path = of_numbers(range(600), '41' * 64_000)
     ran, left = answered(path)
     check('600 long frames are compared', '' if ran.returncode == 0 and left['captures'][0]['frames'] == 600 else ran.returncode)
+    calls = [left['captures'][0]['in_one_call'][what] for what in ('calls', 'records')]
+    check('and read in three calls, since one takes 16 MiB of them', '' if calls == [3, 600] else calls)
     most = resource.getrusage(resource.RUSAGE_CHILDREN).ru_maxrss >> 10
     what = f'a list of {path.stat().st_size >> 20} MB takes at most 60 MB of memory'
     if platform.machine() == 'x86_64':
@@ -322,6 +338,17 @@ def by_reason():
     ends('frames that are not canonical are counted by reason', ran, 0, 'not canonical, by reason: leftover: 0, marks: 0, tail: 2, fixed: 1')
 
 
+def in_calls():
+    """More frames than one call reads, and as many: each of a single null but the last, which the second call reads."""
+    most = 1 << 18
+    for more, calls in ((0, 1), (1, 2)):
+        frames = ['frame\tline 1\t00'] * (most + more - 1) + ['frame\tline 2\t' + FRAME]
+        ran, left = answered(listed(frames, 'hex lines'))
+        owed = {'calls': calls, 'records': most + more, 'refused': most + more - 1, 'kinds': {**dict.fromkeys(KINDS, 0), 'UI': 1}}
+        found = ran.returncode, left['in_one_call']
+        check(f'{most + more:,} frames are read in {calls} calls', '' if found == (0, owed) else found)
+
+
 def progress():
     path = listed(['frame\tline 1\t' + FRAME] * 3, 'hex lines')
     quiet = run('frames', path, '--of', 3)
@@ -343,6 +370,11 @@ def figures():
     """How many frames are remembered stands in the source, in the usage and in compare/README.md."""
     most = re.search(r'const MOST: usize = ([\d_]+);', pathlib.Path('compare/src/pairs.rs').read_text())
     most = int(most[1].replace('_', '')) if most else 0
+    day = pathlib.Path('compare/src/parts.rs').read_text()
+    frames, octets = (1 << int(re.search(rf'pub const {name}: usize = 1 << (\d+);', day)[1]) for name in ('FRAMES', 'OCTETS'))
+    for page in ('compare/README.md', 'docs/REPORT.md'):
+        said = f'{frames:,} frames or {octets >> 20} MiB' in pathlib.Path(page).read_text(encoding='utf-8')
+        check(f'{page} says how many frames one call reads', '' if said else f'{frames} of {octets} octets')
     for where, said, owed in [('the usage', run('--help').stdout.decode(), f'--remember N .*\\({most};'),
                               ('compare/README.md', pathlib.Path('compare/README.md').read_text(encoding='utf-8'), f' {most:,} different frames are remembered')]:
         check(f'{where} says how many frames are remembered', '' if re.search(owed, said) else f'it is {most}')
@@ -354,7 +386,7 @@ def modes():
     check('every mode was run', ', '.join(sorted(there - run_here - {'bench', 'captures'})))
 
 
-for part in (memory, remembered, canonical_ones, by_reason, single_modes, refusals, only, closed_pipes, wrong_lists, many_notes, by_every_way, stretches, differences, progress, figures, modes):
+for part in (memory, remembered, canonical_ones, by_reason, in_calls, single_modes, refusals, only, closed_pipes, wrong_lists, many_notes, by_every_way, stretches, differences, progress, figures, modes):
     try:
         part()
     except Exception as why:

@@ -8,7 +8,8 @@ use crate::kiss::{self, LONGEST};
 use crate::lent::{rooms, Room, Tried, LONGER};
 use crate::oracle::{self, Decode, Refusal};
 use crate::pairs::{Outcome, Way};
-use crate::port::{Beside, Entry, Fed, Packet, Port, State, HOPS, PLACES};
+use crate::parts::{Batch, Call, Day, Filled, Part, NOT_INSIDE};
+use crate::port::{Beside, CaptureRecord, Entry, Fed, Packet, Port, State, HOPS, PLACES};
 use crate::reasons::{Reason, Why};
 use crate::records;
 use crate::relays::{self, Own};
@@ -37,6 +38,10 @@ pub struct Checker {
     found: Vec<Difference>,
     /// Draws the rooms.
     draw: Rng,
+    /// The inputs that wait for a call over many of them.
+    batch: Batch,
+    /// Draws what records hold before a call.
+    unfilled: Rng,
 }
 
 /// All that the port's frame and info say of an accepted input: the record, and info by its octets.
@@ -106,7 +111,16 @@ const CONTENT: usize = FLAT - KIND;
 
 impl Checker {
     pub fn new() -> Checker {
-        Checker { port: Port::new(), seen: Seen::new(), quiet: false, thorough: false, found: Vec::new(), draw: Rng::new(0) }
+        Checker {
+            port: Port::new(),
+            seen: Seen::new(),
+            quiet: false,
+            thorough: false,
+            found: Vec::new(),
+            draw: Rng::new(0),
+            batch: Batch::new(),
+            unfilled: Rng::new(1),
+        }
     }
 
     /// For one input at a time: whatever room showed a difference is among those that are tried.
@@ -154,7 +168,8 @@ impl Checker {
         format!("{} and then, {}, {}", shown(owed), touched, show::hex(rest))
     }
 
-    /// Octets off the air: decoded, written again, and by the loader's calls but the relay; and decoded as an old capture.
+    /// Octets off the air: decoded, written again, and by the loader's calls but the relay; and decoded as an old capture. They wait for the
+    /// call that reads many of them, but where one input is looked at alone.
     pub fn octets(&mut self, input: &[u8]) -> Vec<Difference> {
         let rust = oracle::read(input);
         self.seen.decodes += 1;
@@ -220,6 +235,7 @@ impl Checker {
         self.seen.frame(input, record, octets == input, reason);
         self.decode(Entry::Decoder, input, owed);
         self.loader(input, 0, &octets);
+        self.in_a_list(input, Filled::accepted(octets == input, record[KIND]));
         self.reason(input, Why::accepted(reason));
         self.reason_beside(reason, octets == input);
         for room in self.rooms(Tried::Some, octets.len()) {
@@ -259,6 +275,7 @@ impl Checker {
         self.seen.refusal(input, owed.number);
         self.decode(Entry::Decoder, input, owed);
         self.loader(input, owed.number, &[]);
+        self.in_a_list(input, Filled::refused(owed.number));
         self.reason(input, Why::refused(input, owed.number));
         for room in self.refused_rooms(input) {
             self.seen.refused_room(owed.number, room, input.len());
@@ -342,6 +359,102 @@ impl Checker {
             let owes = || format!("none exactly where the re-encoding is the input, which it is{}", if canonical { "" } else { " not" });
             self.differ("the reason by M-110's words, in the port's place", owes, |_| format!("{:?}", reason));
         }
+    }
+
+    /// The loader's call for many parts of a buffer, of which this input is to be one.
+    fn in_a_list(&mut self, input: &[u8], owed: Filled) {
+        if !self.thorough {
+            self.batch.add(input, owed);
+            return;
+        }
+        let (before, behind) = (inputs::with_content(&[0x61]), inputs::FRAME);
+        let (part, whole) = (Part { start: before.len(), length: input.len() }, Part { start: 0, length: input.len() });
+        let buffer = [&before[..], input, &behind].concat();
+        let beside = [
+            Part { start: 0, length: before.len() },
+            Part { start: before.len() + input.len(), length: behind.len() },
+            Part { start: buffer.len() + 1, length: 0 },
+        ];
+        let beside = beside.map(|part| (part, self.owed_of_part(&buffer, &part)));
+        let among = beside.iter().flat_map(|&other| [other, (part, owed)]).chain([(part, owed)]).collect();
+        for call in [Call { buffer: input.to_vec(), parts: vec![(whole, owed)] }, Call { buffer, parts: among }] {
+            let unlike = self.call(&call);
+            self.found.extend(unlike.into_iter().flat_map(|(_, found)| found));
+        }
+    }
+
+    /// The calls on the inputs that have come together, if enough have, or where no more will come.
+    pub fn calls(&mut self, is_last: bool) -> Vec<Call> {
+        let due = self.batch.is_due() || is_last && self.batch.len() > 0;
+        if !due {
+            return Vec::new();
+        }
+        self.seen.parts.inputs += self.batch.len() as u64;
+        self.batch.take()
+    }
+
+    /// What a part of a buffer owes, by the Rust's own reading of its octets.
+    pub fn owed_of_part(&mut self, buffer: &[u8], part: &Part) -> Filled {
+        part.of(buffer).map_or(Filled::refused(NOT_INSIDE), |octets| self.owed_in_a_list(octets))
+    }
+
+    fn owed_in_a_list(&mut self, octets: &[u8]) -> Filled {
+        match decoded(octets) {
+            Ok(frame) => {
+                let record = oracle::record(octets, &frame);
+                Filled::accepted(self.owed_octets(&frame, &record) == octets, record[KIND])
+            }
+            Err(number) => Filled::refused(number),
+        }
+    }
+
+    /// One call over many parts: what differs in each record, and beside the records.
+    pub fn call(&mut self, call: &Call) -> Vec<(Option<usize>, Vec<Difference>)> {
+        self.seen.parts.call(call);
+        let mut beside = std::mem::take(&mut self.found);
+        let records = call.unfilled(&mut self.unfilled);
+        self.port.captures(&call.buffer, &records);
+        let mut unlike = Vec::new();
+        for at in 0..call.parts.len() {
+            let given = self.port.records()[at];
+            self.record_is("the record", &call.owed(at), &given);
+            if !self.found.is_empty() {
+                unlike.push((Some(at), std::mem::take(&mut self.found)));
+            }
+        }
+        beside.extend(self.finish());
+        if !beside.is_empty() {
+            unlike.push((None, beside));
+        }
+        unlike
+    }
+
+    fn record_is(&mut self, what: &str, owed: &CaptureRecord, given: &CaptureRecord) {
+        if given != owed {
+            self.differ(what, || show::capture_record(owed), |_| show::capture_record(given));
+        }
+    }
+
+    /// A frame of a capture that was read in one call, this being its number in the list, and the frames before it having so many octets: its
+    /// record is held to what is owed, and to the port's single calls, and its octets in the buffer to the frame.
+    pub fn in_one_call(&mut self, day: &Day, at: usize, before: usize, frame: &[u8]) -> (Filled, Vec<Difference>) {
+        let (part, given) = (Part { start: before, length: frame.len() }, day.record(at));
+        let (owed, single) = (self.owed_in_a_list(frame), self.by_single_calls(frame));
+        self.record_is("the record", &part.filled(&owed), &given);
+        self.record_is("the record, beside the single calls", &part.filled(&single), &given);
+        let octets = part.of(day.buffer()).unwrap_or(&[]);
+        if octets != frame {
+            self.differ("the buffer", || show::hex(frame), |_| show::hex(octets));
+        }
+        (owed, self.finish())
+    }
+
+    /// What the port's own calls on one input say of it. Of the kind of a refused one there is no such call.
+    fn by_single_calls(&mut self, input: &[u8]) -> Filled {
+        let (number, canonical) = (self.port.number(Entry::Decoder, input), self.port.canonical(input));
+        let refused = Filled::refused(number).kind;
+        let kind = if self.port.decode(Entry::Decoder, input, FLAT, PLACES) == 0 { self.port.output()[KIND].into() } else { refused };
+        Filled { number, canonical: canonical.try_into().unwrap_or(u16::MAX), kind }
     }
 
     fn reencode(&mut self, input: &[u8], number: u32, octets: &[u8], room: usize) {
@@ -598,9 +711,15 @@ impl Checker {
     /// The default frame.
     pub fn default(&mut self) -> Vec<Difference> {
         let frame = Ax25Frame::default();
+        let owed = flat::of_frame(&frame);
         for room in [FLAT, FLAT + LONGER] {
             let number = self.port.default(room);
-            self.made("default", number, &frame, &flat::of_frame(&frame), &[]);
+            self.made("default", number, &frame, &owed, &[]);
+        }
+        let kind = Filled::refused(1).kind;
+        if kind != owed[KIND].into() {
+            let owes = || format!("that of the Rust's default frame, {}", owed[KIND]);
+            self.differ("a refused record's kind by M-111's words, in the port's place", owes, |_| kind.to_string());
         }
         self.finish()
     }

@@ -4,11 +4,13 @@ use crate::check::{self, padded, Both, Checker, Difference, Stretch};
 use crate::flat::{self, FlatAddress, ONES};
 use crate::list::List;
 use crate::pairs::{self, Desk, Way};
+use crate::parts::{self, Call, Day, Part};
 use crate::port::{Beside, State, FRESH};
-use crate::progress::Part;
+use crate::progress::Part as Passed;
 use crate::relays::{self, Own};
 use crate::report::{self, Line, Report};
 use crate::rng::Rng;
+use crate::seen::Records;
 use crate::show;
 use crate::{inputs, kiss, packets, records, streams, texts};
 use ax25::frame::Ax25Frame;
@@ -29,6 +31,7 @@ pub fn class(checker: &mut Checker, report: &mut Report, name: &str, body: impl 
     let line = Line { name: name.to_string(), inputs: 0, mismatches: 0, written: 0 };
     let mut class = Class { checker, report, line };
     body(&mut class);
+    class.made_calls(true);
     let line = class.line;
     report.class(line);
 }
@@ -36,6 +39,30 @@ pub fn class(checker: &mut Checker, report: &mut Report, name: &str, body: impl 
 impl Class<'_> {
     fn done(&mut self, found: Vec<Difference>, input: impl FnOnce() -> (String, String)) {
         self.line.inputs += 1;
+        self.differs(found, input);
+        self.made_calls(false);
+    }
+
+    /// The calls over many inputs that are due by now, or all that are left.
+    fn made_calls(&mut self, is_last: bool) {
+        for call in self.checker.calls(is_last) {
+            self.called(&call);
+        }
+    }
+
+    /// One call: each record in which something differs is a mismatch.
+    fn called(&mut self, call: &Call) {
+        let unlike = self.checker.call(call);
+        if unlike.is_empty() {
+            return;
+        }
+        let class = format!("compare test --only '{}'", self.line.name);
+        for (which, found) in unlike {
+            self.differs(found, || (call.words(which), call.again().unwrap_or_else(|| class.clone())));
+        }
+    }
+
+    fn differs(&mut self, found: Vec<Difference>, input: impl FnOnce() -> (String, String)) {
         if !found.is_empty() {
             self.line.mismatches += 1;
             if !self.report.full() {
@@ -47,7 +74,7 @@ impl Class<'_> {
     }
 
     /// So much more of the captures is compared.
-    pub fn step(&mut self, part: Part, count: usize) {
+    pub fn step(&mut self, part: Passed, count: usize) {
         self.report.progress.step(part, count);
     }
 
@@ -61,6 +88,32 @@ impl Class<'_> {
         let mut found = self.checker.octets(input);
         found.extend(self.checker.relays(input));
         self.done(found, || (format!("{}: {}", place, show::hex(input)), report::again("compare one", input)));
+    }
+
+    /// One call over these parts of a buffer. Each record counts as one input.
+    fn buffer(&mut self, buffer: &[u8], parts: impl IntoIterator<Item = Part>) {
+        let parts: Vec<_> = parts.into_iter().map(|part| (part, self.checker.owed_of_part(buffer, &part))).collect();
+        self.line.inputs += parts.len() as u64;
+        self.called(&Call { buffer: buffer.to_vec(), parts });
+    }
+
+    /// One call over frames of a capture, and then each of them as it stands in the list. What the records owe is counted.
+    pub fn day(&mut self, file: &str, day: &mut Day, frames: &mut dyn Iterator<Item = (u64, String, Vec<u8>)>, records: &mut Records) {
+        let again = format!("compare captures '{}'", file);
+        records.calls += 1;
+        if !day.read() {
+            let owed = "nothing else is written".to_string();
+            let found = Difference { what: "lent storage".to_string(), owed, port: "something beside the records was written".to_string() };
+            self.differs(vec![found], || (format!("{} frames in one call", day.len()), again.clone()));
+        }
+        let mut before = 0;
+        for (at, (_, place, frame)) in frames.take(day.len()).enumerate() {
+            let (owed, found) = self.checker.in_one_call(day, at, before, &frame);
+            records.count(&owed);
+            before += frame.len();
+            self.done(found, || (format!("{}: {}", place, show::hex(&frame)), again.clone()));
+            self.step(Passed::OneCall, 1);
+        }
     }
 
     /// Octets off the air, passed on by the stations of their route and by others.
@@ -236,7 +289,7 @@ impl Class<'_> {
             let cuts = [vec![1], streams::cut_to(10, &mut draw), streams::cut_to(400, &mut draw)];
             let end = at + octets.len() as u64;
             found = self.checker.captured_stretch(&mut state, &Stretch { at, octets: &octets }, end == length, &cuts, said);
-            self.step(Part::Log, octets.len());
+            self.step(Passed::Log, octets.len());
             if !found.is_empty() {
                 break;
             }
@@ -288,9 +341,10 @@ pub fn test(scale: usize, seed: u64, mut report: Report) -> Report {
     kiss_packets(&mut checker, &mut report, scale, &mut seeds);
     kiss_streams(&mut checker, &mut report, scale, &mut seeds);
     unseen(&mut checker, &mut report, scale, &mut seeds);
+    parts_of_buffers(&mut checker, &mut report, scale, &mut seeds);
     if report.only.is_none() {
         let (missing, stray) = (checker.seen.missing(), checker.seen.stray());
-        class(&mut checker, &mut report, "met: every number but 6, kind, mark, PID, layer 3 octet, reserved bits, route length, reason, room, search, old capture, due place, KISS port, cut, changed bit, pair, listed difference, and kind that the Rust does not know, at each entry", |c| c.missing(missing, stray));
+        class(&mut checker, &mut report, "met: every number but 6, kind, mark, PID, layer 3 octet, reserved bits, route length, reason, part of a buffer, room, search, old capture, due place, KISS port, cut, changed bit, pair, listed difference, and kind that the Rust does not know, at each entry", |c| c.missing(missing, stray));
     } else {
         println!("left out: met, which is of all classes together");
     }
@@ -566,4 +620,40 @@ fn unseen(checker: &mut Checker, report: &mut Report, scale: usize, seeds: &mut 
     };
     run("every bit of canonical frames", &|each| pairs::every_bit(a, each));
     run("canonical frames beside others", &|each| pairs::seeded(b, 30_000 * scale, each));
+}
+
+/// One call over parts of a buffer that are more than inputs laid one behind the other.
+fn parts_of_buffers(checker: &mut Checker, report: &mut Report, scale: usize, seeds: &mut Rng) {
+    let seed = seeds.next();
+    class(checker, report, "parts: every start and length of short buffers, and those around the largest numbers", |class| {
+        let contents = inputs::contents().into_iter().take(inputs::CONTENTS);
+        let among = contents.map(|content| [&[0x00, 0x61], &inputs::with_content(&content)[..], &[0x03, 0xF0, 0x00]].concat());
+        for buffer in [vec![], vec![0x00], vec![0x03]].into_iter().chain(among) {
+            let all = parts::every(0..=buffer.len() + 2);
+            class.buffer(&buffer, all.iter().rev().copied());
+            class.buffer(&buffer, all);
+            class.buffer(&buffer, parts::every(parts::around(buffer.len())));
+        }
+    });
+    class(checker, report, "parts: lists of 0 to 100 records, each sort of part the first and the last of one, and of 65,537 in a long buffer", |class| {
+        let lists = |before: usize, counts: &mut dyn Iterator<Item = usize>, class: &mut Class| {
+            let mut buffer = vec![0x42; before];
+            let mut all: Vec<Part> = inputs::good_frames().iter().map(|frame| parts::laid(&mut buffer, frame)).collect();
+            all.extend(parts::every([0, buffer.len(), buffer.len() + 1]));
+            for count in counts {
+                for turn in 0..if count <= 2 { all.len() } else { 1 } {
+                    class.buffer(&buffer, (0..count).map(|i| all[(turn + count * count + i) % all.len()]));
+                }
+            }
+        };
+        lists(0, &mut (0..=100).chain([255, 256, 257]), class);
+        lists(1 << 16, &mut [257, 65_537].into_iter(), class);
+    });
+    class(checker, report, "parts: seeded, overlapping, repeated, in any order", |class| {
+        let mut draw = Rng::new(seed);
+        for _ in 0..2_000 * scale {
+            let (buffer, records) = parts::seeded(&mut draw);
+            class.buffer(&buffer, records);
+        }
+    });
 }

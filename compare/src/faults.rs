@@ -2,21 +2,23 @@
 //! fault that COMPARE_FAULT names. The linker puts these in the calls' places (`--wrap`) and leaves the port's own under `__real_`.
 //! Some faults are the Rust's: in its writing it is held to an octet, and to bits, that the port does not owe, and in its reading to what
 //! its frame lacks, to skipping nulls, and to refusing the kinds that it does not know. One is of the comparison's own words, for reasons.
+//! A fault of the call over many parts may also be one that the laboratory's reading of a capture has to find.
 
 use crate::check::{padded, with_plain_addresses};
 use crate::domain::{self, RESERVED_BITS, RUST_LAYER_3};
 use crate::flat::{self, Flat, ABSENT, COMMAND, COUNT, KIND, MARK, POLL, RECEIVE, RNR, RR, SSID, UI, UNKNOWN_CONTENT};
 use crate::flat::{ENTRY, GROUP, ONES, PID, PID_LAYER_3, PID_OCTET, PID_UNKNOWN, REJECTED_CONTROL, REPEATERS, RESERVED, ROUTE, SOURCE};
-use crate::flat::{REJ, SABM, SABME, SREJ, TEST, XID};
+use crate::flat::{DISC, DM, FRMR, I, REJ, SABM, SABME, SREJ, TEST, UA, XID};
 use crate::kiss::{FEND, FESC, LONGEST, PORTS, TFEND, TFESC};
-use crate::port::{Packet, State};
+use crate::parts::{Inside, Outside, Part, NOT_INSIDE};
+use crate::port::{CaptureRecord, Packet, State};
 use crate::reasons::{self, Reason, REASONS};
 use ax25::frame::{Ax25Frame, FrameContent, FrameParseError, ProtocolIdentifier};
 use std::slice::{from_raw_parts, from_raw_parts_mut};
 use std::sync::atomic::{AtomicUsize, Ordering};
 
 /// What each fault does, from 1 on, and words in the name of a class that has to find it.
-const FAULTS: [(&str, &str); 299] = [
+const FAULTS: [(&str, &str); 370] = [
     ("re-encoding writes the address field, then answers 24", "every prefix"),
     ("re-encoding writes the address field, then refuses the content", "every prefix"),
     ("re-encoding into no room at all answers 0", "every prefix"),
@@ -316,11 +318,109 @@ const FAULTS: [(&str, &str); 299] = [
     ("the place of 7 is that behind whole addresses", "octets: every bit of good"),
     ("the place of 9 is that of the control octet", "octets: every octet at every address place"),
     ("the place of 10 is that of the first octet that is no null", "octets: leading nulls"),
+    ("one call leaves the first record as it was", "parts: lists of 0 to 100"),
+    ("one call leaves the last record as it was", "parts: lists of 0 to 100"),
+    ("one call leaves a lone record as it was", "parts: lists of 0 to 100"),
+    ("one call leaves the second of two records as it was", "parts: lists of 0 to 100"),
+    ("one call leaves the records behind the sixteenth as they were", "parts: lists of 0 to 100"),
+    ("one call leaves the records behind a refused one as they were", "parts: lists of 0 to 100"),
+    ("one call leaves the records behind one that is not inside as they were", "parts: lists of 0 to 100"),
+    ("one call leaves a part that it has read before as it was", "parts: seeded"),
+    ("one call leaves a record that holds a number as it was", "parts: lists of 0 to 100"),
+    ("one call takes the count for one of eight bits", "parts: lists of 0 to 100"),
+    ("one call takes the count for one of sixteen bits", "parts: lists of 0 to 100"),
+    ("one call takes a start for one of sixteen bits", "parts: lists of 0 to 100"),
+    ("one call takes a start for one of 32 bits", "parts: every start and length"),
+    ("one call puts the records in the order of their starts", "parts: every start and length"),
+    ("one call fills a record behind the last", "parts: lists of 0 to 100"),
+    ("one call fills a record where there is none", "parts: lists of 0 to 100"),
+    ("one call fills the records in reverse order", "parts: lists of 0 to 100"),
+    ("one call changes the start of a record", "parts: every start and length"),
+    ("one call changes the length of a record", "parts: every start and length"),
+    ("one call changes the start of a record that is not inside", "parts: every start and length"),
+    ("one call writes into the buffer", "parts: lists of 0 to 100"),
+    ("one call reads in the long mode", "example's addresses"),
+    ("one call passes over the start of a part", "parts: every start and length"),
+    ("one call passes over the length of a part", "parts: every start and length"),
+    ("one call starts a part one octet late", "parts: every start and length"),
+    ("one call takes one octet more than the part, where there is one", "parts: every start and length"),
+    ("one call passes over nulls", "octets: leading nulls"),
+    ("one call takes a length for one of sixteen bits", "octets: long inputs"),
+    ("one call takes a part that begins before the end of the last one for none", "parts: seeded"),
+    ("one call takes a sum that wraps for one that is inside", "parts: every start and length"),
+    ("one call takes a start beyond the end for the end", "parts: every start and length"),
+    ("one call takes an empty part one octet behind the end for an empty one", "parts: every start and length"),
+    ("one call cuts a part that is one octet too long", "parts: every start and length"),
+    ("one call gives 61 to an empty part at the very end", "parts: every start and length"),
+    ("one call gives 61 to an empty part of an empty buffer", "parts: every start and length"),
+    ("one call gives 61 to a part up to the very end", "parts: every start and length"),
+    ("one call gives 61 to the whole buffer", "parts: every start and length"),
+    ("one call gives 61 to a part of no octets", "parts: every start and length"),
+    ("one call gives the number of the whole buffer", "parts: seeded"),
+    ("one call gives the canonical of the whole buffer", "parts: seeded"),
+    ("one call gives the kind of the whole buffer", "parts: seeded"),
+    ("one call gives the number of the record before", "parts: lists of 0 to 100"),
+    ("one call gives the canonical of the record before", "parts: lists of 0 to 100"),
+    ("one call gives the kind of the record before", "parts: lists of 0 to 100"),
+    ("one call gives a refused part the kind of the record before", "parts: lists of 0 to 100"),
+    ("one call gives a part that is not inside the kind of the record before", "parts: lists of 0 to 100"),
+    ("one call gives a refused part kind 0", "every prefix"),
+    ("one call gives a refused part the kind of its control octet", "octets: every control octet"),
+    ("one call leaves the number of a refused part as it was", "every prefix"),
+    ("one call leaves the canonical of a refused part as it was", "every prefix"),
+    ("one call leaves the kind of a refused part as it was", "every prefix"),
+    ("one call leaves the number of a part that is not inside as it was", "parts: every start and length"),
+    ("one call leaves the canonical of a part that is not inside as it was", "parts: every start and length"),
+    ("one call leaves the kind of a part that is not inside as it was", "parts: every start and length"),
+    ("one call gives canonical 1 to a part that is not inside", "parts: every start and length"),
+    ("one call gives kind 0 to a part that is not inside", "parts: every start and length"),
+    ("one call gives canonical 1 to every accepted part", "octets: every bit of good"),
+    ("one call gives canonical 0 to every part", "octets: every bit of good"),
+    ("one call keeps a canonical that is not 0", "octets: every bit of good"),
+    ("one call exchanges I and UI", "octets: every control octet"),
+    ("one call exchanges RR and RNR", "octets: every control octet"),
+    ("one call exchanges REJ and SREJ", "octets: every control octet"),
+    ("one call exchanges SABM and SABME", "octets: every control octet"),
+    ("one call exchanges DISC and DM", "octets: every control octet"),
+    ("one call exchanges UA and FRMR", "octets: every control octet"),
+    ("one call exchanges XID and TEST", "octets: every control octet"),
+    ("one call counts the kinds from 1", "octets: every control octet"),
+    ("one call takes the kind from the octet behind whole addresses", "octets: spans 1 to 100"),
+    ("one call answers 6 to SREJ", "octets: kinds that the Rust does not know"),
+    ("one call answers 7 to TEST with info", "octets: kinds that the Rust does not know"),
+    ("one call answers 1 to a refused part whatever the number", "every prefix"),
 ];
 
-/// A line for each fault: its number, the words, and what it does.
+/// Those of them that the laboratory's reading of a capture has to find too, in which all frames stand in one buffer and one list.
+const IN_ONE_CALL: [&str; 22] = [
+    "one call leaves the first record as it was",
+    "one call leaves the last record as it was",
+    "one call leaves the records behind the sixteenth as they were",
+    "one call leaves the records behind a refused one as they were",
+    "one call fills a record behind the last",
+    "one call fills the records in reverse order",
+    "one call changes the start of a record",
+    "one call changes the length of a record",
+    "one call writes into the buffer",
+    "one call reads in the long mode",
+    "one call passes over the start of a part",
+    "one call passes over the length of a part",
+    "one call passes over nulls",
+    "one call gives 61 to a part up to the very end",
+    "one call gives the number of the whole buffer",
+    "one call gives the canonical of the whole buffer",
+    "one call gives the kind of the record before",
+    "one call gives a refused part kind 0",
+    "one call gives canonical 1 to every accepted part",
+    "one call exchanges RR and RNR",
+    "one call exchanges XID and TEST",
+    "one call answers 6 to SREJ",
+];
+
+/// A line for each fault: its number, the words, and what it does; then one for each that the reading of a capture has to find too.
 pub fn list() {
-    for (i, (what, class)) in FAULTS.iter().enumerate() {
+    let of_captures = FAULTS.iter().map(|&(what, _)| (what, "in one call")).enumerate().filter(|(_, (what, _))| IN_ONE_CALL.contains(what));
+    for (i, (what, class)) in FAULTS.iter().copied().enumerate().chain(of_captures) {
         println!("{}\t{}\t{}", i + 1, class, what);
     }
 }
@@ -341,6 +441,7 @@ extern "C" {
     fn __real_ax25_decode_old_capture(input: *const u8, input_len: usize) -> u32;
     fn __real_ax25_canonical(input: *const u8, input_len: usize) -> u32;
     fn __real_ax25_reason(input: *const u8, input_len: usize, mode: u32, number: *mut u32, place: *mut usize) -> u32;
+    fn __real_ax25_captures(input: *const u8, input_len: usize, mode: u32, records: *mut CaptureRecord, count: usize);
     fn __real_ax25_reencoded_length(input: *const u8, input_len: usize) -> usize;
     fn __real_ax25_reencode(input: *const u8, input_len: usize, out: *mut u8, out_len: usize) -> u32;
     fn __real_ax25_relay(callsign: *const u8, callsign_len: usize, ssid: u8, frame: *mut u8, frame_len: usize) -> u32;
@@ -685,6 +786,241 @@ unsafe extern "C" fn __wrap_ax25_reason(input: *const u8, input_len: usize, mode
         *number = before.0;
     }
     answer
+}
+
+/// A part as a faulty call might take it; the record before it is given too.
+fn mistaken_part(buffer: &[u8], record: &CaptureRecord, before: Option<&CaptureRecord>) -> Part {
+    let end = buffer.len();
+    let none = Part { start: end + 1, length: 0 };
+    let mut part = Part { start: record.start, length: record.length };
+    if is("one call takes a length for one of sixteen bits") {
+        part.length &= 0xFFFF;
+    }
+    if is("one call takes a start for one of sixteen bits") {
+        part.start &= 0xFFFF;
+    }
+    if is("one call takes a start for one of 32 bits") {
+        part.start &= 0xFFFF_FFFF;
+    }
+    if is("one call passes over the start of a part") {
+        return Part { start: 0, ..part };
+    }
+    let octets = match part.of(buffer) {
+        Some(octets) => octets,
+        None => return misjudged(&part, end),
+    };
+    let overlaps = before.map_or(false, |before| part.start < before.start.saturating_add(before.length));
+    let is_none = match Inside::of(&part, end) {
+        _ if is("one call takes a part that begins before the end of the last one for none") && overlaps => true,
+        Inside::EmptyAtTheEnd if is("one call gives 61 to an empty part of an empty buffer") => end == 0,
+        Inside::EmptyAtTheEnd => is("one call gives 61 to an empty part at the very end") || is("one call gives 61 to a part of no octets"),
+        Inside::Empty => is("one call gives 61 to a part of no octets"),
+        Inside::Whole => is("one call gives 61 to the whole buffer") || is("one call gives 61 to a part up to the very end"),
+        Inside::Last => is("one call gives 61 to a part up to the very end"),
+        Inside::First | Inside::Amidst => false,
+    };
+    let skipped = octets.len() - skipped(octets, "one call passes over nulls").len();
+    match part {
+        _ if is_none => none,
+        Part { start, .. } if is("one call passes over the length of a part") => Part { start, length: end - start },
+        Part { start, length: 1.. } if is("one call starts a part one octet late") => Part { start: start + 1, length: part.length - 1 },
+        Part { start, length } if is("one call takes one octet more than the part, where there is one") && start + length < end => {
+            Part { start, length: length + 1 }
+        }
+        Part { start, length } => Part { start: start + skipped, length: length - skipped },
+    }
+}
+
+/// The same of a part that is not inside a buffer with this end.
+fn misjudged(part: &Part, end: usize) -> Part {
+    match Outside::of(part, end) {
+        Outside::WrapsInside if is("one call takes a sum that wraps for one that is inside") => Part { start: 0, length: 0 },
+        Outside::NextToTheEnd if is("one call takes an empty part one octet behind the end for an empty one") => Part { start: end, length: 0 },
+        Outside::StartsBeyond | Outside::NextToTheEnd if is("one call takes a start beyond the end for the end") => Part { start: end, length: 0 },
+        Outside::OneTooLong if is("one call cuts a part that is one octet too long") => Part { start: part.start, length: part.length - 1 },
+        _ => *part,
+    }
+}
+
+/// Two kinds that a faulty call might exchange.
+const EXCHANGED: [(&str, u8, u8); 7] = [
+    ("one call exchanges I and UI", I, UI),
+    ("one call exchanges RR and RNR", RR, RNR),
+    ("one call exchanges REJ and SREJ", REJ, SREJ),
+    ("one call exchanges SABM and SABME", SABM, SABME),
+    ("one call exchanges DISC and DM", DISC, DM),
+    ("one call exchanges UA and FRMR", UA, FRMR),
+    ("one call exchanges XID and TEST", XID, TEST),
+];
+
+/// The kind that the octet at this place would be the control octet of.
+fn kind_at(octets: &[u8], at: usize) -> u16 {
+    let content = [octet(octets, at), 0x01, 0x02, 0x44];
+    let content = if content[0] & 0xEF == 0x87 { &content[..] } else { &content[..2] };
+    let input = crate::inputs::with_content(content);
+    let frame = crate::check::decoded(&input);
+    frame.map_or(UI, |frame| crate::oracle::record(&input, &frame)[KIND]).into()
+}
+
+/// The record, or the one that a fault which is on has in its place.
+fn one_of(record: CaptureRecord, faults: &[(&str, CaptureRecord)]) -> CaptureRecord {
+    faults.iter().find(|(fault, _)| is(fault)).map_or(record, |&(_, other)| other)
+}
+
+/// A record of an accepted part, as a faulty call might fill it.
+fn misfilled(octets: &[u8], record: &mut CaptureRecord) {
+    if is("one call gives canonical 1 to every accepted part") {
+        record.canonical = 1;
+    }
+    for (fault, one, other) in EXCHANGED {
+        let (one, other) = (u16::from(one), u16::from(other));
+        record.kind = match record.kind {
+            kind if kind == one && is(fault) => other,
+            kind if kind == other && is(fault) => one,
+            kind => kind,
+        };
+    }
+    record.kind += u16::from(is("one call counts the kinds from 1"));
+    if is("one call takes the kind from the octet behind whole addresses") {
+        record.kind = kind_at(octets, reasons::span(octets) / GROUP * GROUP);
+    }
+    let unknown = Unknown::of(octets);
+    let something = if unknown.behind > 0 { "one call answers 7 to TEST with info" } else { "" };
+    if let Some(number) = unknown.refused(&[("one call answers 6 to SREJ", SREJ, 6), (something, TEST, 7)]) {
+        *record = CaptureRecord { number, canonical: 0, kind: UI.into(), ..*record };
+    }
+}
+
+/// The same of a refused part, or, where there are no octets, of one that is not inside.
+fn misrefused(octets: Option<&[u8]>, given: &CaptureRecord, record: &mut CaptureRecord) {
+    let [number, canonical, kind, zero] = match octets {
+        Some(_) => [
+            "one call leaves the number of a refused part as it was",
+            "one call leaves the canonical of a refused part as it was",
+            "one call leaves the kind of a refused part as it was",
+            "one call gives a refused part kind 0",
+        ],
+        None => [
+            "one call leaves the number of a part that is not inside as it was",
+            "one call leaves the canonical of a part that is not inside as it was",
+            "one call leaves the kind of a part that is not inside as it was",
+            "one call gives kind 0 to a part that is not inside",
+        ],
+    };
+    let faults = [
+        (number, CaptureRecord { number: given.number, ..*record }),
+        (canonical, CaptureRecord { canonical: given.canonical, ..*record }),
+        (kind, CaptureRecord { kind: given.kind, ..*record }),
+        (zero, CaptureRecord { kind: 0, ..*record }),
+    ];
+    *record = one_of(*record, &faults);
+    match octets {
+        Some(octets) if is("one call gives a refused part the kind of its control octet") => record.kind = kind_at(octets, reasons::span(octets)),
+        Some(_) if is("one call answers 1 to a refused part whatever the number") => record.number = 1,
+        None if is("one call gives canonical 1 to a part that is not inside") => record.canonical = 1,
+        _ => {}
+    }
+}
+
+/// Which records of a list a faulty call might fill: from this number on, up to that.
+fn left_out(records: &[CaptureRecord]) -> (usize, usize) {
+    let count = records.len();
+    let first = usize::from(is("one call leaves the first record as it was") || is("one call leaves a lone record as it was") && count == 1);
+    let behind = |stops: &dyn Fn(&CaptureRecord) -> bool| records.iter().position(stops).map_or(count, |at| at + 1);
+    let end = match count {
+        _ if is("one call leaves the last record as it was") => count.saturating_sub(1),
+        2 if is("one call leaves the second of two records as it was") => 1,
+        17.. if is("one call leaves the records behind the sixteenth as they were") => 16,
+        _ if is("one call takes the count for one of eight bits") => count & 0xFF,
+        _ if is("one call takes the count for one of sixteen bits") => count & 0xFFFF,
+        _ if is("one call leaves the records behind a refused one as they were") => behind(&|record| record.number != 0),
+        _ if is("one call leaves the records behind one that is not inside as they were") => behind(&|record| record.number == NOT_INSIDE),
+        _ => count,
+    };
+    (first.min(end), end)
+}
+
+/// What a faulty call might take from the record before, or from the whole buffer as a record.
+fn misplaced_answers(filled: &[CaptureRecord], whole: &CaptureRecord) -> Vec<CaptureRecord> {
+    let mut other = filled.to_vec();
+    for (at, record) in other.iter_mut().enumerate() {
+        let before = &filled[at.saturating_sub(1)];
+        if record.number == NOT_INSIDE {
+            if is("one call gives a part that is not inside the kind of the record before") {
+                record.kind = before.kind;
+            }
+            continue;
+        }
+        let faults = [
+            ("one call gives the number of the whole buffer", CaptureRecord { number: whole.number, ..*record }),
+            ("one call gives the canonical of the whole buffer", CaptureRecord { canonical: whole.canonical, ..*record }),
+            ("one call gives the kind of the whole buffer", CaptureRecord { kind: whole.kind, ..*record }),
+            ("one call gives the number of the record before", CaptureRecord { number: before.number, ..*record }),
+            ("one call gives the canonical of the record before", CaptureRecord { canonical: before.canonical, ..*record }),
+            ("one call gives the kind of the record before", CaptureRecord { kind: before.kind, ..*record }),
+        ];
+        *record = one_of(*record, &faults);
+        if is("one call gives a refused part the kind of the record before") && record.number != 0 {
+            record.kind = before.kind;
+        }
+    }
+    if is("one call fills the records in reverse order") {
+        let answers: Vec<CaptureRecord> = other.iter().rev().copied().collect();
+        for (record, answer) in other.iter_mut().zip(answers) {
+            *record = CaptureRecord { start: record.start, length: record.length, ..answer };
+        }
+    }
+    other
+}
+
+#[no_mangle]
+unsafe extern "C" fn __wrap_ax25_captures(input: *const u8, input_len: usize, mode: u32, records: *mut CaptureRecord, count: usize) {
+    let (buffer, given) = (from_raw_parts(input, input_len), from_raw_parts(records, count).to_vec());
+    let mode = if is("one call reads in the long mode") { 1 } else { mode };
+    let before = |at: usize| at.checked_sub(1).map(|at| &given[at]);
+    let parts: Vec<Part> = given.iter().enumerate().map(|(at, record)| mistaken_part(buffer, record, before(at))).collect();
+    let taken = |part: &Part, record: &CaptureRecord| CaptureRecord { start: part.start, length: part.length, ..*record };
+    let mut filled: Vec<CaptureRecord> = parts.iter().zip(&given).map(|(part, record)| taken(part, record)).collect();
+    __real_ax25_captures(input, input_len, mode, filled.as_mut_ptr(), count);
+    let mut whole = [CaptureRecord { start: 0, length: input_len, number: 0, canonical: 0, kind: 0 }];
+    __real_ax25_captures(input, input_len, mode, whole.as_mut_ptr(), 1);
+    for ((part, record), given) in parts.iter().zip(&mut filled).zip(&given) {
+        *record = CaptureRecord { start: given.start, length: given.length, ..*record };
+        match part.of(buffer) {
+            Some(octets) if record.number == 0 => misfilled(octets, record),
+            octets => misrefused(octets, given, record),
+        }
+        if is("one call keeps a canonical that is not 0") {
+            record.canonical |= given.canonical;
+        }
+        if is("one call gives canonical 0 to every part") {
+            record.canonical = 0;
+        }
+        record.start += usize::from(is("one call changes the start of a record") && record.number != NOT_INSIDE);
+        record.length -= usize::from(is("one call changes the length of a record") && record.length > 0 && record.number != NOT_INSIDE);
+        if is("one call changes the start of a record that is not inside") && record.number == NOT_INSIDE {
+            record.start = input_len;
+        }
+    }
+    let mut filled = misplaced_answers(&filled, &whole[0]);
+    if is("one call puts the records in the order of their starts") {
+        filled.sort_by_key(|record| record.start);
+    }
+    let (first, end) = left_out(&filled);
+    for at in first..end {
+        let same = |earlier: &CaptureRecord| (earlier.start, earlier.length) == (given[at].start, given[at].length);
+        let left = is("one call leaves a part that it has read before as it was") && given[..at].iter().any(same)
+            || is("one call leaves a record that holds a number as it was") && given[at].number != 0;
+        if !left {
+            *records.add(at) = filled[at];
+        }
+    }
+    if is("one call fills a record behind the last") && count > 0 || is("one call fills a record where there is none") && count == 0 {
+        (*records.add(count)).number = 1;
+    }
+    if is("one call writes into the buffer") && input_len > 0 {
+        *(input as *mut u8).add(input_len - 1) ^= 1;
+    }
 }
 
 #[no_mangle]

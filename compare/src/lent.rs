@@ -1,6 +1,7 @@
 //! Buffers to lend: between guards, and holding a pattern beforehand, so that anything written where nothing should be
 //! is seen. And the sizes of those that a writer is lent.
 
+use crate::port::CaptureRecord;
 use crate::rng::Rng;
 
 /// Items of guard on each side.
@@ -84,6 +85,13 @@ pub fn octets() -> Lent<u8> {
 
 pub fn sizes() -> Lent<usize> {
     Lent::new(|i, turn| [0xA5A5_A5A5_A5A5_A5A5, 0x5A5A_5A5A_5A5A_5A5A][turn] ^ i)
+}
+
+pub fn records() -> Lent<CaptureRecord> {
+    Lent::new(|i, turn| {
+        let pattern = [0xA5A5_A5A5_A5A5_A5A5, 0x5A5A_5A5A_5A5A_5A5A][turn] ^ i;
+        CaptureRecord { start: pattern, length: !pattern, number: pattern as u32, canonical: pattern as u16, kind: !pattern as u16 }
+    })
 }
 
 impl<T: Copy + PartialEq> Lent<T> {

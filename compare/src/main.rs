@@ -17,6 +17,7 @@ mod list;
 mod oracle;
 mod packets;
 mod pairs;
+mod parts;
 mod port;
 mod progress;
 mod reasons;
@@ -35,6 +36,7 @@ mod texts;
 use differences::Differences;
 use list::List;
 use pairs::Desk;
+use parts::Part;
 use progress::Progress;
 use relays::Own;
 use report::Report;
@@ -63,11 +65,13 @@ fn end_with_the_reader() {
 const USAGE: &str = "\
 compare test [SCALE]               every class of inputs; the seeded ones SCALE times as large (1)
 compare captures [--raw FILE | FILE]..
-                                   every frame and KISS packet of captures, every KISS log as a stream, frames beside one another:
+                                   every frame and KISS packet of captures, the frames of each in one call, every KISS log as
+                                   a stream, frames beside one another:
                                    pcap and pcapng (link types 3 and 202), KISS logs, hex lines; --raw, or a file named
                                    .raw, .bin or .ax25: one raw frame
 compare frames [FILE]              what captures.py, which reads the captures, prints, in a file or on standard input
 compare one HEX                    one input: both answers in full, the port's as an old capture too ('-': hex on standard input)
+compare buffer START,LENGTH.. HEX  parts of a buffer, read in one call ('-': hex on standard input)
 compare pair HEX HEX               a canonical input and another: where they differ, and whether that is seen
 compare text TEXT..                texts to addresses (text-hex HEX..: the text's octets)
 compare parts-hex HEX SSID         a callsign and an SSID to an address
@@ -172,6 +176,11 @@ fn lengths_of(text: &str) -> Vec<usize> {
     lengths
 }
 
+fn part_of(text: &str) -> Part {
+    let (start, length) = text.split_once(',').unwrap_or_else(|| refuse(&format!("'{}' is no START,LENGTH", text)));
+    Part { start: number(start) as usize, length: number(length) as usize }
+}
+
 fn octets(hex: &str) -> Vec<u8> {
     show::unhex(hex).unwrap_or_else(|problem| refuse(&problem))
 }
@@ -213,6 +222,9 @@ fn main() {
         ["frames"] | ["frames", "-"] => frames(None, &options),
         ["frames", file] => frames(Some(file), &options),
         ["one", hex] => status(single::one(&hex_argument(hex))),
+        ["buffer", ref parts @ .., hex] => {
+            status(single::buffer(&hex_argument(hex), &parts.iter().map(|part| part_of(part)).collect::<Vec<_>>()))
+        }
         ["pair", one, other] => status(single::pair(&octets(one), &octets(other))),
         ["text", ref texts @ ..] if !texts.is_empty() => status(single::each(texts, |t| single::text(t.as_bytes()))),
         ["text-hex", ref texts @ ..] if !texts.is_empty() => status(single::each(texts, |t| single::text(&octets(t)))),

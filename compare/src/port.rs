@@ -10,6 +10,7 @@ extern "C" {
     fn ax25_decode_old_capture(input: *const u8, input_len: usize) -> u32;
     fn ax25_canonical(input: *const u8, input_len: usize) -> u32;
     fn ax25_reason(input: *const u8, input_len: usize, mode: u32, number: *mut u32, place: *mut usize) -> u32;
+    fn ax25_captures(input: *const u8, input_len: usize, mode: u32, records: *mut CaptureRecord, count: usize);
     fn ax25_reencoded_length(input: *const u8, input_len: usize) -> usize;
     fn ax25_reencode(input: *const u8, input_len: usize, output: *mut u8, output_len: usize) -> u32;
     fn ax25_relay(callsign: *const u8, callsign_len: usize, ssid: u8, frame: *mut u8, frame_len: usize) -> u32;
@@ -132,6 +133,20 @@ pub struct Packet {
     pub length: usize,
 }
 
+/// C's `struct ax25_capture`.
+#[repr(C)]
+#[derive(Clone, Copy, PartialEq, Debug)]
+pub struct CaptureRecord {
+    pub start: usize,
+    pub length: usize,
+    pub number: u32,
+    pub canonical: u16,
+    pub kind: u16,
+}
+
+/// It has no padding.
+const _: () = assert!(std::mem::size_of::<CaptureRecord>() == 24);
+
 /// What one call of `ax25_kiss_feed` gave: how many octets it took, the packet, and its data where it is ready.
 #[derive(PartialEq)]
 pub struct Fed {
@@ -165,12 +180,20 @@ pub struct Port {
     second: Lent<u8>,
     output: Lent<u8>,
     sizes: Lent<usize>,
+    records: Lent<CaptureRecord>,
     fault: Option<&'static str>,
 }
 
 impl Port {
     pub fn new() -> Port {
-        Port { input: lent::octets(), second: lent::octets(), output: lent::octets(), sizes: lent::sizes(), fault: None }
+        Port {
+            input: lent::octets(),
+            second: lent::octets(),
+            output: lent::octets(),
+            sizes: lent::sizes(),
+            records: lent::records(),
+            fault: None,
+        }
     }
 
     /// The first fault since this was last asked: something was written that should not have been.
@@ -243,6 +266,21 @@ impl Port {
         self.see_input(input);
         self.see(number.holds() && place.holds(), "something beside the number or the place was written");
         Why { answer, number: number.item, place: place.item }
+    }
+
+    /// Fills these records, which are then in `records`.
+    pub fn captures(&mut self, buffer: &[u8], records: &[CaptureRecord]) {
+        self.input.hold(buffer);
+        self.records.hold(records);
+        unsafe { ax25_captures(self.input.ptr(), self.input.len(), SHORT, self.records.mut_ptr(), records.len()) };
+        self.see_input(buffer);
+        let holds = self.records.written_only(records.len());
+        self.see(holds, "something beside the records was written");
+    }
+
+    /// The records as the last call left them.
+    pub fn records(&self) -> &[CaptureRecord] {
+        self.records.items()
     }
 
     pub fn reencoded_length(&mut self, input: &[u8]) -> usize {
@@ -584,8 +622,12 @@ impl Port {
     }
 }
 
-/// The loader's calls as they are, for timing.
+/// The loader's calls as they are, for timing, and for a list of records that is too long to be copied.
 pub mod bare {
+    pub fn captures(buffer: &[u8], records: &mut [super::CaptureRecord]) {
+        unsafe { super::ax25_captures(buffer.as_ptr(), buffer.len(), super::SHORT, records.as_mut_ptr(), records.len()) }
+    }
+
     pub fn decode(input: &[u8]) -> u32 {
         unsafe { super::ax25_decode(input.as_ptr(), input.len()) }
     }

@@ -13,13 +13,19 @@ const STANDARD_ERROR: i32 = 2;
 #[derive(Clone, Copy, PartialEq)]
 pub enum Part {
     Frames,
+    OneCall,
     Beside,
     Packets,
     Log,
 }
 
-const PARTS: [(Part, &str); 4] =
-    [(Part::Frames, "frames compared"), (Part::Beside, "beside one another"), (Part::Packets, "KISS packets"), (Part::Log, "octets of KISS logs")];
+const PARTS: [(Part, &str); 5] = [
+    (Part::Frames, "frames compared"),
+    (Part::OneCall, "in one call"),
+    (Part::Beside, "beside one another"),
+    (Part::Packets, "KISS packets"),
+    (Part::Log, "octets of KISS logs"),
+];
 
 #[derive(Default)]
 pub struct Progress(Option<Said>);

@@ -3,7 +3,7 @@
 use crate::check::Difference;
 use crate::differences::Differences;
 use crate::progress::Progress;
-use crate::seen::{Seen, Spellings};
+use crate::seen::{Records, Seen, Spellings};
 use crate::show;
 use std::io::Write;
 
@@ -166,6 +166,8 @@ pub fn totals(report: &mut Report, seen: &Seen) {
     println!("kinds accepted: {}; canonical: {} of {}", said.join(", "), seen.spellings.canonical, seen.spellings.accepted);
     let said: Vec<String> = seen.spellings.reasons().iter().map(|(reason, count)| format!("{}: {}", reason, count)).collect();
     println!("not canonical, by reason: {}", said.join(", "));
+    let records = &seen.parts.records;
+    println!("records filled by one call over many parts: {}; not inside: {}", filled_words(records), records.not_inside);
     let rooms = seen.room_counts();
     let said: Vec<String> = rooms.iter().map(|(room, count)| format!("{}: {}", room, count)).collect();
     println!("room lent to writers: {}", said.join(", "));
@@ -185,6 +187,7 @@ pub fn totals(report: &mut Report, seen: &Seen) {
     let of_streams = [("streams", streams.streams), ("octets", streams.octets), ("packets", streams.given), ("dropped", streams.dropped)];
     report.extra("kiss_streams", counts(of_streams.into_iter().map(|(name, count)| (name.to_string(), count))));
     report.extra("kinds", counts(kinds.iter().map(|(kind, count)| (kind.to_string(), *count))));
+    report.extra("records", object(&[&filled(records)[..], &[("not_inside", records.not_inside.to_string())]].concat()));
     report.extra("rooms", counts(rooms.iter().map(|(room, count)| (room.to_string(), *count))));
     report.extra("listed", counts(seen.listed_counts().into_iter().map(|(number, _, count)| (number, count))));
 }
@@ -210,6 +213,18 @@ pub fn told_apart(report: &mut Report, seen: &Seen) {
 /// How many inputs were accepted and canonical, and the others by reason, for the JSON.
 pub fn spelled(spellings: &Spellings) -> [(&'static str, String); 3] {
     [("accepted", spellings.accepted.to_string()), ("canonical", spellings.canonical.to_string()), ("reasons", named(&spellings.reasons()))]
+}
+
+/// How many records `ax25_captures` filled, and in how many calls; how many of their parts are refused, and the others by kind.
+pub fn filled(records: &Records) -> [(&'static str, String); 4] {
+    let counts = [("calls", records.calls), ("records", records.records), ("refused", records.refused)];
+    let [calls, all, refused] = counts.map(|(name, count)| (name, count.to_string()));
+    [calls, all, refused, ("kinds", named(&records.kinds()))]
+}
+
+pub fn filled_words(records: &Records) -> String {
+    let kinds: Vec<String> = records.kinds().iter().map(|(kind, count)| format!("{}: {}", kind, count)).collect();
+    format!("{} in {} calls; {}; refused: {}", records.records, records.calls, kinds.join(", "), records.refused)
 }
 
 fn named(outcomes: &[(&str, u64)]) -> String {

@@ -7,6 +7,7 @@ use crate::kiss::{self, FEND, FESC, LONGEST, PORTS, TFEND, TFESC};
 use crate::lent::{Room, ROOMS};
 use crate::oracle::Decode;
 use crate::pairs::{Outcome, Way, OUTCOMES, WAYS};
+use crate::parts::{Call, Filled, Inside, Outside, INSIDES, NOT_INSIDE, OUTSIDES};
 use crate::port::State;
 use crate::reasons::{self, Reason, REASONS};
 use crate::relays::Own;
@@ -493,6 +494,98 @@ impl Reasons {
     }
 }
 
+/// The kinds that are read: all but the last.
+const READ: usize = UNKNOWN_CONTENT as usize;
+
+/// How many records `ax25_captures` was to fill, in how many calls: parts that are not inside, refused parts, and the others by kind.
+#[derive(Clone, Copy, Default)]
+pub struct Records {
+    pub calls: u64,
+    pub records: u64,
+    pub not_inside: u64,
+    pub refused: u64,
+    kinds: [u64; READ],
+}
+
+impl Records {
+    pub fn count(&mut self, owed: &Filled) {
+        self.records += 1;
+        match owed.number {
+            0 => self.kinds[usize::from(owed.kind)] += 1,
+            NOT_INSIDE => self.not_inside += 1,
+            _ => self.refused += 1,
+        }
+    }
+
+    pub fn add(&mut self, other: &Records) {
+        self.calls += other.calls;
+        self.records += other.records;
+        self.not_inside += other.not_inside;
+        self.refused += other.refused;
+        self.kinds.iter_mut().zip(other.kinds).for_each(|(count, more)| *count += more);
+    }
+
+    pub fn kinds(&self) -> Vec<(&'static str, u64)> {
+        KINDS.iter().copied().zip(self.kinds).collect()
+    }
+}
+
+/// What of `ax25_captures` was met (document 02, M-111).
+#[derive(Default)]
+pub struct Parts {
+    pub records: Records,
+    /// Decoded inputs that became parts.
+    pub inputs: u64,
+    /// Calls with no record, with one, with two and with more.
+    calls: [u64; 4],
+    /// Refused parts by number; accepted ones by kind, not canonical and canonical.
+    numbers: [u64; BY_NUMBER],
+    spelled: [[u64; 2]; READ],
+    outside: [u64; OUTSIDES.len()],
+    inside: [u64; INSIDES.len()],
+    /// A record by its kind, or by being refused, the last case, and by that of the record before it.
+    behind: [[u64; READ + 1]; READ + 1],
+}
+
+impl Parts {
+    /// A call, and what its records owe.
+    pub fn call(&mut self, call: &Call) {
+        self.records.calls += 1;
+        self.calls[call.parts.len().min(3)] += 1;
+        let mut before = None;
+        for (part, owed) in &call.parts {
+            self.records.count(owed);
+            let case = if owed.number == 0 { usize::from(owed.kind) } else { READ };
+            if let Some(before) = before.replace(case) {
+                self.behind[before][case] += 1;
+            }
+            if owed.number == NOT_INSIDE {
+                self.outside[Outside::of(part, call.buffer.len()) as usize] += 1;
+                continue;
+            }
+            self.inside[Inside::of(part, call.buffer.len()) as usize] += 1;
+            match owed.number {
+                0 => self.spelled[case][usize::from(owed.canonical)] += 1,
+                number => count(&mut self.numbers, number as usize),
+            }
+        }
+    }
+
+    fn missing(&self, missing: &mut Missing) {
+        missing.cases("one call over no part, one, two, more: case", &self.calls);
+        missing.numbers("one call over many parts, number", &DECODE_NUMBERS[1..], &self.numbers);
+        for (kind, spelled) in KINDS.iter().zip(&self.spelled) {
+            missing.cases(&format!("one call over many parts, {} that is not canonical, canonical: case", kind), spelled);
+        }
+        missing.named("one call over many parts, not inside", OUTSIDES.iter().map(|(_, name)| name), &self.outside);
+        missing.named("one call over many parts, inside", INSIDES.iter().map(|(_, name)| name), &self.inside);
+        let names = || KINDS[..READ].iter().chain(&["refused"]);
+        for (before, cases) in names().zip(&self.behind) {
+            missing.named(&format!("one call over many parts, behind {}", before), names(), cases);
+        }
+    }
+}
+
 /// What a bit of a canonical frame is part of.
 #[derive(Clone, Copy)]
 enum Part {
@@ -656,6 +749,7 @@ pub struct Seen {
     pub writes: u64,
     pub spellings: Spellings,
     reasons: Reasons,
+    pub parts: Parts,
     decode_numbers: [u64; TABLE],
     write_numbers: [u64; TABLE],
     text_numbers: [u64; TABLE],
@@ -789,6 +883,7 @@ impl Seen {
             writes: 0,
             spellings: Spellings::default(),
             reasons: Reasons::default(),
+            parts: Parts::default(),
             decode_numbers: [0; TABLE],
             write_numbers: [0; TABLE],
             text_numbers: [0; TABLE],
@@ -1199,6 +1294,7 @@ impl Seen {
             ("content alone", of(&self.content_numbers)),
             ("writing side by side", of(&self.beside_numbers)),
             ("relay", of(&self.relay_numbers)),
+            ("one call over many parts", self.parts.numbers[NEVER as usize]),
         ];
         counts.iter().filter(|(_, count)| *count > 0).map(|(what, count)| format!("{}, number {}: {} times", what, NEVER, count)).collect()
     }
@@ -1219,6 +1315,10 @@ impl Seen {
         missing.cases("repeaters read,", &self.routes);
         missing.cases("accepted by reason, case", &self.spellings.reasons);
         self.reasons.missing(&mut missing);
+        self.parts.missing(&mut missing);
+        if self.parts.inputs != self.decodes {
+            missing.0.push(format!("one call over many parts, {} of {} decoded inputs", self.decodes.abs_diff(self.parts.inputs), self.decodes));
+        }
         missing.cases("listed difference, case", &self.listed);
         missing.cases("text outside ASCII that the Rust refuses or accepts, case", &self.wide);
         missing.cases("hops used,", &self.hops_used);
@@ -1374,6 +1474,11 @@ impl Missing {
     fn cases(&mut self, what: &str, table: &[u64]) {
         let absent = table.iter().enumerate().filter(|(_, &count)| count == 0);
         self.0.extend(absent.map(|(case, _)| format!("{} {}", what, case)));
+    }
+
+    fn named<'a>(&mut self, what: &str, names: impl Iterator<Item = &'a &'a str>, table: &[u64]) {
+        let absent = names.zip(table).filter(|(_, &count)| count == 0);
+        self.0.extend(absent.map(|(name, _)| format!("{}: {}", what, name)));
     }
 
     fn octets(&mut self, what: &str, table: &Octets, needed: impl Fn(u8) -> bool) {

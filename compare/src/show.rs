@@ -4,7 +4,7 @@ use crate::check::Both;
 use crate::flat::*;
 use crate::kiss;
 use crate::oracle;
-use crate::port::{Fed, State};
+use crate::port::{CaptureRecord, Fed, State};
 use crate::reasons::{Why, REASONS, REFUSED};
 
 pub fn hex(octets: &[u8]) -> String {
@@ -91,6 +91,13 @@ pub fn why(why: &Why) -> String {
         answer => REASONS.get(answer as usize).map_or("another", |(_, word)| word),
     };
     format!("reason {} ({}) number {} place {}", word, why.answer, number(why.number), why.place)
+}
+
+/// A record of `ax25_captures`.
+pub fn capture_record(record: &CaptureRecord) -> String {
+    let CaptureRecord { start, length, canonical, kind, .. } = record;
+    let name = KINDS[..usize::from(UNKNOWN_CONTENT)].get(usize::from(*kind)).unwrap_or(&"none");
+    format!("start {} length {} number {} canonical {} kind {} ({})", start, length, number(record.number), canonical, name, kind)
 }
 
 /// Octets that a call leaves in a lent buffer: a record and an address by name.

@@ -7,7 +7,8 @@ use crate::inputs;
 use crate::kiss;
 use crate::oracle;
 use crate::pairs::Way;
-use crate::port::{Entry, Port, FRESH, HOPS, PLACES};
+use crate::parts::{Call, Part};
+use crate::port::{CaptureRecord, Entry, Port, FRESH, HOPS, PLACES};
 use crate::relays::Own;
 use crate::show;
 use crate::streams;
@@ -125,6 +126,27 @@ fn show_port(checker: &mut Checker, input: &[u8]) {
     let octets = show::hex(port.output());
     println!("port: decode {} canonical {} re-encoded length {}; re-encode into {}: {} octets {}", number, canonical, length, room, answer, octets);
     println!("port: {}", show::why(&port.reason(input)));
+    show_records(port, input, &[Part { start: 0, length: input.len() }]);
+}
+
+fn show_records(port: &mut Port, buffer: &[u8], parts: &[Part]) {
+    let record = |part: &Part| CaptureRecord { start: part.start, length: part.length, number: 0, canonical: 0, kind: 0 };
+    port.captures(buffer, &parts.iter().map(record).collect::<Vec<_>>());
+    port.records().iter().for_each(|record| println!("port: record: {}", show::capture_record(record)));
+}
+
+/// How often the same call is made: each time the records hold something else before it.
+const FILLS: usize = 16;
+
+/// Parts of a buffer, read in one call.
+pub fn buffer(buffer: &[u8], parts: &[Part]) -> bool {
+    println!("buffer: {} octets: {}", buffer.len(), show::hex(buffer));
+    let mut checker = Checker::thorough();
+    show_records(&mut checker.port, buffer, parts);
+    let parts = parts.iter().map(|part| (*part, checker.owed_of_part(buffer, part))).collect();
+    let call = Call { buffer: buffer.to_vec(), parts };
+    let found = (0..FILLS).map(|_| checker.call(&call)).find(|found| !found.is_empty()).unwrap_or_default();
+    verdict(found.into_iter().flat_map(|(_, found)| found).collect())
 }
 
 /// What the last call left in the output.

@@ -76,9 +76,25 @@ def agree(work):
         near = [cell for cell in page.texts + marked if cell[:8] == text[:8]]
         check(f'{what} stands in both pages as it is', text in page.texts and text in marked, near)
     bars = {line.count('|') for line in markdown.split('\n') if line.startswith('| ') and '/tmp/a' in line}
-    equal('the row of the odd name has as many cells as its head', bars, {9})
+    equal('the rows of the odd name have as many cells as the heads of their tables, eight, and five of what one call reads', bars, {9, 6})
     says(made, page, markdown)
     met(page)
+    wrong_record(work)
+
+
+def wrong_record(work):
+    """A record that one call filled otherwise than it owes, as the comparison tells of it (compare/faults has it do so)."""
+    results = Results(work)
+    owed, port = (f'start 18 length 15 number 0 canonical 1 kind {kind}' for kind in ('RR (1)', 'RNR (2)'))
+    differs = {'class': 'frames of x.hex (hex lines) in one call', 'input': f'line 2: {FIELD}01', 'again': "compare captures 'x.hex'",
+               'differences': [{'what': 'the record', 'owed': owed, 'port': port}]}
+    results.captures.update(mismatches=1, mismatches_shown=[differs], mismatches_written=1)
+    made = results.made()
+    equal('a record that one call filled otherwise is a difference on captures, which then do not hold',
+          (made['verdict']['status'], [part['part'] for part in made['verdict']['parts'] if not part['holds']]), (1, ['captures']))
+    text = html.unescape(results.page('md'))
+    words = ('1 difference on captures:', differs['class'], f'  input: line 2: {FIELD}01', f'    owed: {owed}', f'    port: {port}')
+    check('and both pages show it with its octets', all(word in page for page in (text, html.unescape(results.page('html'))) for word in words))
 
 
 def alone(text, page):
@@ -114,7 +130,9 @@ def says(made, page, markdown):
                   '| UI | decode | 9.0 |', '| ax25_decode | 88 |', '| two | 4 | 2 |', 'valgrind: it is not on this host',
                   'by programs alone: read, write', 'one | doubt', '| file | refused | accepted | canonical | leftover | marks | tail | fixed |',
                   ' | 1 | 2 | 1 | 0 | 0 | 1 | 0 |', '| all | 2 | 7 | 4 | 0 | 2 | 1 | 0 |',
-                  '- marks: it is marked neither as a command nor as a response\n'):
+                  '- marks: it is marked neither as a command nor as a response\n',
+                  '12 parts of buffers read by 3 calls of ax25_captures: 4 of them refused, 1 not inside the buffer.',
+                  '| file | calls | records | refused | kinds |', ' | 1 | 3 | 1 | RR 1, UI 1 |', '| all | 1 | 9 | 2 | UI 7 |'):
         check(f'the report says: {words.strip()}', words in every)
 
 
@@ -130,7 +148,7 @@ def met(page):
 
 
 # Fields whose names are what they are about, and those that are told of as a whole.
-FREE = ('rust_crate.files', 'delivered', 'stack')
+FREE = ('rust_crate.files', 'delivered', 'stack', 'captures[].in_one_call.kinds')
 WHOLE = ('compared', 'captures_compared', 'differences.test', 'differences.captures')
 
 
@@ -198,6 +216,8 @@ def real(work):
     page, made = of_captures(work, [f'{work}/without.hex'])
     check('of frames without leading nulls, and of a null alone, it says that none had any', '- None of 2 frames had leading nulls.\n' in page)
     equal('and of frames that are all refused, that none has a reason', made['captures'][0]['reasons'], dict.fromkeys(MEANINGS, 0))
+    equal('nor a kind', (made['captures'][0]['in_one_call'], called_on(page, 'without.hex')),
+          ({'calls': 1, 'records': 2, 'refused': 2, 'kinds': dict.fromkeys(KINDS, 0)}, ['1', '2', '2', 'none']))
     page, _ = of_captures(work, [f'{samples}/frames.hex'], lambda part: part.update(mismatches=1))
     words = (f'- {nulls} of {count} frames had leading nulls: what the decoder and the entry for old captures make of them was compared, and '
              'something above differs.\n')
@@ -238,6 +258,10 @@ SMALL = {
 }
 # How many frames of tests/captures/frames.hex are accepted.
 LISTED = {'canonical': 60, 'leftover': 3, 'marks': 2, 'tail': 5, 'fixed': 1}
+# The kinds of both's accepted frames, by their control octets.
+KINDS = ('I', 'RR', 'RNR', 'REJ', 'SREJ', 'SABM', 'SABME', 'DISC', 'DM', 'UA', 'FRMR', 'UI', 'XID', 'TEST')
+SMALL_KINDS = {'RR': 6, 'SABME': 2, 'FRMR': 4, 'UI': 2, 'XID': 1, 'TEST': 1}
+LISTED_KINDS = dict(zip(KINDS, (4, 11, 1, 1, 3, 3, 3, 2, 2, 3, 3, 30, 3, 2)))
 
 
 def of_reasons(work, listed, count):
@@ -261,6 +285,27 @@ def of_reasons(work, listed, count):
     sums['reasons'] = {word: sum(capture['reasons'][word] for capture in captures) for word in MEANINGS}
     equal('and what all of them come to is the sum', spelled(made['captures_compared']), sums)
     equal('which the page has too', spelled_on(page, 'all'), spelled_row(sum(capture['frames'] for capture in captures), sums))
+    of_kinds(page, made)
+
+
+def of_kinds(page, made):
+    """The same captures as one call reads each of them."""
+    small, listed, changed = captures = made['captures']
+    for name, capture, kinds in (('small.hex', small, SMALL_KINDS), ('frames.hex', listed, LISTED_KINDS)):
+        owed = {'calls': 1, 'records': capture['frames'], 'refused': capture['frames'] - sum(kinds.values()),
+                'kinds': {kind: kinds.get(kind, 0) for kind in KINDS}}
+        equal(f'of {name} the JSON counts the frames that one call reads, by kind', capture['in_one_call'], owed)
+    counts = changed['in_one_call']
+    equal('of each bit changed alone the kinds add up to what is accepted, and the others are refused',
+          (sum(counts['kinds'].values()), counts['refused'], counts['records']),
+          (changed['accepted'], changed['frames'] - changed['accepted'], changed['frames']))
+    total = made['captures_compared']['in_one_call']
+    sums = {what: sum(capture['in_one_call'][what] for capture in captures) for what in ('calls', 'records', 'refused')}
+    sums['kinds'] = {kind: sum(capture['in_one_call']['kinds'][kind] for capture in captures) for kind in KINDS}
+    equal('and what all of them come to is the sum', total, sums)
+    for name, counts in [(os.path.basename(capture['file']), capture['in_one_call']) for capture in captures] + [('all', total)]:
+        words = ', '.join(f'{kind} {count:,}' for kind, count in counts['kinds'].items() if count)
+        equal(f'the page has these of {name}', called_on(page, name), [f"{counts[what]:,}" for what in ('calls', 'records', 'refused')] + [words])
 
 
 def spelled(counts):
@@ -273,5 +318,14 @@ def spelled_row(frames, counts):
 
 def spelled_on(page, name):
     """What the page's table of reasons has behind the name of a file."""
-    [row] = table_rows(page.partition('\n## Frames that are not canonical\n')[2].partition('\n## ')[0], rf'(?:`.*/)?{re.escape(name)}`?')
+    return row_of(page, 'Frames that are not canonical', name)
+
+
+def called_on(page, name):
+    """The same of its table of what one call reads."""
+    return row_of(page, 'Frames read in one call', name)
+
+
+def row_of(page, heading, name):
+    [row] = table_rows(page.partition(f'\n## {heading}\n')[2].partition('\n## ')[0], rf'(?:`.*/)?{re.escape(name)}`?')
     return row[1:]

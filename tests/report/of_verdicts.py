@@ -74,6 +74,8 @@ def verdicts(work):
     fails('a capture that changed meanwhile', 'captures', 'not what was looked over',
           lambda results: results.captures['captures'][0].update(sha256='00'))
     fails('a capture that was left out', 'captures', 'not what was looked over', put('captures', 'captures', []))
+    fails('a frame that was not read with the others', 'captures', 'call over many frames did not read all of 1 capture',
+          lambda results: results.captures['captures'][0]['in_one_call'].update(records=2))
     fails('no capture', 'captures', 'no capture is told of', put('checked', 'captures', []), put('captures', 'captures', []))
     comes_to('a changed tree', verdict.CHANGED, 3, 'sources', 'crates/one/x.rt (changed)', changed)
     comes_to('a tree without git', verdict.UNKNOWN, 3, 'sources', 'no git repository',

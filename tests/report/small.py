@@ -69,9 +69,11 @@ for line in open(words[1], encoding='utf-8'):
     kind, *fields = line.rstrip('\n').split('\t')
     if kind == 'capture':
         part['captures'].append({'file': fields[0], 'format': fields[1], 'frames': 0, 'packets': 0, 'passed_over': [],
-                                 'accepted': 0, 'canonical': 0, 'reasons': dict.fromkeys(part['reasons'], 0)})
+                                 'accepted': 0, 'canonical': 0, 'reasons': dict.fromkeys(part['reasons'], 0),
+                                 'in_one_call': {'calls': 1, 'records': 0, 'refused': 0, 'kinds': {}}})
     elif kind in ('frame', 'packet'):
         part['captures'][-1][kind + 's'] += 1
+        part['captures'][-1]['in_one_call']['records'] += kind == 'frame'
     elif kind == 'end':
         part['captures'][-1].update(sha256=fields[0], octets=int(fields[1]))
 json.dump(part, open(leave, 'w'))
