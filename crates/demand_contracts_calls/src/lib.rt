@@ -1,4 +1,7 @@
-// The demands on the calls that C links, in the short mode but for the reason's, as contracts of the code, as in `demand_contracts_frames`.
+// The demands on the calls that C links, in the short mode but for the reason's and those on captures, as contracts of the code, as in
+// `demand_contracts_frames`.
+use captures::CaptureRecord;
+use control::Mode;
 ghost use mathlib.Core.Path.{_≡_};
 ghost use mathlib.Core.Bool.{true, false};
 ghost use mathlib.Core.Logic.{_↔_};
@@ -15,6 +18,7 @@ ghost use Rattle.octets.specs.Table.{FirstRow};
 ghost use Rattle.demands.specs.Numbers.{decodeTable};
 ghost use Rattle.octets.specs.Lent.{starting};
 ghost use Rattle.demands.specs.OneSpelling.{Spelled, Respelled};
+ghost use Rattle.demands.specs.Captures.{Ended};
 ghost use Rattle.demands.specs.Relay.{relayRows, badStation, Relayed};
 ghost use Rattle.relay.specs.Relay.{stationOf, relayedAs};
 
@@ -55,6 +59,13 @@ pub fn told(input: &[u8], mode: u32, number: &mut u32, place: &mut usize) -> u32
     ensures { λ r. ⌜ (r ≡ codeOf (whyOf (modeOf mode) (now (input .entry)) .reason)) × (now (place .exit) ≡ whyOf (modeOf mode) (now (input .entry)) .place) ⌝ }
 {
     loader::ax25_reason(input, mode, number, place)
+}
+
+// Document 02, M-111: how one record ends. `ax25_captures` promises the list of its records, each so.
+pub fn captured(mode: Mode, input: &[u8], capture: CaptureRecord) -> CaptureRecord
+    ensures { λ r. ⌜ Ended mode (now (input .entry)) capture r ⌝ }
+{
+    captures::filled(mode, input, capture)
 }
 
 // How many octets the respelling has; 0 where the input is refused.

@@ -9,3 +9,4 @@ pub mod Unseen
 pub mod Old
 pub mod Modes
 pub mod Reasons
+pub mod Captures

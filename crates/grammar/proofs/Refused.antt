@@ -35,7 +35,7 @@ made-kind : (mode : Mode) (s : List ℕ) (a : Accepts mode s (decode mode s)) �
 unfolding acceptedWith frameAt
 made-kind mode s a = ap (λ (d : Decoded). d .frame .content) (a .made)
 
-default-known : defaultFrame .content ≡ kind.UnknownContent → ⊥
+pub default-known : defaultFrame .content ≡ kind.UnknownContent → ⊥
 unfolding defaultFrame simpleUi
 default-known u = let z : _≡_ {A = ℕ} 0 1 = cc u in omega arith
 
