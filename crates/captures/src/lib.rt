@@ -61,7 +61,7 @@ fn default_kind() -> u16
     kind_of(content)
 }
 
-// The kind of the frame that an outline tells of.
+// The kind of the frame that an outline tells of, where it is refused the default one.
 fn kind_by(mode: Mode, part: &[u8], outline: Outline) -> u16
     requires { ⌜ outline ≡ outlineOf mode (now part) ⌝ }
     ensures { λ r. ⌜ r ≡ kindOf (decode mode (now (part .entry)) .frame .content) ⌝ }
@@ -73,6 +73,7 @@ fn kind_by(mode: Mode, part: &[u8], outline: Outline) -> u16
     let control = outline.end + 1;
     let read = parse::parse_content(mode, &part[control..]);
     let ContentAnswer::Accepted(content) = read else {
+        // Never: the outline has seen that the content is accepted.
         return default_kind();
     };
     kind_of(content)
@@ -86,7 +87,7 @@ fn one_if_none(reason: Reason) -> u16
     if code == 0 { 1 } else { 0 }
 }
 
-// The record of a part that is inside: all three answers from one look at its octets.
+// The record of a part that is inside, with all three answers from one look at its octets.
 fn answered(mode: Mode, input: &[u8], capture: CaptureRecord) -> CaptureRecord
     requires { ⌜ isInside (length (now input)) capture ≡ true ⌝ }
     ensures { λ r. ⌜ r ≡ answered mode (partOf (now (input .entry)) capture) capture ⌝ }
@@ -126,7 +127,7 @@ fn is_inside(len: usize, capture: CaptureRecord) -> bool
     capture.start <= len && capture.length <= len - capture.start
 }
 
-// One record, filled.
+// One record, filled for its part of the input.
 pub fn filled(mode: Mode, input: &[u8], capture: CaptureRecord) -> CaptureRecord
     ensures { λ r. ⌜ r ≡ filled mode (now (input .entry)) capture ⌝ }
 {
@@ -136,7 +137,7 @@ pub fn filled(mode: Mode, input: &[u8], capture: CaptureRecord) -> CaptureRecord
     answered(mode, input, capture)
 }
 
-// All of them, in their order and where they lie.
+// All records, where they lie: each by itself, in their order.
 pub fn fill(mode: Mode, input: &[u8], records: &mut [CaptureRecord])
     ensures { λ _. ⌜ now (records .exit) ≡ filledAll mode (now (input .entry)) (now (records .entry)) ⌝ }
 {

@@ -1,8 +1,8 @@
 -- Document 02, M-111, proved; the settled cases compute.
-use Prim.Native.Nat.{ℕ, _<_}
+use Prim.Native.Nat.{ℕ}
 use mathlib.Core.Path.{_≡_, refl, sym, subst}
 use mathlib.Core.List.{List, map}
-use lib.ListN.{length, getD}
+use lib.ListN.{getD}
 use Rattle.octets.specs.First.{first}
 use Rattle.octets.specs.Same.{same}
 use Rattle.protocol.specs.Pid.{among, pidOf}

@@ -5,7 +5,6 @@ use mathlib.Core.Bool.{cond}
 use mathlib.Core.List.{List, [], _∷_, _++_}
 use lib.ListN.{length, getD}
 use Rattle.control.specs.declared.Mode.{Mode}
-use Rattle.control.specs.declared.Mode.the-variants.{Short, Long}
 use Rattle.frame.specs.Frame.{defaultFrame}
 use Rattle.decode.specs.Answer.{numberOf}
 use Rattle.decode.specs.Read.{decode}

@@ -37,7 +37,7 @@ acceptedReason m s end = firstOf (isLeftover end) (isUnmarked s) (hasTail m (dro
 unfoldable pub reasonOf : Mode → List ℕ → Reason
 reasonOf m s = cond (isAccepted (decode m s .answer)) (acceptedReason m s (endOf s)) Refused
 
--- beside the outline
+-- the reason beside the outline that it is told by, for who goes on from both
 abbrev pub judgedOf : Mode → List ℕ → Judged
 judgedOf m s = record { outline = outlineOf m s; reason = reasonOf m s }
 

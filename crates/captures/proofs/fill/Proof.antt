@@ -3,7 +3,7 @@
 -- (`after`). A turn takes a record out of the row, hands a copy of it to `filled`, stores what that gives in its place, and puts it back.
 -- Of `filled` nothing is known but its contract.
 use mathlib.Core.Path.{_≡_, refl, sym, _∙_, ap, subst}
-use Prim.Native.Nat.{ℕ, suc, _+_, _-_, _*_, _<_, _≤_, _^_}
+use Prim.Native.Nat.{ℕ, _+_, _-_, _*_, _<_, _^_}
 use native.Mathlib.Numerals.{add-one}
 use native.Mathlib.Omega.{arith}
 use mathlib.Core.Bool.{Bool, true, false}
