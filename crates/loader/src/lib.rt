@@ -1,4 +1,5 @@
-// The calls that C links, all in the short mode but for `ax25_reason`, which takes the mode. A slice is a pointer and a length there; include/ax25.h says what the caller owes.
+// The calls that C links, all in the short mode but for `ax25_reason` and `ax25_captures`, which take the mode. A slice is a pointer and a
+// length there; include/ax25.h says what the caller owes.
 use captures::CaptureRecord;
 use control::Mode;
 use kiss_state::Stream;

@@ -1,4 +1,4 @@
--- The one function over a lent slice of structs, and so walked by hand, statement by statement of what it compiles to. The records are
+-- Over a lent slice of structs, and so walked by hand, statement by statement of what it compiles to. The records are
 -- opened once, before the loop, and closed once, behind it. In between they are a row, of which so many are filled as there were turns
 -- (`after`). A turn takes a record out of the row, hands a copy of it to `filled`, stores what that gives in its place, and puts it back.
 -- Of `filled` nothing is known but its contract.

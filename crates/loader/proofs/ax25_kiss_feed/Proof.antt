@@ -1,5 +1,5 @@
--- The one function over lent structs, and so the one that is walked by hand, statement by statement of what it compiles to. The state
--- that is lent is opened and taken apart into its data and its numbers (`Apart`). The data is lent on to `kiss_stream::feed` where it
+-- Over lent structs, and so walked by hand, statement by statement of what it compiles to. The state that is lent
+-- is opened and taken apart into its data and its numbers (`Apart`). The data is lent on to `kiss_stream::feed` where it
 -- lies, for a lifetime of that call, and comes back; the numbers that it gave are stored, and the state is put together and closed. Then
 -- the packet is opened, stored to and closed. Of `feed` nothing is known but its contract.
 use mathlib.Core.Path.{_≡_, refl, ap, subst}
