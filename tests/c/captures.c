@@ -4,25 +4,15 @@
 #include <string.h>
 
 #include "ax25.h"
-#include "callsigns.h"
 #include "draw.h"
 #include "examine.h"
+#include "fields.h"
 #include "layout.h"
 #include "lent.h"
 #include "say.h"
 #include "sets.h"
 
 #define COUNT(list) (sizeof(list) / sizeof *(list))
-
-/* Document 01's 14 address octets; the same without a mark, with both, and with one octet left over. */
-#define PEERS GAUGE "E0 " BOX12 "67 "
-#define UNMARKED GAUGE "60 " BOX12 "67 "
-#define TWICE_MARKED GAUGE "E0 " BOX12 "E7 "
-#define LEFT_OVER GAUGE "E0 " BOX12 "66 61 "
-/* The address octets with the repeater HILL1-2, and with nine of it. */
-#define ROUTED GAUGE "E0 " BOX12 "66 " HILL1 "65 "
-#define FOUR HILL1 "64 " HILL1 "64 " HILL1 "64 " HILL1 "64 "
-#define NINE GAUGE "E0 " BOX12 "66 " FOUR FOUR HILL1 "65 "
 
 /* A frame of a kind that is canonical, one that is not, and a part that is refused. */
 #define PLAIN_FRAME(kind) {0, 1, AX25_KIND_##kind}

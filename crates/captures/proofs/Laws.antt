@@ -1,12 +1,12 @@
 -- When a part is inside, by tests that form no sum; what is filled, field by field and record by record.
 use Prim.Native.Nat.{ℕ, zero, suc, _+_, _-_, _≤_, _<_}
-use mathlib.Core.Path.{_≡_, refl, ap, sym, _∙_}
+use mathlib.Core.Path.{_≡_, refl, sym, _∙_}
 use mathlib.Core.Bool.{true, false, cond}
 use mathlib.Core.List.{List, [], _∷_}
 use native.Mathlib.Omega.{arith}
 use borrow.Author.Tests.{leb-true, leb-false, le-leb, lt-leb}
 use lib.Dec.{leb}
-use lib.ListN.{length, getD}
+use lib.ListN.{length, length-map, getD}
 use Rattle.octets.proofs.Choice.{by}
 use Rattle.control.specs.declared.Mode.{Mode}
 use Rattle.content.specs.declared.FrameContent.{FrameContent}
@@ -80,8 +80,7 @@ module _ (m : Mode) (s : List ℕ) (r : CaptureRecord) where
 module _ (m : Mode) (s : List ℕ) where
   pub filled-length : (rs : List CaptureRecord) → length (filledAll m s rs) ≡ length rs
   unfolding filledAll
-  filled-length [] = refl
-  filled-length (r ∷ rs) = ap suc (filled-length rs)
+  filled-length rs = length-map rs (filled m s)
 
   pub filled-at : (rs : List CaptureRecord) (i : ℕ) (d : CaptureRecord) → i < length rs → getD (filledAll m s rs) i d ≡ filled m s (getD rs i d)
   unfolding filledAll

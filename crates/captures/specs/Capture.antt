@@ -13,7 +13,8 @@ use Rattle.decode.specs.Read.{decode}
 use Rattle.spelling.specs.Canonical.{canonical}
 use Rattle.captures.specs.declared.CaptureRecord.{CaptureRecord}
 
--- the number of each kind. The last is that of no input: none decodes to `UnknownContent`
+-- the number of each kind, as include/ax25.h has them, in the order of the kinds. The last is that of no input: none decodes to
+-- `UnknownContent`
 abbrev pub kindOf : FrameContent → ℕ
 kindOf (kind.Information k) = 0
 kindOf (kind.ReceiveReady k) = 1
@@ -48,9 +49,11 @@ outside r = withAnswers r 61 false (defaultFrame .content)
 unfoldable pub isInside : ℕ → CaptureRecord → Bool
 isInside len r = leb (r .start + r .length) len
 
+-- a part: so many octets of the buffer, from its start on
 abbrev pub partOf : List ℕ → CaptureRecord → List ℕ
 partOf s r = take (r .length) (drop (r .start) s)
 
+-- one record, by its own part
 unfoldable pub filled : Mode → List ℕ → CaptureRecord → CaptureRecord
 filled m s r = cond (isInside (length s) r) (answered m (partOf s r) r) (outside r)
 

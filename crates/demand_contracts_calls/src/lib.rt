@@ -1,4 +1,4 @@
-// The demands on the calls that C links, in the short mode but for the reason's and those on captures, as contracts of the code, as in
+// The demands on the calls that C links, in the short mode but for the reason's and the one on captures, as contracts of the code, as in
 // `demand_contracts_frames`.
 use captures::CaptureRecord;
 use control::Mode;

@@ -29,7 +29,7 @@ pub record Ended (m : Mode) (s : List ℕ) (before after : CaptureRecord) : Type
       → (after .number ≡ 61) × (after .canonical ≡ 0) × (after .kind ≡ kindOf (defaultFrame .content))
   pub named : after .kind < 14
 
--- all records of a call: as many as before, in their order; the last argument is what stands beyond both lists
+-- all records of a call: as many as before, in their order; d is what `getD` gives beyond the end, where nothing is asked of it
 abbrev pub AllEnded : Mode → List ℕ → List CaptureRecord → List CaptureRecord → Type 0
 AllEnded m s before after =
     (length after ≡ length before) × ((i : ℕ) (d : CaptureRecord) → i < length before → Ended m s (getD before i d) (getD after i d))
