@@ -1,5 +1,7 @@
 // The address of a station: a callsign, a numeric SSID and the reserved bits. The crate `group` has its seven octets, `printing` and `text`
 // its text.
+#![tactic(auto)]
+
 ghost use Rattle.std.specs.Prelude.{◌≡◌};
 ghost use Rattle.octets.specs.All.{all};
 ghost use Rattle.address.specs.Address.{low, no_call, encodable};
@@ -10,7 +12,7 @@ pub const RESERVED_ONES: u8 = 3;
 // A source, destination or repeater. The callsign is padded at its end with spaces. The reserved bits, as a number from 0 to 3, are the
 // network's to use, and no part of who the station is. The layout is C's, which lends it two at a time, in the record of a link.
 #[repr(C)]
-#[derive(Drop)]
+#[derive(Clone, Copy)]
 pub struct Address {
     pub callsign: [u8; 6],
     pub ssid: u8,

@@ -1,4 +1,6 @@
 // Reading the address field: the groups of destination, source and repeaters, and what their marks say.
+#![tactic(auto)]
+
 ghost use Rattle.std.specs.Prelude.{◌≡◌, ◌+◌, ◌*◌, ◌≤◌, length};
 ghost use Rattle.decode.specs.Read.{parsed_at, route_at, command_of, frame_at};
 ghost use Rattle.decode.specs.Outline.{has_groups};

@@ -1,4 +1,6 @@
 // A day's captures in one call: many parts of one buffer, each with a record that is filled as the single calls answer for it.
+#![tactic(auto)]
+
 ghost use Rattle.std.specs.Prelude.{◌≡◌, true, cond, length};
 ghost use Rattle.frame.specs.Frame.{default_frame};
 ghost use Rattle.decode.specs.Outline.{outline_of};
@@ -16,7 +18,7 @@ use reason::Reason;
 // Where a capture lies in the buffer, and what is known of it: the decode number, or 61 where it is not inside the buffer; 1 where it is
 // canonical, else 0; the number of its kind.
 #[repr(C)]
-#[derive(Drop)]
+#[derive(Clone, Copy)]
 pub struct CaptureRecord {
     pub start: usize,
     pub length: usize,

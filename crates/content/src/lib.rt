@@ -1,18 +1,20 @@
 // The content of a frame, which is everything after the address field: its kinds, and what each is written as. The crate `encoding` writes
 // them, and `parse` reads them.
+#![tactic(auto)]
+
 use protocol::ProtocolIdentifier;
 
 mod writing; // writing.rt: the octets of a kind before its info, and what is not written
 
 // Indicates whether a given frame is a Command or a Response.
-#[derive(Drop)]
+#[derive(Clone, Copy)]
 pub enum CommandResponse {
     Command,
     Response,
 }
 
 // Information (I) frame
-#[derive(Drop)]
+#[derive(Clone, Copy)]
 pub struct Information {
     pub pid: ProtocolIdentifier,
     pub receive_sequence: u8,
@@ -21,65 +23,65 @@ pub struct Information {
 }
 
 // RR Supervisory (S) frame
-#[derive(Drop)]
+#[derive(Clone, Copy)]
 pub struct ReceiveReady {
     pub receive_sequence: u8,
     pub poll_or_final: bool,
 }
 
 // RNR Supervisory (S) frame
-#[derive(Drop)]
+#[derive(Clone, Copy)]
 pub struct ReceiveNotReady {
     pub receive_sequence: u8,
     pub poll_or_final: bool,
 }
 
 // REJ Supervisory (S) frame
-#[derive(Drop)]
+#[derive(Clone, Copy)]
 pub struct Reject {
     pub receive_sequence: u8,
     pub poll_or_final: bool,
 }
 
 // SREJ Supervisory (S) frame
-#[derive(Drop)]
+#[derive(Clone, Copy)]
 pub struct SelectiveReject {
     pub receive_sequence: u8,
     pub poll_or_final: bool,
 }
 
 // SABM Unnumbered (U) frame
-#[derive(Drop)]
+#[derive(Clone, Copy)]
 pub struct SetAsynchronousBalancedMode {
     pub poll: bool,
 }
 
 // SABME Unnumbered (U) frame
-#[derive(Drop)]
+#[derive(Clone, Copy)]
 pub struct SetAsynchronousBalancedModeExtended {
     pub poll: bool,
 }
 
 // DISC Unnumbered (U) frame
-#[derive(Drop)]
+#[derive(Clone, Copy)]
 pub struct Disconnect {
     pub poll: bool,
 }
 
 // DM Unnumbered (U) frame
-#[derive(Drop)]
+#[derive(Clone, Copy)]
 pub struct DisconnectedMode {
     pub final_bit: bool,
 }
 
 // UA Unnumbered (U) frame
-#[derive(Drop)]
+#[derive(Clone, Copy)]
 pub struct UnnumberedAcknowledge {
     pub final_bit: bool,
 }
 
 // FRMR Unnumbered (U) frame. Flags correspond to names in the AX.25 specification.
-#[derive(Drop)]
+#[derive(Clone, Copy)]
 pub struct FrameReject {
     pub final_bit: bool,
     // A raw copy of the control field in the frame that was rejected
@@ -98,26 +100,26 @@ pub struct FrameReject {
 }
 
 // UI Unnumbered Information frame
-#[derive(Drop)]
+#[derive(Clone, Copy)]
 pub struct UnnumberedInformation {
     pub pid: ProtocolIdentifier,
     pub poll_or_final: bool,
 }
 
 // XID Unnumbered (U) frame
-#[derive(Drop)]
+#[derive(Clone, Copy)]
 pub struct ExchangeIdentification {
     pub poll_or_final: bool,
 }
 
 // TEST Unnumbered (U) frame
-#[derive(Drop)]
+#[derive(Clone, Copy)]
 pub struct Test {
     pub poll_or_final: bool,
 }
 
 // The body of the frame after the end of the address field. Info is no part of it: reading reports its place, writing is lent it.
-#[derive(Drop)]
+#[derive(Clone, Copy)]
 pub enum FrameContent {
     Information(Information),
     ReceiveReady(ReceiveReady),

@@ -1,5 +1,7 @@
 // Whether content is just as writing gives it: the bits that reading ignores are zero, and there is no tail. Of I, UI, XID and TEST every
 // octet is written as it was read.
+#![tactic(auto)]
+
 ghost use Rattle.std.specs.Prelude.{◌≡◌, get_or};
 ghost use Rattle.parse.specs.Numbers.{is_i, is_s};
 ghost use Rattle.content_as_written.specs.AsWritten.{frmr_tidy, s_tidy, is_tidy, u_tail, has_tail};

@@ -1,5 +1,7 @@
 // The control field: how its numbers are counted, and its octets, put together and taken apart by masks and shifts. So are FRMR's flags and
 // its copy of a control field's numbers.
+#![tactic(auto)]
+
 ghost use Rattle.std.specs.Prelude.{◌≡◌, cond, [], ◌∷◌, ◌++◌, ◌%◌};
 ghost use Rattle.control.specs.Mode.{mode_of, controls};
 ghost use Rattle.control.specs.Control.{u_kind, fields_in};
@@ -7,14 +9,14 @@ ghost use Rattle.control.specs.Spell.{numbered, received, sent, sequenced, unnum
 
 // How the sequence numbers of I and S frames are counted: modulo 8, in one control octet, or modulo 128, in two. A frame does not tell
 // which; the caller knows it.
-#[derive(Drop)]
+#[derive(Clone, Copy)]
 pub enum Mode {
     Short,
     Long,
 }
 
 // What a control field tells beside its kind: N(R), N(S) and the P/F bit. S frames have no N(S), and nobody asks for theirs.
-#[derive(Drop)]
+#[derive(Clone, Copy)]
 pub struct Fields {
     pub receive: u8,
     pub send: u8,

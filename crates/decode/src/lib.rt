@@ -1,5 +1,7 @@
 // What reading a frame gives, and its outline: the answer, told from the octets before anything is taken apart. The crate `reading`
 // goes on from there.
+#![tactic(auto)]
+
 ghost use Rattle.std.specs.Prelude.{◌≡◌, ◌≤◌, ◌<◌, length, get_or, drop};
 ghost use Rattle.parse.specs.Content.{content_of};
 ghost use Rattle.decode.specs.Answer.{report_of};
@@ -9,7 +11,7 @@ ghost use Rattle.decode.specs.Read.{nonzero, refusal_of, decode_field};
 use control::Mode;
 use frame::Ax25Frame;
 
-#[derive(Drop)]
+#[derive(Clone, Copy)]
 pub enum DecodeAnswer {
     Accepted,
     OnlyNullBytes,
@@ -26,7 +28,7 @@ pub enum DecodeAnswer {
 }
 
 // What reading gives. The info is `info_len` octets of the input from `info_start` on.
-#[derive(Drop)]
+#[derive(Clone, Copy)]
 pub struct Decoded {
     pub answer: DecodeAnswer,
     pub frame: Ax25Frame,
@@ -36,7 +38,7 @@ pub struct Decoded {
 
 // What is known before anything is taken apart: the answer, and where the address field, which starts with the first octet, ends. The
 // decode number and the canonical check ask for no more. Of a refused input both numbers are 0.
-#[derive(Drop)]
+#[derive(Clone, Copy)]
 pub struct Outline {
     pub answer: DecodeAnswer,
     pub end: usize,

@@ -1,5 +1,7 @@
 // The demands on the calls that C links, in the short mode but for the reason's and the one on captures, as contracts of the code, as in
 // `demand_contracts_frames`.
+#![tactic(auto)]
+
 ghost use Rattle.std.specs.Prelude.{◌≡◌, true, false, ◌↔◌, ◌≤◌, ◌<◌, length};
 ghost use Rattle.control.specs.Mode.{mode_of};
 ghost use Rattle.control.specs.declared.Mode.TheVariants.{Short};

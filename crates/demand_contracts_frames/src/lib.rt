@@ -1,5 +1,7 @@
 // The demands as contracts of the code: each function only calls the product's, and its contract is the demand. Together the
 // clauses of a contract fix the result, and what is left in a lent buffer, for every input in either mode.
+#![tactic(auto)]
+
 ghost use Rattle.std.specs.Prelude.{◌≡◌, true, false, ◌↔◌, ◌≤◌, ◌<◌, length};
 ghost use Rattle.content.specs.declared.FrameContent.TheVariants.{UnknownContent};
 ghost use Rattle.decode.specs.Answer.{number_of, report_of, is_accepted};
@@ -78,13 +80,13 @@ pub fn respelled(mode: Mode, bytes: &[u8], out: &mut [u8]) -> Reencoded
 }
 
 // What the radio desk has of an input: whether it is canonical, and what is decoded of it.
-#[derive(Drop)]
+#[derive(Clone, Copy)]
 pub struct Looked {
     canonical: bool,
     decoded: Decoded,
 }
 
-#[derive(Drop)]
+#[derive(Clone, Copy)]
 pub struct Pair {
     one: Looked,
     other: Looked,

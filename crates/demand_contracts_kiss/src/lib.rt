@@ -1,4 +1,6 @@
 // What document 02, M-103, asks of KISS packets as contracts of the calls that C links, as in `demand_contracts_frames`.
+#![tactic(auto)]
+
 ghost use Rattle.std.specs.Prelude.{◌≡◌, ◌+◌, ◌*◌, ◌≤◌, take, length as list_length};
 ghost use Rattle.octets.specs.Splice.{splice};
 ghost use Rattle.kiss.specs.Packet.{packet};

@@ -1,4 +1,6 @@
 // What document 02, M-100 and M-102, asks of relaying as contracts of the code, as in `demand_contracts_frames`.
+#![tactic(auto)]
+
 ghost use Rattle.std.specs.Prelude.{◌≡◌, true, ◌↔◌};
 ghost use Rattle.decode.specs.Read.{decode, info_in};
 ghost use Rattle.hops.specs.Hops.{due_place};

@@ -1,4 +1,6 @@
 // What document 02, M-104, asks of a serial line as contracts of functions that only call the product's, as in `demand_contracts_frames`.
+#![tactic(auto)]
+
 ghost use Rattle.std.specs.Prelude.{◌≡◌, length};
 ghost use Rattle.kiss_state.specs.State.{stream_of};
 ghost use Rattle.demands_stream.specs.Run.{line_of};
@@ -6,7 +8,7 @@ ghost use Rattle.demands_stream.specs.Run.{line_of};
 use kiss_state::Head;
 
 // What calls leave of a piece that they used up: the numbers of the state, and how many packets were given out.
-#[derive(Drop)]
+#[derive(Clone, Copy)]
 pub struct UsedUp {
     pub head: Head,
     pub packets: usize,

@@ -1,4 +1,6 @@
 // The demands on the text of addresses as contracts of the code, as in `demand_contracts_frames`.
+#![tactic(auto)]
+
 ghost use Rattle.std.specs.Prelude.{◌≡◌, ◌≤◌, length, take};
 ghost use Rattle.address.specs.Address.{with_ones, no_call};
 ghost use Rattle.printing.specs.Print.{text_of, print_number_of, printed, printed_into};

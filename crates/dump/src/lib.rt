@@ -1,4 +1,6 @@
 // What the dumper prints of an octet string, as octets in a lent buffer.
+#![tactic(auto)]
+
 ghost use Rattle.std.specs.Prelude.{◌≡◌, true, ◌+◌, ◌≤◌, length};
 ghost use Rattle.octets.specs.Splice.{splice};
 ghost use Rattle.decode.specs.Answer.{is_accepted};
@@ -12,14 +14,14 @@ use reason::Reason;
 mod append; // append.rt: words, numbers and addresses, one after the other
 mod lines; // lines.rt: the lines of a frame
 
-#[derive(Drop)]
+#[derive(Clone, Copy)]
 pub enum DumpAnswer {
     Done,
     NoRoom,
 }
 
 // How many octets of the output are the text.
-#[derive(Drop)]
+#[derive(Clone, Copy)]
 pub struct Dumped {
     pub answer: DumpAnswer,
     pub length: usize,

@@ -1,6 +1,8 @@
 // The dumper's text of one input after the other, and into buffers of several sizes. The stored output was typed out from
 // document 01's rules, and of the layer 3 class, of reserved bits and of leading nulls from document 02's (M-105, M-106, M-108); the lines of
 // reasons were worked out from document 02 (M-110) and the octets.
+#![tactic(auto)]
+
 use libc::STDOUT_FILENO;
 
 mod sizes; // sizes.rt: long inputs, and buffers that are short, exactly full and longer

@@ -1,4 +1,6 @@
 // Prints what the one frame on standard input is.
+#![tactic(auto)]
+
 use libc::{STDIN_FILENO, STDOUT_FILENO};
 
 fn main() {

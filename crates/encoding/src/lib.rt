@@ -1,4 +1,6 @@
 // Writing content into a lent buffer.
+#![tactic(auto)]
+
 ghost use Rattle.std.specs.Prelude.{◌≡◌, length};
 ghost use Rattle.octets.specs.Splice.{splice};
 ghost use Rattle.content.specs.Spell.{front};
@@ -8,7 +10,7 @@ use content::FrameContent;
 use control::Mode;
 
 // What writing content gives.
-#[derive(Drop)]
+#[derive(Clone, Copy)]
 pub enum EncodeAnswer {
     Written,
     FrameRejectInLongMode,
@@ -17,7 +19,7 @@ pub enum EncodeAnswer {
     NoRoom,
 }
 
-#[derive(Drop)]
+#[derive(Clone, Copy)]
 pub struct ContentWritten {
     pub answer: EncodeAnswer,
     pub length: usize,

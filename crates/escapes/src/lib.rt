@@ -1,4 +1,6 @@
 // The octets that KISS escapes: how many there are in some data, and how far octets stand for themselves.
+#![tactic(auto)]
+
 ghost use Rattle.std.specs.Prelude.{◌≡◌, ◌+◌, ◌≤◌, leb, length, drop};
 ghost use Rattle.octets.specs.Octet.{flag};
 ghost use Rattle.octets.specs.First.{first};
@@ -36,7 +38,7 @@ fn count_block(bytes: &[u8], at: usize) -> u8
 }
 
 // So many as are found by whole blocks, and the place behind them.
-#[derive(Drop)]
+#[derive(Clone, Copy)]
 struct Counted {
     found: usize,
     at: usize,

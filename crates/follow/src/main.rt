@@ -1,4 +1,6 @@
 // Follows a recorded link between two stations, `follow A B <STREAM`: says where data was lost, and counts at the end.
+#![tactic(auto)]
+
 ghost use Rattle.std.specs.Prelude.{◌<◌, ◌≤◌, length};
 
 use kiss_state::Head;
@@ -7,7 +9,7 @@ use link_record::Link;
 
 // Where the following stands: the numbers of the stream, the record of the link, whether no further frame is offered, and whether all that
 // was printed could be written.
-#[derive(Drop)]
+#[derive(Clone, Copy)]
 struct Place {
     head: Head,
     link: Link,
@@ -16,7 +18,7 @@ struct Place {
 }
 
 // A place, and how far in a piece of the stream it is.
-#[derive(Drop)]
+#[derive(Clone, Copy)]
 struct Reached {
     place: Place,
     at: usize,

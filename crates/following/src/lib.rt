@@ -1,4 +1,6 @@
 // What `follow` prints of a recorded link, as octets in a lent buffer: of the texts that name its two stations, of each frame, and at the end.
+#![tactic(auto)]
+
 ghost use Rattle.std.specs.Prelude.{◌≡◌, ◌+◌, ◌≤◌, length};
 ghost use Rattle.octets.specs.Splice.{splice};
 ghost use Rattle.words.specs.Put.{Put, behind};
@@ -9,7 +11,7 @@ use link_record::{Link, LinkAnswer};
 use text::AddressAnswer;
 
 // What the two texts come to: whether both are read, the record of the link between their stations, and how many octets are printed.
-#[derive(Drop)]
+#[derive(Clone, Copy)]
 pub struct Begun {
     pub ready: bool,
     pub link: Link,
@@ -17,7 +19,7 @@ pub struct Begun {
 }
 
 // What a frame comes to: the record behind it, whether no further frame is offered, and how many octets are printed.
-#[derive(Drop)]
+#[derive(Clone, Copy)]
 pub struct Followed {
     pub link: Link,
     pub stopped: bool,

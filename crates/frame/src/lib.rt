@@ -1,4 +1,6 @@
 // A frame: its record, and writing it. The crates `decode` and `reading` read it.
+#![tactic(auto)]
+
 ghost use Rattle.std.specs.Prelude.{◌≡◌, false};
 ghost use Rattle.frame.specs.Frame.{no_entry, default_frame, write_number, simple_ui};
 
@@ -9,7 +11,7 @@ use protocol::ProtocolIdentifier;
 mod writing; // writing.rt: from a frame and its info to octets
 
 // Whether a frame is a command or a response. Equal bits, as the first versions of AX.25 sent them, say neither.
-#[derive(Drop)]
+#[derive(Clone, Copy)]
 pub enum Mark {
     Command,
     Response,
@@ -17,7 +19,7 @@ pub enum Mark {
 }
 
 // A single hop in the frame's route
-#[derive(Drop)]
+#[derive(Clone, Copy)]
 pub struct RouteEntry {
     // Callsign-SSID of a repeater to use for source routing.
     pub repeater: Address,
@@ -26,7 +28,7 @@ pub struct RouteEntry {
 }
 
 // A strongly-typed representation of a single AX.25 frame. Its info is lent beside it.
-#[derive(Drop)]
+#[derive(Clone, Copy)]
 pub struct Ax25Frame {
     // Sending station
     pub source: Address,
@@ -39,7 +41,7 @@ pub struct Ax25Frame {
     pub content: FrameContent,
 }
 
-#[derive(Drop)]
+#[derive(Clone, Copy)]
 pub enum WriteAnswer {
     Accepted,
     RouteTooLong,
@@ -51,7 +53,7 @@ pub enum WriteAnswer {
 }
 
 // What writing gives: how many octets of the output are the frame.
-#[derive(Drop)]
+#[derive(Clone, Copy)]
 pub struct Written {
     pub answer: WriteAnswer,
     pub length: usize,

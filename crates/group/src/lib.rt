@@ -1,23 +1,25 @@
 // The seven octets of an address, and back: six characters, then the octet of the SSID.
+#![tactic(auto)]
+
 ghost use Rattle.std.specs.Prelude.{◌≡◌, cond};
 ghost use Rattle.group.specs.Group.{address_of, mark_of, mark_set, ssid_octet, group_of, write_group, group_number_of};
 
 use address::Address;
 
-#[derive(Drop)]
+#[derive(Clone, Copy)]
 pub struct ParsedAddress {
     pub address: Address,
     pub high_bit: bool,
 }
 
 // How writing a group ended.
-#[derive(Drop)]
+#[derive(Clone, Copy)]
 pub enum GroupAnswer {
     Written,
     NotEncodable,
 }
 
-#[derive(Drop)]
+#[derive(Clone, Copy)]
 pub struct WrittenGroup {
     pub answer: GroupAnswer,
     pub group: [u8; 7],

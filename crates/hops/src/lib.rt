@@ -1,4 +1,6 @@
 // The hops of a frame's route: the marked places as a set, how many there are, which place is due, and whose it is.
+#![tactic(auto)]
+
 ghost use Rattle.std.specs.Prelude.{◌≡◌, ◌&&◌};
 ghost use Rattle.octets.specs.Octet.{flag};
 ghost use Rattle.octets.specs.Same.{same};

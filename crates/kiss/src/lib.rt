@@ -1,5 +1,7 @@
 // KISS packets, which a modem's line carries: writing one whole packet. A refusal leaves the output alone, so that there are two passes:
 // one that measures, and one that copies.
+#![tactic(auto)]
+
 ghost use Rattle.std.specs.Prelude.{◌≡◌, [], ◌∷◌, ◌+◌, ◌≤◌, ◌<◌, leb, length, drop};
 ghost use Rattle.octets.specs.Splice.{splice};
 ghost use Rattle.escapes.specs.Escape.{fesc, escaped};
@@ -12,7 +14,7 @@ use escapes::{FEND, FESC, TFEND, TFESC};
 pub const LAST_PORT: u8 = 11;
 
 // How writing a packet ended.
-#[derive(Drop)]
+#[derive(Clone, Copy)]
 pub enum KissWriteAnswer {
     Written,
     PortTooHigh,
@@ -32,7 +34,7 @@ impl KissWriteAnswer {
 }
 
 // What was written: the packet's length.
-#[derive(Drop)]
+#[derive(Clone, Copy)]
 pub struct KissWritten {
     pub answer: KissWriteAnswer,
     pub length: usize,
@@ -55,7 +57,7 @@ fn fits(room: usize, n: usize, found: usize) -> bool
 }
 
 // How far writing has come: in the data, and in the output.
-#[derive(Drop)]
+#[derive(Clone, Copy)]
 struct Place {
     from: usize,
     to: usize,

@@ -1,5 +1,7 @@
 // One octet of a serial line of KISS packets: what it does to the state. The data of a packet is written where the state has it; the
 // numbers of the state go by value.
+#![tactic(auto)]
+
 ghost use Rattle.std.specs.Prelude.{◌≡◌};
 ghost use Rattle.kiss_state.specs.State.{phased, none_in};
 ghost use Rattle.kiss_octet.specs.Step.{counted_of, drop_of, quiet_of, put_of, typed_of, stray_of, unescaped, outside_of, opened_of, data_of, move_of, stored_by};
@@ -12,7 +14,7 @@ use kiss_state::{DROPPING, Head, IN_DATA, IN_ESCAPE, IN_TYPE, OPENED, ROOM};
 const LAST_COUNT: u16 = 65535;
 
 // What one octet does: the numbers after it, an octet of data to store or none, whether a packet is given out.
-#[derive(Drop)]
+#[derive(Clone, Copy)]
 pub struct Move {
     pub head: Head,
     pub octet: u8,

@@ -1,5 +1,7 @@
 // Reading one whole KISS packet. A refusal leaves the output alone, so that there are two passes: one that judges and measures, and one
 // that copies.
+#![tactic(auto)]
+
 ghost use Rattle.std.specs.Prelude.{◌≡◌, true, false, ◌+◌, ◌≤◌, ◌<◌, length, drop, length as list_length};
 ghost use Rattle.octets.specs.Splice.{splice};
 ghost use Rattle.kiss_reading.specs.Answer.{number_of, is_accepted, refused, read_of};
@@ -10,7 +12,7 @@ use escapes::{FEND, FESC, TFEND, TFESC};
 use kiss::LAST_PORT;
 
 // How reading a packet ended.
-#[derive(Drop)]
+#[derive(Clone, Copy)]
 pub enum KissAnswer {
     Accepted,
     NoOpening,
@@ -40,7 +42,7 @@ impl KissAnswer {
 }
 
 // What was read: the data's length, and the port that it came from.
-#[derive(Drop)]
+#[derive(Clone, Copy)]
 pub struct KissRead {
     pub answer: KissAnswer,
     pub port: u8,
@@ -48,14 +50,14 @@ pub struct KissRead {
 }
 
 // How far a step goes in the packet, and how many octets of data it takes.
-#[derive(Drop)]
+#[derive(Clone, Copy)]
 struct Step {
     width: usize,
     length: usize,
 }
 
 // What the octets behind the type octet come to, and how many octets of data are in them.
-#[derive(Drop)]
+#[derive(Clone, Copy)]
 struct Measured {
     answer: KissAnswer,
     length: usize,

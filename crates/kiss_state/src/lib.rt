@@ -1,4 +1,6 @@
 // The state of a serial line of KISS packets: what it holds, and which states are taken for fresh ones.
+#![tactic(auto)]
+
 ghost use Rattle.std.specs.Prelude.{◌≡◌};
 ghost use Rattle.kiss_state.specs.State.{none_in, settled_head};
 
@@ -28,7 +30,7 @@ pub const IN_TYPE: u8 = 5;
 // The numbers of the state: how many octets of data there are, their port, the phase, and how many packets were dropped. Here and below
 // the layout is C's, and no struct that is lent has padding.
 #[repr(C)]
-#[derive(Drop)]
+#[derive(Clone, Copy)]
 pub struct Head {
     pub length: u16,
     pub port: u8,
@@ -38,7 +40,7 @@ pub struct Head {
 
 // The state of a line, which its owner keeps: the data is the first octets of the array. Zeros are a fresh one.
 #[repr(C)]
-#[derive(Drop)]
+#[derive(Clone, Copy)]
 pub struct Stream {
     pub octets: [u8; 1024],
     pub head: Head,

@@ -1,4 +1,6 @@
 // A serial line of KISS packets, read in the pieces in which it gives them.
+#![tactic(auto)]
+
 ghost use Rattle.std.specs.Prelude.{◌≡◌, ℕ, ◌+◌, ◌-◌, ◌≤◌, length};
 ghost use Rattle.kiss_state.specs.declared.Stream.{Stream};
 ghost use Rattle.kiss_state.specs.State.{in_data, head_of, stream_of};
@@ -10,7 +12,7 @@ use kiss_state::{DROPPING, Head, IN_DATA, OUTSIDE};
 
 // A packet given out: 1, its port, and the length of its data; or zeros.
 #[repr(C)]
-#[derive(Drop)]
+#[derive(Clone, Copy)]
 pub struct Packet {
     pub ready: u32,
     pub port: u32,
@@ -18,7 +20,7 @@ pub struct Packet {
 }
 
 // What a call gives beside the array: the numbers, the packet, and how many octets it took.
-#[derive(Drop)]
+#[derive(Clone, Copy)]
 pub struct Fed {
     pub head: Head,
     pub packet: Packet,
@@ -26,7 +28,7 @@ pub struct Fed {
 }
 
 // How far a run of octets goes, and the numbers behind it.
-#[derive(Drop)]
+#[derive(Clone, Copy)]
 struct Reached {
     head: Head,
     at: usize,

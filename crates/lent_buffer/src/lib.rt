@@ -1,4 +1,6 @@
 // Writing into a lent buffer.
+#![tactic(auto)]
+
 ghost use Rattle.std.specs.Prelude.{◌≡◌, ◌+◌, ltb};
 ghost use Rattle.octets.specs.Splice.{splice};
 

@@ -1,4 +1,6 @@
 // A recorded link, followed frame by frame: what was lost, and where.
+#![tactic(auto)]
+
 ghost use Rattle.std.specs.Prelude.{◌≡◌, ◌&&◌, ◌<◌};
 ghost use Rattle.hops.specs.Station.{same_station};
 ghost use Rattle.link_record.specs.Record.{counted};
@@ -15,7 +17,7 @@ use link_frame::{Side, Verdict};
 use link_record::{Link, LinkAnswer};
 
 // Which of the two stations sent a frame to the other, if either did.
-#[derive(Drop)]
+#[derive(Clone, Copy)]
 pub enum Sender {
     A,
     B,
@@ -23,7 +25,7 @@ pub enum Sender {
 }
 
 // What offering a frame gives: the answer, and the record behind it.
-#[derive(Drop)]
+#[derive(Clone, Copy)]
 pub struct Stepped {
     pub answer: LinkAnswer,
     pub link: Link,

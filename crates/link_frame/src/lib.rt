@@ -1,4 +1,6 @@
 // What one frame between two stations does to the record of their link, but for the counts.
+#![tactic(auto)]
+
 ghost use Rattle.std.specs.Prelude.{◌≡◌};
 ghost use Rattle.link_frame.specs.Frame.{asked_by, other, expected_from, moved_from, turned, with_state, acknowledged, moved_on, verdict_of, moves, numbered, quiet, event_of, heard_of};
 
@@ -6,14 +8,14 @@ use content::FrameContent;
 use link_record::{ASKED_BY_A, ASKED_BY_B, IDLE, Link, UP};
 
 // Which of the two stations sent a frame.
-#[derive(Drop)]
+#[derive(Clone, Copy)]
 pub enum Side {
     A,
     B,
 }
 
 // What a frame between the two is to their link.
-#[derive(Drop)]
+#[derive(Clone, Copy)]
 pub enum Event {
     Nothing,
     Asks,
@@ -23,7 +25,7 @@ pub enum Event {
 }
 
 // What an I frame is counted as. Frames of other kinds are not.
-#[derive(Drop)]
+#[derive(Clone, Copy)]
 pub enum Verdict {
     NotCounted,
     InOrder,
@@ -33,7 +35,7 @@ pub enum Verdict {
 }
 
 // What a frame is counted as, and the record behind it, in which it is not counted yet.
-#[derive(Drop)]
+#[derive(Clone, Copy)]
 pub struct Heard {
     pub verdict: Verdict,
     pub link: Link,

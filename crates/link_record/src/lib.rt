@@ -1,4 +1,6 @@
 // The record of a link that is followed, which its owner keeps, and which records are refused.
+#![tactic(auto)]
+
 ghost use Rattle.std.specs.Prelude.{◌≡◌, ◌<◌, ◌^◌};
 ghost use Rattle.link_record.specs.Record.{number_of, fresh, stations_encodable, counted, unsound, refusal};
 
@@ -21,7 +23,7 @@ pub const MOST: u32 = 65535;
 // I frames were in order, repeated, a gap, and outside; how many frames were offered. Zeros behind the stations are a fresh record. The layout
 // is C's, and there is no padding.
 #[repr(C)]
-#[derive(Drop)]
+#[derive(Clone, Copy)]
 pub struct Link {
     pub a: Address,
     pub b: Address,
@@ -37,7 +39,7 @@ pub struct Link {
     pub offered: u32,
 }
 
-#[derive(Drop)]
+#[derive(Clone, Copy)]
 pub enum LinkAnswer {
     Offered,
     NotEncodable,

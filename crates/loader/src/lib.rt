@@ -1,5 +1,7 @@
 // The calls that C links, all in the short mode but for `ax25_reason` and `ax25_captures`, which take the mode. A slice is a pointer and a
 // length there; include/ax25.h says what the caller owes.
+#![tactic(auto)]
+
 ghost use Rattle.std.specs.Prelude.{◌≡◌, cond, length, length as list_length};
 ghost use Rattle.octets.specs.Splice.{splice};
 ghost use Rattle.decode.specs.Answer.{report_of};

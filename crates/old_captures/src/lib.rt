@@ -1,5 +1,7 @@
 // Captures that were taken before a leading null was refused: the nulls before a frame are skipped, and the rest is read as the decoder
 // reads it. Nothing else in the box reads so.
+#![tactic(auto)]
+
 ghost use Rattle.std.specs.Prelude.{◌≡◌, ◌+◌, ◌^◌, ◌≤◌, ◌<◌};
 ghost use Rattle.decode.specs.Answer.{report_of};
 ghost use Rattle.grammar.specs.Moved.{moved_answer, moved_info};

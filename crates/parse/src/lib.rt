@@ -1,4 +1,6 @@
 // Reading content: the control octet tells the kind, and each kind has its fields.
+#![tactic(auto)]
+
 ghost use Rattle.std.specs.Prelude.{◌≡◌, cond, ltb, length, get_or};
 ghost use Rattle.parse.specs.Content.{i_of, s_kind_of, s_of, u_of, ui_of, frmr_of, content_of, report_of, number_of};
 
@@ -12,7 +14,7 @@ use control::Mode;
 use protocol::ProtocolIdentifier;
 
 // What reading content gives.
-#[derive(Drop)]
+#[derive(Clone, Copy)]
 pub enum ContentAnswer {
     Accepted(FrameContent),
     ContentZeroLength,

@@ -1,4 +1,6 @@
 // The group of an address written straight into lent octets: from the address, or from the octets of a group that was read.
+#![tactic(auto)]
+
 ghost use Rattle.std.specs.Prelude.{◌≡◌, [], ◌∷◌, ◌+◌, leb, length};
 ghost use Rattle.octets.specs.Splice.{splice};
 ghost use Rattle.placing.specs.Put.{put_number, put_answer, put_octets, respelled};
@@ -6,7 +8,7 @@ ghost use Rattle.placing.specs.Put.{put_number, put_answer, put_octets, respelle
 use address::Address;
 
 // How writing a group ended.
-#[derive(Drop)]
+#[derive(Clone, Copy)]
 pub enum PutAnswer {
     Written,
     NotEncodable,

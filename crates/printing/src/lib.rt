@@ -1,4 +1,6 @@
 // The text of an address: its callsign, then a hyphen and the SSID where it is not 0, as VK7NTK-5. The crate `text` reads it.
+#![tactic(auto)]
+
 ghost use Rattle.std.specs.Prelude.{◌≡◌, length};
 ghost use Rattle.octets.specs.Splice.{splice};
 ghost use Rattle.printing.specs.Print.{used, ssid_suffix, text_of, print_number_of, printed, printed_into};
@@ -6,14 +8,14 @@ ghost use Rattle.printing.specs.Print.{used, ssid_suffix, text_of, print_number_
 use address::Address;
 
 // How printing ended.
-#[derive(Drop)]
+#[derive(Clone, Copy)]
 pub enum PrintAnswer {
     Printed,
     NotEncodable,
     NoRoom,
 }
 
-#[derive(Drop)]
+#[derive(Clone, Copy)]
 pub struct Printed {
     pub answer: PrintAnswer,
     pub length: usize,

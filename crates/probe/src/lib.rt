@@ -1,6 +1,8 @@
 // Calls on flat octets, for the program that runs the Rust beside the port and for nothing else. The crate
 // `flat` has the layout of a flat address, content and frame. A call that is lent too little answers 24 and touches nothing; no other
 // refusal touches lent octets. A mode is a number: 0 is the short one, any other the long one.
+#![tactic(auto)]
+
 ghost use Rattle.std.specs.Prelude.{◌≡◌, cond, ◌||◌, [], ◌∷◌, length};
 ghost use Rattle.text.specs.Text.{address_number_of, read_parts, read_text};
 ghost use Rattle.printing.specs.Print.{print_number_of, printed, printed_into};

@@ -1,6 +1,8 @@
 // The canonical check and re-encoding in either mode, for the second model in C and for nothing else: the calls of C for these have the short
 // mode alone. A mode is a number: 0 is the short one, any other the long one. They stand apart from `probe` so that its archive is compiled as
 // it was: whatever else calls the outline keeps the compiler from making it a part of the decoder there.
+#![tactic(auto)]
+
 ghost use Rattle.std.specs.Prelude.{◌≡◌, cond, length as list_length};
 ghost use Rattle.octets.specs.Splice.{splice};
 ghost use Rattle.control.specs.Mode.{mode_of};

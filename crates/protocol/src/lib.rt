@@ -1,9 +1,11 @@
 // The protocol identifier (PID) of I and UI frames: from its octet, and back.
+#![tactic(auto)]
+
 ghost use Rattle.std.specs.Prelude.{◌≡◌};
 ghost use Rattle.protocol.specs.Pid.{layer3, pid_of, octet_of, outside_class};
 
 // Human-readable protocol identifiers, mostly from the AX.25 2.2 spec.
-#[derive(Drop)]
+#[derive(Clone, Copy)]
 pub enum ProtocolIdentifier {
     // The class has many octets: this is the one that was read, and writing returns it.
     Layer3Impl(u8),

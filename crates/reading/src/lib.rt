@@ -1,4 +1,6 @@
 // Reading a frame whole: from its outline to its content and its addresses.
+#![tactic(auto)]
+
 ghost use Rattle.std.specs.Prelude.{◌≡◌, true, ◌+◌, ◌*◌, ◌≤◌, length, drop};
 ghost use Rattle.parse.specs.Content.{content_of};
 ghost use Rattle.content.specs.Spell.{has_info, front};

@@ -1,4 +1,6 @@
 // Why an input is not canonical.
+#![tactic(auto)]
+
 ghost use Rattle.std.specs.Prelude.{◌≡◌, ◌≤◌, ◌<◌, length};
 ghost use Rattle.frame.specs.Spell.{marked};
 ghost use Rattle.decode.specs.Read.{command_of};
@@ -9,7 +11,7 @@ use control::Mode;
 use decode::{DecodeAnswer, Outline};
 
 // Of an accepted input that there is none, or the first that holds in this order; of any other that it is refused.
-#[derive(Drop)]
+#[derive(Clone, Copy)]
 pub enum Reason {
     None,
     Leftover,
@@ -20,7 +22,7 @@ pub enum Reason {
 }
 
 // The reason, the decode number, and the place in the input that a refusal is about. Of an accepted input number and place are 0.
-#[derive(Drop)]
+#[derive(Clone, Copy)]
 pub struct Why {
     pub reason: Reason,
     pub number: u32,
@@ -28,7 +30,7 @@ pub struct Why {
 }
 
 // The outline that an input's answer is told by, and the reason that it leads to.
-#[derive(Drop)]
+#[derive(Clone, Copy)]
 pub struct Judged {
     pub outline: Outline,
     pub reason: Reason,

@@ -1,5 +1,7 @@
 // Relaying: a frame goes on as it was received, with our own mark set in it. Nothing is rebuilt, and nothing is taken apart but the
 // group of the repeater that is due: the outline tells where the groups stand, and the hop set is read off the octets.
+#![tactic(auto)]
+
 ghost use Rattle.std.specs.Prelude.{◌≡◌, true, ◌+◌, ◌*◌, ◌≤◌, ◌<◌, length, get_or, set};
 ghost use Rattle.decode.specs.Answer.{is_accepted};
 ghost use Rattle.decode.specs.Read.{parsed_at, route_at, decode};
@@ -11,7 +13,7 @@ use address::Address;
 use control::Mode;
 use decode::DecodeAnswer;
 
-#[derive(Drop)]
+#[derive(Clone, Copy)]
 pub enum RelayAnswer {
     Relayed,
     NotEncodable,

@@ -1,5 +1,7 @@
 // The stored list of answers, replayed: from each line's input the proved code makes the whole line again, which must be the stored
 // one. compare/README.md says how the list is made; its first lines say how to read it.
+#![tactic(auto)]
+
 use crate::words::{after, first, number, octets, place, show, word};
 use libc::STDIN_FILENO;
 

@@ -1,4 +1,6 @@
 // Re-encoding: what a frame decoded and written again would be, from the input's octets straight into the output's. No frame is built.
+#![tactic(auto)]
+
 
 ghost use Rattle.std.specs.Prelude.{◌≡◌, true, ◌+◌, ◌-◌, ◌*◌, ◌≤◌, length};
 ghost use Rattle.octets.specs.Splice.{splice};
@@ -14,7 +16,7 @@ use control::Mode;
 use decode::{DecodeAnswer, Outline};
 use parse::ContentAnswer;
 
-#[derive(Drop)]
+#[derive(Clone, Copy)]
 pub enum ReencodeAnswer {
     Written,
     Refused(DecodeAnswer),
@@ -22,7 +24,7 @@ pub enum ReencodeAnswer {
 }
 
 // What re-encoding gives: how many octets of the output are the frame.
-#[derive(Drop)]
+#[derive(Clone, Copy)]
 pub struct Reencoded {
     pub answer: ReencodeAnswer,
     pub length: usize,

@@ -1,4 +1,6 @@
 // Searching octets: for the first that is not null, and for the end of the address field.
+#![tactic(auto)]
+
 ghost use Rattle.std.specs.Prelude.{◌≡◌, ◌+◌, ◌≤◌, length, drop};
 ghost use Rattle.octets.specs.First.{first};
 ghost use Rattle.search.specs.Search.{masked};

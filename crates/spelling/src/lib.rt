@@ -1,4 +1,6 @@
 // One spelling: the canonical check.
+#![tactic(auto)]
+
 ghost use Rattle.std.specs.Prelude.{◌≡◌};
 ghost use Rattle.spelling.specs.Canonical.{canonical};
 

@@ -1,4 +1,6 @@
 // Reading the text of an address: a callsign, then a hyphen and an SSID, as VK7NTK-5. The crate `printing` writes it.
+#![tactic(auto)]
+
 ghost use Rattle.std.specs.Prelude.{◌≡◌};
 ghost use Rattle.octets.specs.All.{all};
 ghost use Rattle.octets.specs.First.{first};
@@ -8,7 +10,7 @@ ghost use Rattle.text.specs.Text.{address_number_of, hyphen, digits_say, after_p
 use address::Address;
 
 // How reading an address ended.
-#[derive(Drop)]
+#[derive(Clone, Copy)]
 pub enum AddressAnswer {
     Accepted,
     CallsignTooLong,
@@ -18,14 +20,14 @@ pub enum AddressAnswer {
     NotAscii,
 }
 
-#[derive(Drop)]
+#[derive(Clone, Copy)]
 pub struct AddressRead {
     pub answer: AddressAnswer,
     pub address: Address,
 }
 
 // What the text of an SSID says.
-#[derive(Drop)]
+#[derive(Clone, Copy)]
 enum Ssid {
     Number(u8),
     NotANumber,

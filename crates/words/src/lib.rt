@@ -1,5 +1,7 @@
 // The words of the dumper's lines, short ones by value: hex, decimal, address characters, marks, kinds, control and PID, yes and no, reasons;
 // and a text with a number, put into a lent buffer.
+#![tactic(auto)]
+
 ghost use Rattle.std.specs.Prelude.{◌≡◌, ◌++◌, ◌+◌, ◌<◌, ◌%◌, ltb, length};
 ghost use Rattle.octets.specs.Splice.{splice};
 ghost use Rattle.words.specs.Words.{hex_digit, hex, decimal, character, word_of, mark_text, kind_text, has_pid, control_text, pid_text, yes_no, reason_text};
@@ -11,7 +13,7 @@ use frame::Mark;
 use reason::Reason;
 
 // Up to eight characters, zeros after them.
-#[derive(Drop)]
+#[derive(Clone, Copy)]
 pub struct Word {
     pub letters: [u8; 8],
     pub length: usize,
