@@ -1,7 +1,6 @@
 // Re-encoding: what a frame decoded and written again would be, from the input's octets straight into the output's. No frame is built.
 #![tactic(auto)]
 
-
 ghost use Rattle.std.specs.Prelude.{◌≡◌, true, ◌+◌, ◌-◌, ◌*◌, ◌≤◌, length};
 ghost use Rattle.octets.specs.Splice.{splice};
 ghost use Rattle.frame.specs.Spell.{groups_of, destination_mark, address_field};

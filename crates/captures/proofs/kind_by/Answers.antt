@@ -1,0 +1,69 @@
+-- A refused part has the default frame. Of an accepted one the outline has the end, and the content behind it, which is accepted too, is the
+-- frame's.
+use Prim.Native.Nat.{◌+◌, ◌≤◌}
+use mathlib.Core.Path.{◌≡◌, refl, ap, sym, ◌∙◌}
+use mathlib.Core.Bool.{true, false, false≢true}
+use native.Mathlib.Omega.{arith}
+use lib.ListN.{length}
+use Rattle.octets.specs.Octet.{Octets}
+use Rattle.octets.proofs.Splice.{part_from}
+use Rattle.parse.specs.declared.ContentAnswer.{ContentAnswer}
+use Rattle.parse.specs.declared.ContentAnswer.TheVariants.{Accepted}
+use Rattle.frame.specs.declared.Ax25Frame.{Ax25Frame}
+use Rattle.decode.specs.Answer.{is_accepted}
+use Rattle.decode.specs.Read.{end_of, refusal_of, decode}
+use Rattle.decode.specs.declared.Outline.{Outline}
+use Rattle.decode.proofs.Accepts.{accepts}
+use Rattle.decode.proofs.Read.{told-refused, told-content}
+use Rattle.grammar.proofs.Refused.{refused_parts}
+use Rattle.grammar.proofs.Parts.{parts}
+use Rattle.captures.specs.Capture.{kind_of}
+use borrow.Author.Rules.{rules}
+use Rattle.captures.proofs.kind_by.Goals as goal
+use Rattle.captures.proofs.kind_by.Goals.{After-parse_content-read, After-shared_slice_known-1, After-struct_known-1}
+
+octets : (c : After-shared_slice_known-1) → Octets c.args.part.now
+octets c k = (c.shared_slice_known-1.given k).fits
+
+accepted : (c : After-struct_known-1) →
+    let a = c.args in
+    is_accepted (decode a.mode a.part.now).answer ≡ true
+accepted c =
+    rw (← ap (λ (o : Outline). o.answer) c.requires) (rw c.in-Accepted.is refl)
+
+end-told : (c : After-struct_known-1) → let a = c.args in a.outline.end ≡ end_of a.part.now
+end-told c = ap (λ (o : Outline). o.end) c.requires ∙ rw (accepted c) refl
+
+ends : (c : After-struct_known-1) → let a = c.args in a.outline.end + 1 ≤ length a.part.now
+ends c = rw (end-told c) (omega (arith, (accepts _ _ (accepted c)).end_in))
+
+-- the content that was read is the frame's
+content-read : (c : After-parse_content-read) →
+    let a = c.args in
+    c.parse_content-read.result ≡ Accepted (decode a.mode a.part.now).frame.content
+content-read c =
+    c.parse_content-read.ensures ∙ simp (part_from, end-told c) (parts _ _ (octets c) (accepted c)).content
+
+pub returns-in_default : goal.returns-in_default
+returns-in_default c =
+    let refused : is_accepted (decode c.args.mode c.args.part.now).answer ≡ false =
+    rw (← ap (λ (o : Outline). o.answer) c.requires) (told-refused c.args.outline.answer c.in_default.keys2) in
+    c.default_kind.ensures ∙ ap (λ (f : Ax25Frame). kind_of f.content) (sym (refused_parts _ _ refused).0)
+
+pub overflow_add-control : goal.overflow_add-control
+overflow_add-control c = omega (arith, ends (goal.at.overflow_add-control c).After-struct_known-1)
+
+pub slice_bounds-parse_content-count : goal.slice_bounds-parse_content-count
+slice_bounds-parse_content-count c = ends (goal.at.slice_bounds-parse_content-count c).After-struct_known-1
+
+pub slice_bounds-parse_content-start : goal.slice_bounds-parse_content-start
+slice_bounds-parse_content-start c = ends (goal.at.slice_bounds-parse_content-start c).After-struct_known-1
+
+pub returns-in_default-read : goal.returns-in_default-read
+returns-in_default-read c = absurd (false≢true (sym (told-content c.parse_content-read.result c.in_default-read.keys2) ∙ ap (λ (a : ContentAnswer). is_accepted (refusal_of a)) (content-read (goal.at.returns-in_default-read c).After-parse_content-read)))
+
+pub returns : goal.returns
+returns c =
+    let d = c.args in
+    let same : c.in-Accepted-read.content ≡ (decode d.mode d.part.now).frame.content = cc (sym c.in-Accepted-read.is ∙ content-read (goal.at.returns c).After-parse_content-read) in
+    c.kind_of.ensures ∙ ap kind_of same

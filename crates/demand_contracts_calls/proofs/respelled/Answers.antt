@@ -1,0 +1,29 @@
+-- The call's number and buffer are the definition's, of which the demands are proved.
+use mathlib.Core.Path.{◌≡◌, refl, ap, ◌∙◌}
+use Rattle.control.specs.declared.Mode.TheVariants.{Short}
+use Rattle.respelling.specs.Reencode.{report_of}
+use Rattle.respelling.specs.declared.Reencoded.{Reencoded}
+use Rattle.demands.proofs.Numbers.{decoding}
+use Rattle.demands.proofs.OneSpelling.{one_spelling, respelled-refused, respelled-short, respelled_into}
+use borrow.Author.Rules.{rules}
+use Rattle.demand_contracts_calls.proofs.respelled.Goals as goal
+
+-- the number of an answer
+number : {r q : Reencoded} → r ≡ q → (report_of r.answer).number ≡ (report_of q.answer).number
+number e = ap (λ (z : Reencoded). (report_of z.answer).number) e
+
+pub returns : goal.returns
+returns c =
+    let w = c.ax25_reencode in
+    let a = c.args in
+    let s = a.input.now in
+    let out = a.output.now in (
+      λ e. let x = respelled-refused Short s out e in (rw (w.ensures.0 ∙ number x.0) ((decoding Short s _).0 refl), w.ensures.1 ∙ x.1),
+      (
+        λ e h. let x = respelled-short Short s out e h in (w.ensures.0 ∙ number x.0, w.ensures.1 ∙ x.1),
+        (
+          λ e h. let x = respelled_into Short s out e h in (w.ensures.0 ∙ number x.0, w.ensures.1 ∙ x.1),
+          λ e. (one_spelling Short s (λ j. (c.shared_slice_known-1.given j).fits)).respelled e,
+        ),
+      ),
+    )

@@ -1,0 +1,24 @@
+-- What the call leaves is the definition's, of which the demand is proved.
+use mathlib.Core.Path.{ap, sym, ◌∙◌}
+use Rattle.octets.specs.Octet.{Octets}
+use Rattle.control.specs.Mode.{mode_of}
+use Rattle.reason.specs.Reason.{code_of}
+use Rattle.demands.specs.Reasons.{Told}
+use Rattle.demands.proofs.OneSpelling.{one_spelling}
+use Rattle.demands.proofs.Reasons.{told}
+use borrow.Author.Rules.{rules}
+use Rattle.demand_contracts_calls.proofs.told.Goals as goal
+
+pub returns : goal.returns
+returns c =
+    let a = c.args in
+    let e = c.ax25_reason.ensures in
+    let o : Octets a.input.now = λ k. (c.shared_slice_known-1.given k).fits in
+    let t : Told (mode_of a.mode) a.input.now = told _ _ o in
+    let exact = (one_spelling (mode_of a.mode) a.input.now o).exact in (
+      ((λ z. exact.0 (t.none.0 (sym e.0 ∙ z))), (λ w. e.0 ∙ t.none.1 (exact.1 w))),
+      (
+        (λ y. let x = t.accepted y in (rw e.0 x.0, e.1.0 ∙ x.1, e.1.1 ∙ x.2)),
+        ((λ y. e.0 ∙ ap code_of (t.refused y)), (rw e.1.0 t.number, (e.0, e.1.1))),
+      ),
+    )

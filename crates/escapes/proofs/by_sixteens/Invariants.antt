@@ -1,0 +1,18 @@
+-- Sixteen octets that stand for themselves are passed over at a time.
+use Prim.Native.Nat.{◌+◌, ◌-◌, ◌≤◌}
+use mathlib.Core.Path.{◌≡◌, sym, ◌∙◌}
+use native.Mathlib.Omega.{arith}
+use borrow.Author.Tests.{not-false, leb-true}
+use lib.ListN.{length, drop}
+use lib.Seq.{drop-drop}
+use Rattle.octets.specs.First.{first}
+use Rattle.octets.proofs.First.{first_skip}
+use Rattle.escapes.specs.Escape.{special}
+use borrow.Author.Rules.{rules}
+use Rattle.escapes.proofs.by_sixteens.Given as goal
+
+abbrev pub invariant-loop-i : goal.invariant-loop-i
+invariant-loop-i l = (l.i ≤ length l.bytes) × (l.from + first special (drop l.from l.bytes) ≡ l.i + first special (drop l.i l.bytes))
+
+abbrev pub decreases-loop-i : goal.decreases-loop-i
+decreases-loop-i l = length l.bytes - l.i

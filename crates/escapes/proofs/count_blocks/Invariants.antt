@@ -1,0 +1,15 @@
+-- So many so far, and those from here on, are those of the whole.
+use Prim.Native.Nat.{◌+◌, ◌-◌, ◌≤◌}
+use mathlib.Core.Path.{◌≡◌}
+use native.Mathlib.Omega.{arith}
+use lib.ListN.{length, drop}
+use Rattle.octets.specs.Count.{count}
+use Rattle.escapes.specs.Escape.{special}
+use borrow.Author.Rules.{rules}
+use Rattle.escapes.proofs.count_blocks.Given as goal
+
+abbrev pub invariant-loop-i : goal.invariant-loop-i
+invariant-loop-i l = (l.found ≤ l.i) × (l.i ≤ length l.bytes) × (l.found + count special (drop l.i l.bytes) ≡ count special l.bytes)
+
+abbrev pub decreases-loop-i : goal.decreases-loop-i
+decreases-loop-i l = length l.bytes - l.i

@@ -1,0 +1,17 @@
+-- From where the sixteens came to, one octet after the other.
+use Prim.Native.Nat.{◌+◌, ◌-◌, ◌≤◌}
+use mathlib.Core.Path.{◌≡◌}
+use native.Mathlib.Omega.{arith}
+use lib.ListN.{length, get_or, drop}
+use Rattle.octets.specs.First.{first}
+use Rattle.octets.proofs.First.{first_step, first_end}
+use Rattle.escapes.specs.Escape.{special}
+use Rattle.escapes.proofs.Marks.{marked, unmarked}
+use borrow.Author.Rules.{rules}
+use Rattle.escapes.proofs.plain_to.Given as goal
+
+abbrev pub invariant-loop-i : goal.invariant-loop-i
+invariant-loop-i l = (l.i ≤ length l.bytes) × (l.from + first special (drop l.from l.bytes) ≡ l.i + first special (drop l.i l.bytes))
+
+abbrev pub decreases-loop-i : goal.decreases-loop-i
+decreases-loop-i l = length l.bytes - l.i

@@ -1,0 +1,6 @@
+-- By the content at 0.
+use borrow.Author.Rules.{rules}
+use Rattle.flat.proofs.given.content_from.Goals as goal
+
+pub returns : goal.returns
+returns c = c.content_at.ensures

@@ -1,0 +1,7 @@
+-- The twelve octets are the content's.
+use mathlib.Core.Path.{refl, ◌∙◌}
+use borrow.Author.Rules.{rules}
+use Rattle.flat.proofs.laid.put_content.Goals as goal
+
+pub returns : goal.returns
+returns c = c.put.ensures ∙ rw c.content_octets-octets.ensures refl

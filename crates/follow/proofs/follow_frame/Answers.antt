@@ -1,0 +1,11 @@
+-- The frame is within the array, and the text no longer than its buffer.
+use mathlib.Core.Path.{sym}
+use lib.Seq.{length-take-le}
+use borrow.Author.Rules.{rules}
+use Rattle.follow.proofs.follow_frame.Goals as goal
+
+pub slice_bounds-follow-end : goal.slice_bounds-follow-end
+slice_bounds-follow-end c = sym (length-take-le _ _ (search rules))
+
+pub slice_bounds-write_all-end : goal.slice_bounds-write_all-end
+slice_bounds-write_all-end c = sym (length-take-le _ _ (search rules))

@@ -1,0 +1,16 @@
+-- The comparison from place i on is the comparison of the whole.
+use Prim.Native.Nat.{◌-◌, ◌≤◌}
+use mathlib.Core.Path.{◌≡◌, refl, sym, ◌∙◌}
+use native.Mathlib.Omega.{arith}
+use borrow.Author.Tests.{eq-eqb, ne_eqb}
+use lib.ListN.{drop}
+use Rattle.octets.specs.Same.{same}
+use Rattle.octets.proofs.Same.{same_step, same_end}
+use borrow.Author.Rules.{rules}
+use Rattle.hops.proofs.same_callsign.Given as goal
+
+abbrev pub invariant-loop-i : goal.invariant-loop-i
+invariant-loop-i l = (l.i ≤ 6) × (same (drop l.i l.a) (drop l.i l.b) ≡ same l.a l.b)
+
+abbrev pub decreases-loop-i : goal.decreases-loop-i
+decreases-loop-i l = 6 - l.i

@@ -1,0 +1,16 @@
+-- The call is the fold of the step. The invariant: the whole call is the call on the rest from here, with i octets more taken.
+use Prim.Native.Nat.{◌-◌, ◌≤◌}
+use mathlib.Core.Path.{◌≡◌, refl, ap, sym, ◌∙◌}
+use native.Mathlib.Omega.{arith}
+use lib.ListN.{length, drop}
+use Rattle.kiss_state.specs.State.{stream_of}
+use Rattle.kiss_stream.specs.Feed.{Called, later, taken_from, feed_of, fed_of}
+use Rattle.kiss_stream.proofs.Laws.{later_none, taken-gives, taken_goes, taken-ends}
+use borrow.Author.Rules.{rules}
+use Rattle.kiss_stream.proofs.feed.Given as goal
+
+abbrev pub invariant-loop-i : goal.invariant-loop-i
+invariant-loop-i l = (l.i ≤ length l.piece) × (taken_from (stream_of l.initial.octets l.initial.h) l.piece ≡ later l.i (taken_from (stream_of l.octets l.h) (drop l.i l.piece)))
+
+abbrev pub decreases-loop-i : goal.decreases-loop-i
+decreases-loop-i l = length l.piece - l.i

@@ -1,0 +1,11 @@
+-- Lent too little; else the default frame.
+use mathlib.Core.Path.{refl, ◌∙◌}
+use borrow.Author.Tests.{lt-ltb, le-ltb}
+use borrow.Author.Rules.{rules}
+use Rattle.probe.proofs.probe_default.Goals as goal
+
+pub returns-then-flat-lt-FRAME : goal.returns-then-flat-lt-FRAME
+returns-then-flat-lt-FRAME c = record { value = rw (lt-ltb _ _ c.if-flat-lt-FRAME.true) (refl, refl); flat_after = rw (lt-ltb _ _ c.if-flat-lt-FRAME.true) (refl, refl) }
+
+pub returns : goal.returns
+returns c = record { value = rw (le-ltb _ _ c.if-flat-lt-FRAME.false) (refl, c.put_frame.ensures ∙ rw c.default-frame.ensures refl); flat_after = rw (le-ltb _ _ c.if-flat-lt-FRAME.false) (refl, c.put_frame.ensures ∙ rw c.default-frame.ensures refl) }

@@ -1,0 +1,6 @@
+-- `refusal` gives NOCALL, SSID 0.
+use borrow.Author.Rules.{rules}
+use Rattle.text.proofs.refusal.Goals as goal
+
+pub returns : goal.returns
+returns c = rw c.default.ensures

@@ -1,0 +1,6 @@
+use mathlib.Core.Path.{refl}
+use borrow.Author.Rules.{rules}
+use Rattle.words.proofs.control.Goals as goal
+
+pub returns : goal.returns
+returns c = rw (c.hex.ensures, c.front-front.ensures) refl
