@@ -1,6 +1,5 @@
 -- `front` gives each kind's octets: the parts are what their own functions ensure.
 use mathlib.Core.Path.{refl}
-use borrow.Author.Rules.{rules}
 use Rattle.content.proofs.FrameContent.front.Goals as goal
 
 pub returns-in-Information : goal.returns-in-Information

@@ -2,7 +2,6 @@
 use mathlib.Core.Path.{sym}
 use native.Mathlib.Omega.{arith}
 use Rattle.control.proofs.Laws.{few-controls, sequenced-length, before_info}
-use borrow.Author.Rules.{rules}
 use Rattle.content.proofs.FrameContent.front_len.Goals as goal
 
 pub overflow_add-result : goal.overflow_add-result

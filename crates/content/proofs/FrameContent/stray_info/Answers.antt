@@ -1,7 +1,6 @@
 -- `stray_info` is the two tests of the definition, the one after the other.
 use mathlib.Core.Path.{◌≡◌, refl, sym, ◌∙◌}
 use mathlib.Core.Bool.{false}
-use borrow.Author.Rules.{rules}
 use Rattle.content.specs.Spell.{has_info}
 use Rattle.content.proofs.FrameContent.stray_info.Goals as goal
 

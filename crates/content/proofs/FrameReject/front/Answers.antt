@@ -1,6 +1,5 @@
 -- `front` gives the four octets of an FRMR: the parts are what their own functions ensure.
 use mathlib.Core.Path.{refl}
-use borrow.Author.Rules.{rules}
 use Rattle.content.proofs.FrameReject.front.Goals as goal
 
 pub returns : goal.returns
