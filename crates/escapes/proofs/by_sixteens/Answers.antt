@@ -1,13 +1,12 @@
-use Prim.Native.Nat.{◌+◌, ◌-◌, ◌≤◌}
-use mathlib.Core.Path.{◌≡◌, sym, ◌∙◌}
+use Prim.Native.Nat.{◌≤◌}
+use mathlib.Core.Path.{sym, ◌∙◌}
 use native.Mathlib.Omega.{arith}
-use borrow.Author.Tests.{not-false, leb-true}
-use lib.ListN.{length, drop}
+use borrow.Author.Tests.{leb-true}
+use lib.ListN.{drop}
 use lib.Seq.{drop-drop}
 use Rattle.octets.specs.First.{first}
 use Rattle.octets.proofs.First.{first_skip}
 use Rattle.escapes.specs.Escape.{special}
-use borrow.Author.Rules.{rules}
 use Rattle.escapes.proofs.by_sixteens.Goals as goal
 
 pub loop-i-init : goal.loop-i-init
@@ -29,7 +28,7 @@ pub loop-i-preserved : goal.loop-i-preserved
 loop-i-preserved c =
     let l = c.loop-i in
     let s = c.args.bytes.now in
-    let plain : 16 ≤ first special (drop l.i s) = leb-true _ _ (sym c.sixteen_plain.ensures ∙ not-false _ c.if-not-sixteen_plain.false) in
+    let plain : 16 ≤ first special (drop l.i s) = leb-true _ _ (sym c.sixteen_plain.ensures ∙ c.if-not-sixteen_plain.false) in
     let far = first_skip special (drop l.i s) 16 plain in
     (omega arith, omega (arith, rw (drop-drop 16 l.i s) at far))
 

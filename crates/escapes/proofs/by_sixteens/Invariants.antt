@@ -1,14 +1,9 @@
 -- Sixteen octets that stand for themselves are passed over at a time.
 use Prim.Native.Nat.{◌+◌, ◌-◌, ◌≤◌}
-use mathlib.Core.Path.{◌≡◌, sym, ◌∙◌}
-use native.Mathlib.Omega.{arith}
-use borrow.Author.Tests.{not-false, leb-true}
+use mathlib.Core.Path.{◌≡◌}
 use lib.ListN.{length, drop}
-use lib.Seq.{drop-drop}
 use Rattle.octets.specs.First.{first}
-use Rattle.octets.proofs.First.{first_skip}
 use Rattle.escapes.specs.Escape.{special}
-use borrow.Author.Rules.{rules}
 use Rattle.escapes.proofs.by_sixteens.Given as goal
 
 abbrev pub invariant-loop-i : goal.invariant-loop-i

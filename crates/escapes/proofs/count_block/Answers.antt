@@ -1,12 +1,10 @@
-use Prim.Native.Nat.{◌+◌, ◌-◌, ◌≤◌}
+use Prim.Native.Nat.{◌+◌}
 use mathlib.Core.Path.{◌≡◌}
 use native.Mathlib.Omega.{arith}
 use native.Mathlib.Nat.{add-zero}
-use lib.ListN.{get_or, drop}
-use Rattle.octets.specs.Count.{count}
+use lib.ListN.{get_or}
 use Rattle.escapes.specs.Escape.{special}
 use Rattle.escapes.proofs.Marks.{flag-most, count_turn}
-use borrow.Author.Rules.{rules}
 use Rattle.escapes.proofs.count_block.Goals as goal
 
 pub loop-k-init : goal.loop-k-init

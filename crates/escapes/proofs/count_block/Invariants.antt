@@ -1,13 +1,9 @@
 -- So many so far, and those from here on, are those from the block's start on.
 use Prim.Native.Nat.{◌+◌, ◌-◌, ◌≤◌}
 use mathlib.Core.Path.{◌≡◌}
-use native.Mathlib.Omega.{arith}
-use native.Mathlib.Nat.{add-zero}
-use lib.ListN.{get_or, drop}
+use lib.ListN.{drop}
 use Rattle.octets.specs.Count.{count}
 use Rattle.escapes.specs.Escape.{special}
-use Rattle.escapes.proofs.Marks.{flag-most, count_turn}
-use borrow.Author.Rules.{rules}
 use Rattle.escapes.proofs.count_block.Given as goal
 
 abbrev pub invariant-loop-k : goal.invariant-loop-k

@@ -1,10 +1,4 @@
-use Prim.Native.Nat.{◌+◌, ◌-◌, ◌≤◌}
-use mathlib.Core.Path.{◌≡◌}
 use native.Mathlib.Omega.{arith}
-use lib.ListN.{length, drop}
-use Rattle.octets.specs.Count.{count}
-use Rattle.escapes.specs.Escape.{special}
-use borrow.Author.Rules.{rules}
 use Rattle.escapes.proofs.count_blocks.Goals as goal
 
 pub loop-i-init : goal.loop-i-init

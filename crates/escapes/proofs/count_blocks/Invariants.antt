@@ -1,11 +1,9 @@
 -- So many so far, and those from here on, are those of the whole.
 use Prim.Native.Nat.{◌+◌, ◌-◌, ◌≤◌}
 use mathlib.Core.Path.{◌≡◌}
-use native.Mathlib.Omega.{arith}
 use lib.ListN.{length, drop}
 use Rattle.octets.specs.Count.{count}
 use Rattle.escapes.specs.Escape.{special}
-use borrow.Author.Rules.{rules}
 use Rattle.escapes.proofs.count_blocks.Given as goal
 
 abbrev pub invariant-loop-i : goal.invariant-loop-i

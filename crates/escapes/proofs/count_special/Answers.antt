@@ -1,12 +1,8 @@
-use Prim.Native.Nat.{◌+◌, ◌-◌, ◌≤◌}
-use mathlib.Core.Path.{◌≡◌}
 use native.Mathlib.Omega.{arith}
-use lib.ListN.{length, get_or, drop}
-use Rattle.octets.specs.Count.{count}
+use lib.ListN.{get_or}
 use Rattle.octets.proofs.Count.{count_end}
 use Rattle.escapes.specs.Escape.{special}
 use Rattle.escapes.proofs.Marks.{flag-most, count_turn}
-use borrow.Author.Rules.{rules}
 use Rattle.escapes.proofs.count_special.Goals as goal
 
 pub loop-i-init : goal.loop-i-init

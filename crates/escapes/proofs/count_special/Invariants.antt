@@ -1,13 +1,9 @@
 -- From the blocks on, one octet after the other.
 use Prim.Native.Nat.{◌+◌, ◌-◌, ◌≤◌}
 use mathlib.Core.Path.{◌≡◌}
-use native.Mathlib.Omega.{arith}
-use lib.ListN.{length, get_or, drop}
+use lib.ListN.{length, drop}
 use Rattle.octets.specs.Count.{count}
-use Rattle.octets.proofs.Count.{count_end}
 use Rattle.escapes.specs.Escape.{special}
-use Rattle.escapes.proofs.Marks.{flag-most, count_turn}
-use borrow.Author.Rules.{rules}
 use Rattle.escapes.proofs.count_special.Given as goal
 
 abbrev pub invariant-loop-i : goal.invariant-loop-i

@@ -2,7 +2,6 @@
 use lib.Dec.{eqb}
 use Rattle.escapes.specs.Escape.{fend, fesc}
 use Rattle.escapes.proofs.Marks.{byte_or}
-use borrow.Author.Rules.{rules}
 use Rattle.escapes.proofs.mark.Goals as goal
 
 pub returns : goal.returns

@@ -1,12 +1,8 @@
-use Prim.Native.Nat.{◌+◌, ◌-◌, ◌≤◌}
-use mathlib.Core.Path.{◌≡◌}
 use native.Mathlib.Omega.{arith}
-use lib.ListN.{length, get_or, drop}
-use Rattle.octets.specs.First.{first}
+use lib.ListN.{get_or}
 use Rattle.octets.proofs.First.{first_step, first_end}
 use Rattle.escapes.specs.Escape.{special}
 use Rattle.escapes.proofs.Marks.{marked, unmarked}
-use borrow.Author.Rules.{rules}
 use Rattle.escapes.proofs.plain_to.Goals as goal
 
 pub returns-then-bytes-from : goal.returns-then-bytes-from

@@ -1,13 +1,9 @@
 -- From where the sixteens came to, one octet after the other.
 use Prim.Native.Nat.{◌+◌, ◌-◌, ◌≤◌}
 use mathlib.Core.Path.{◌≡◌}
-use native.Mathlib.Omega.{arith}
-use lib.ListN.{length, get_or, drop}
+use lib.ListN.{length, drop}
 use Rattle.octets.specs.First.{first}
-use Rattle.octets.proofs.First.{first_step, first_end}
 use Rattle.escapes.specs.Escape.{special}
-use Rattle.escapes.proofs.Marks.{marked, unmarked}
-use borrow.Author.Rules.{rules}
 use Rattle.escapes.proofs.plain_to.Given as goal
 
 abbrev pub invariant-loop-i : goal.invariant-loop-i

@@ -1,10 +1,7 @@
-use Prim.Native.Nat.{◌-◌, ◌≤◌}
 use mathlib.Core.Path.{◌≡◌, sym}
 use native.Mathlib.Omega.{arith}
 use lib.ListN.{drop}
-use Rattle.octets.specs.Octet.{flag}
-use Rattle.escapes.proofs.Marks.{met, met_start, met_none, met_turn}
-use borrow.Author.Rules.{rules}
+use Rattle.escapes.proofs.Marks.{met_start, met_none, met_turn}
 use Rattle.escapes.proofs.sixteen_plain.Goals as goal
 
 pub loop-k-init : goal.loop-k-init

@@ -1,11 +1,9 @@
 -- So far none has been met, or one has.
 use Prim.Native.Nat.{◌-◌, ◌≤◌}
-use mathlib.Core.Path.{◌≡◌, sym}
-use native.Mathlib.Omega.{arith}
+use mathlib.Core.Path.{◌≡◌}
 use lib.ListN.{drop}
 use Rattle.octets.specs.Octet.{flag}
-use Rattle.escapes.proofs.Marks.{met, met_start, met_none, met_turn}
-use borrow.Author.Rules.{rules}
+use Rattle.escapes.proofs.Marks.{met}
 use Rattle.escapes.proofs.sixteen_plain.Given as goal
 
 abbrev pub invariant-loop-k : goal.invariant-loop-k

@@ -6,7 +6,6 @@ use native.Mathlib.Omega.{arith}
 use lib.ListN.{set, length-set}
 use Rattle.octets.proofs.Splice.{splice_one, splice-cons}
 use Rattle.escapes.specs.Escape.{fesc}
-use borrow.Author.Rules.{rules}
 use Rattle.kiss.proofs.put_escape.Goals as goal
 
 pub bounds-out-at-2 : goal.bounds-out-at-2

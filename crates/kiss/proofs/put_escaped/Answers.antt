@@ -1,11 +1,8 @@
-use Prim.Native.Nat.{◌+◌, ◌-◌}
-use mathlib.Core.Path.{◌≡◌, refl, ap, ◌∙◌}
+use mathlib.Core.Path.{refl, ap, ◌∙◌}
 use native.Mathlib.Omega.{arith}
 use lib.ListN.{length}
-use Rattle.octets.specs.Splice.{splice}
 use Rattle.octets.proofs.Splice.{splice-length}
-use Rattle.escapes.specs.Escape.{escaped}
-use Rattle.kiss.proofs.Laws.{Left, left_turn, left_none, next_further}
+use Rattle.kiss.proofs.Laws.{left_turn, left_none, next_further}
 use Rattle.kiss.proofs.put_escaped.Goals as goal
 
 pub loop-i-init : goal.loop-i-init

@@ -1,12 +1,10 @@
 -- What is still to be written, put where the writing has come to, is the whole.
 use Prim.Native.Nat.{◌+◌, ◌-◌}
-use mathlib.Core.Path.{◌≡◌, refl, ap, ◌∙◌}
-use native.Mathlib.Omega.{arith}
+use mathlib.Core.Path.{◌≡◌}
 use lib.ListN.{length}
 use Rattle.octets.specs.Splice.{splice}
-use Rattle.octets.proofs.Splice.{splice-length}
 use Rattle.escapes.specs.Escape.{escaped}
-use Rattle.kiss.proofs.Laws.{Left, left_turn, left_none, next_further}
+use Rattle.kiss.proofs.Laws.{Left}
 use Rattle.kiss.proofs.put_escaped.Given as goal
 
 abbrev pub invariant-loop-i : goal.invariant-loop-i

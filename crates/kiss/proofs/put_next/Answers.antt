@@ -9,7 +9,6 @@ use Rattle.octets.specs.Splice.{splice}
 use Rattle.octets.proofs.First.{first_le}
 use Rattle.escapes.specs.Escape.{special}
 use Rattle.kiss.proofs.Laws.{next-fend, next-fesc, next-plain, next-room}
-use borrow.Author.Rules.{rules}
 use Rattle.kiss.proofs.put_next.Goals as goal
 use Rattle.kiss.proofs.put_next.Goals.{After-plain_to-stop}
 

@@ -2,7 +2,8 @@
 use Prim.Native.Nat.{ℕ, ◌+◌, ◌*◌, ◌%◌, ◌≤◌}
 use mathlib.Core.Path.{◌≡◌, ap, sym, ◌∙◌}
 use native.Mathlib.Omega.{arith}
-use borrow.Author.Tests.{not-true, not-false, leb-true, leb-false}
+use borrow.Author.Tests.{leb-true, leb-false}
+use mathlib.Core.List.{List}
 use lib.ListN.{length, set, length-set}
 use Rattle.octets.specs.Splice.{splice}
 use Rattle.octets.specs.Count.{count}
@@ -11,9 +12,8 @@ use Rattle.escapes.specs.Escape.{fend, escaped, special}
 use Rattle.kiss.specs.Packet.{type_of}
 use Rattle.kiss.specs.declared.KissWriteAnswer.TheVariants.{Written, PortTooHigh, NoRoom}
 use Rattle.kiss.proofs.Laws.{escaped-length, packet-length, packet_parts, write_port, write-short, write_fits, written_by}
-use borrow.Author.Rules.{rules}
 use Rattle.kiss.proofs.write.Goals as goal
-use Rattle.kiss.proofs.write.Goals.{After-slice_known-2-1, Else-not-fits}
+use Rattle.kiss.proofs.write.Goals.{Else-not-fits}
 
 -- there is room
 fits : (c : Else-not-fits) → let a = c.args in
@@ -22,17 +22,16 @@ fits c =
     let a = c.args in
     let n = c.count_special-found.ensures in
     let room : 3 + length a.info.now + c.count_special-found.result ≤ length a.out.now =
-    leb-true _ _ (sym c.fits2.ensures ∙ not-false _ c.if-not-fits.false) in
+    leb-true _ _ (sym c.fits.ensures ∙ c.if-not-fits.false) in
     omega (arith, n, room)
 
 -- writing the data has left the output as long as it was
-long : (c : After-slice_known-2-1) → length c.put_escaped.new.0
-    ≡ length c.args.out.now
-long c =
-    let a = c.args in
-    ap length c.put_escaped.ensures
-    ∙ splice-length (set (set a.out.now 0 fend) 1 (a.port * 16 % 256)) 2 (escaped a.info.now)
-    ∙ length-set (set a.out.now 0 fend) 1 (a.port * 16 % 256) ∙ length-set a.out.now 0 fend
+long : (out new info : List ℕ) (type : ℕ) → new ≡ splice (set (set out 0 fend) 1 type) 2 (escaped info) → length new ≡ length out
+long out new info type e =
+    ap length e
+    ∙ splice-length (set (set out 0 fend) 1 type) 2 (escaped info)
+    ∙ length-set (set out 0 fend) 1 type
+    ∙ length-set out 0 fend
 
 pub returns-then-port-gt-LAST_PORT : goal.returns-then-port-gt-LAST_PORT
 returns-then-port-gt-LAST_PORT c =
@@ -43,7 +42,7 @@ returns-then-port-gt-LAST_PORT c =
 pub returns-then-not-fits : goal.returns-then-not-fits
 returns-then-not-fits c =
     let a = c.args in
-    let short = leb-false (3 + length a.info.now + c.count_special-found.result) (length a.out.now) (sym c.fits2.ensures ∙ not-true _ c.if-not-fits.true) in
+    let short = leb-false (3 + length a.info.now + c.count_special-found.result) (length a.out.now) (sym c.fits.ensures ∙ c.if-not-fits.true) in
     let e = written_by a.port a.info.now (length a.out.now) NoRoom
     (write-short a.port a.info.now (length a.out.now) c.if-port-gt-LAST_PORT.false
     (omega (arith, short, c.count_special-found.ensures, packet-length a.port a.info.now))) in
@@ -67,13 +66,13 @@ pub overflow_add-out-2 : goal.overflow_add-out-2
 overflow_add-out-2 c = omega (arith, fits (goal.at.overflow_add-out-2 c).Else-not-fits, c.count_special-found.ensures)
 
 pub bounds-out-n : goal.bounds-out-n
-bounds-out-n c = omega (arith, fits (goal.at.bounds-out-n c).Else-not-fits, c.count_special-found.ensures, long (goal.at.bounds-out-n c).After-slice_known-2-1)
+bounds-out-n c = omega (arith, fits (goal.at.bounds-out-n c).Else-not-fits, c.count_special-found.ensures, long _ _ _ _ c.put_escaped.ensures)
 
 pub overflow_add-result-2 : goal.overflow_add-result-2
 overflow_add-result-2 c = omega (arith, fits (goal.at.overflow_add-result-2 c).Else-not-fits, c.count_special-found.ensures)
 
 pub shape_of-out : goal.shape_of-out
-shape_of-out c = length-set c.put_escaped.new.0 _ _ ∙ long (goal.at.shape_of-out c).After-slice_known-2-1
+shape_of-out c = length-set c.put_escaped.new.out _ _ ∙ long _ _ _ _ c.put_escaped.ensures
 
 pub returns : goal.returns
 returns c =
