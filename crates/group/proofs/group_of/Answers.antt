@@ -1,5 +1,4 @@
 -- `group_of` puts together the seven octets.
-use borrow.Author.Rules.{rules}
 use Rattle.group.specs.Group.{group_of}
 use Rattle.group.proofs.group_of.Goals as goal
 

@@ -1,6 +1,5 @@
 -- `parse_address` gives the fields of the group: the shifts and masks are those of the definition.
 use Prim.Native.Nat.{ℕ, ◌/◌}
-use borrow.Author.Rules.{rules}
 use lib.Bits.{and_mask}
 use lib.ListN.{get_or}
 use Rattle.octets.proofs.Bits.{bit_test}
@@ -10,5 +9,5 @@ use Rattle.group.proofs.parse_address.Goals as goal
 pub returns : goal.returns
 unfolding address_of mark_of
 returns c =
-    let b : ℕ = get_or c.args.t1 6 0 in
+    let b : ℕ = get_or c.args.group 6 0 in
     simp (and_mask (b / 2) 4, and_mask (b / 32) 2, bit_test b 7)

@@ -3,7 +3,6 @@ use Prim.Native.Nat.{ℕ, ◌+◌, ◌*◌, ◌%◌, ◌<◌}
 use native.Mathlib.Omega.{arith}
 use mathlib.Core.Path.{◌≡◌, refl, ◌∙◌}
 use mathlib.Core.Bool.{Bool, true, false, cond}
-use borrow.Author.Rules.{rules}
 use lib.Bits.{bit_and, bit_or, and_mask, or_shifted, or_shifted_r, or_zero_r}
 use Rattle.octets.specs.Octet.{flag}
 use Rattle.group.specs.Group.{ssid_octet}
@@ -39,4 +38,4 @@ ssid-bits m e s r =
 pub returns : goal.returns
 returns c =
     let a = c.args in
-    rw (c.bit_if-high.ensures, c.bit_if-low.ensures) (ssid-bits a.high_bit a.final-in-address a.ssid a.reserved)
+    rw (c.bit_if-high.ensures, c.bit_if-low.ensures) (ssid-bits a.high_bit a.final_in_address a.ssid a.reserved)
