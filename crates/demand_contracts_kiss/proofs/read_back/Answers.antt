@@ -23,7 +23,7 @@ pub slice_bounds-ax25_kiss_read-end : goal.slice_bounds-ax25_kiss_read-end
 slice_bounds-ax25_kiss_read-end c = within (goal.at.slice_bounds-ax25_kiss_read-end c).After-row_known-1
 
 pub slice_bounds-ax25_kiss_read-end-2 : goal.slice_bounds-ax25_kiss_read-end-2
-slice_bounds-ax25_kiss_read-end-2 c = sym (length-take-le _ _ (within (goal.at.slice_bounds-ax25_kiss_read-end-2 c).After-slice_known-3-1))
+slice_bounds-ax25_kiss_read-end-2 c = sym (length-take-le _ _ (within (goal.at.slice_bounds-ax25_kiss_read-end-2 c).After-row_known-1))
 
 pub returns : goal.returns
 returns c =

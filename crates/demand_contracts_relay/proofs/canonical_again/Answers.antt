@@ -8,4 +8,4 @@ pub returns : goal.returns
 returns c =
     let left = c.relay.ensures.1 in
     let a = c.args in
-    record { value = c.is_canonical.ensures ∙ rw left (relayed-canonical a.own_val a.frame.now (λ j. (c.slice-known.given j).fits)); frame_after = left }
+    record { value = c.is_canonical.ensures ∙ rw left (relayed-canonical a.own a.frame.now (λ j. (c.slice-known.given j).fits)); frame_after = left }

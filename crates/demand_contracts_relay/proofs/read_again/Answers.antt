@@ -13,19 +13,19 @@ returns c =
     let s = a.frame.now in
     record {
       answer_value = rw (c.from_bytes.ensures, left) (
-        (λ z. let t = relayed_is a.own_val s z (λ j. (c.slice-known.given j).fits) in (t.answer, t.frame, t.info)),
-        ((λ n. ap (decode Short) (refused_relay a.own_val s n)), (refl, refl)),
+        (λ z. let t = relayed_is a.own s z (λ j. (c.slice-known.given j).fits) in (t.answer, t.frame, t.info)),
+        ((λ n. ap (decode Short) (refused_relay a.own s n)), (refl, refl)),
       );
       value = rw (c.from_bytes.ensures, left) (
-        (λ z. let t = relayed_is a.own_val s z (λ j. (c.slice-known.given j).fits) in (t.answer, t.frame, t.info)),
-        ((λ n. ap (decode Short) (refused_relay a.own_val s n)), (refl, refl)),
+        (λ z. let t = relayed_is a.own s z (λ j. (c.slice-known.given j).fits) in (t.answer, t.frame, t.info)),
+        ((λ n. ap (decode Short) (refused_relay a.own s n)), (refl, refl)),
       );
       value_2 = rw (c.from_bytes.ensures, left) (
-        (λ z. let t = relayed_is a.own_val s z (λ j. (c.slice-known.given j).fits) in (t.answer, t.frame, t.info)),
-        ((λ n. ap (decode Short) (refused_relay a.own_val s n)), (refl, refl)),
+        (λ z. let t = relayed_is a.own s z (λ j. (c.slice-known.given j).fits) in (t.answer, t.frame, t.info)),
+        ((λ n. ap (decode Short) (refused_relay a.own s n)), (refl, refl)),
       );
       frame_after = rw (c.from_bytes.ensures, left) (
-        (λ z. let t = relayed_is a.own_val s z (λ j. (c.slice-known.given j).fits) in (t.answer, t.frame, t.info)),
-        ((λ n. ap (decode Short) (refused_relay a.own_val s n)), (refl, refl)),
+        (λ z. let t = relayed_is a.own s z (λ j. (c.slice-known.given j).fits) in (t.answer, t.frame, t.info)),
+        ((λ n. ap (decode Short) (refused_relay a.own s n)), (refl, refl)),
       );
     }

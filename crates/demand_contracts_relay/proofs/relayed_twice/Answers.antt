@@ -9,4 +9,4 @@ returns c =
     let second = c.relay-2.ensures in
     let first = c.relay.ensures.bytes_after in
     let a = c.args in
-    record { again = rw (second.0, second.1, first) ((λ z. relayed-again a.own_val a.frame.now z), (refl, refl)); value = rw (second.0, second.1, first) ((λ z. relayed-again a.own_val a.frame.now z), (refl, refl)); frame_after = rw (second.0, second.1, first) ((λ z. relayed-again a.own_val a.frame.now z), (refl, refl)) }
+    record { again = rw (second.0, second.1, first) ((λ z. relayed-again a.own a.frame.now z), (refl, refl)); value = rw (second.0, second.1, first) ((λ z. relayed-again a.own a.frame.now z), (refl, refl)); frame_after = rw (second.0, second.1, first) ((λ z. relayed-again a.own a.frame.now z), (refl, refl)) }

@@ -35,7 +35,7 @@ pub slice_bounds-from_str-end : goal.slice_bounds-from_str-end
 slice_bounds-from_str-end c = within (goal.at.slice_bounds-from_str-end c).After-slice_known-2-1
 
 pub slice_bounds-from_str-end-2 : goal.slice_bounds-from_str-end-2
-slice_bounds-from_str-end-2 c = sym (length-take-le _ _ (within (goal.at.slice_bounds-from_str-end-2 c).After-out-1))
+slice_bounds-from_str-end-2 c = sym (length-take-le _ _ (within (goal.at.slice_bounds-from_str-end-2 c).After-slice_known-2-1))
 
 pub returns : goal.returns
 returns c =

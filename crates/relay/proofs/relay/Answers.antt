@@ -14,7 +14,7 @@ use borrow.Author.Rules.{rules}
 use Rattle.relay.proofs.relay.Goals as goal
 use Rattle.relay.proofs.relay.Goals.{Else-not-is_encodable, In-Accepted}
 
-able : (c : Else-not-is_encodable) → encodable c.args.own_val ≡ true
+able : (c : Else-not-is_encodable) → encodable c.args.own ≡ true
 able c = sym c.is_encodable.ensures ∙ not-false _ c.if-not-is_encodable.false
 
 accepted : (c : In-Accepted) → is_accepted (decode Short c.args.bytes.now).answer ≡ true
@@ -23,16 +23,16 @@ accepted c = rw (← ap (λ (o : Outline). o.answer) c.outline_of-outline.ensure
 pub returns-then-not-is_encodable : goal.returns-then-not-is_encodable
 returns-then-not-is_encodable c =
     let a = c.args in
-    let e = relay_stranger a.own_val a.bytes.now (sym c.is_encodable.ensures ∙ not-true _ c.if-not-is_encodable.true) in
-    record { value = sym e; bytes_after = sym (relayed_by a.own_val a.bytes.now _ e) }
+    let e = relay_stranger a.own a.bytes.now (sym c.is_encodable.ensures ∙ not-true _ c.if-not-is_encodable.true) in
+    record { value = sym e; bytes_after = sym (relayed_by a.own a.bytes.now _ e) }
 
 pub returns-in_default : goal.returns-in_default
 returns-in_default c =
     let f = c.outline_of-outline in
     let a = c.args in
     let same = ap (λ (o : Outline). o.answer) f.ensures in
-    let e = relay-refused a.own_val a.bytes.now (able (goal.at.returns-in_default c).After-is_encodable) (rw (← same) (told-refused f.result.answer c.in_default.keys2)) in
-    record { value = ap Refused same ∙ sym e; bytes_after = sym (relayed_by a.own_val a.bytes.now _ e) }
+    let e = relay-refused a.own a.bytes.now (able (goal.at.returns-in_default c).Else-not-is_encodable) (rw (← same) (told-refused f.result.answer c.in_default.keys2)) in
+    record { value = ap Refused same ∙ sym e; bytes_after = sym (relayed_by a.own a.bytes.now _ e) }
 
 pub relay_due-requires : goal.relay_due-requires
 relay_due-requires c =
@@ -42,5 +42,5 @@ relay_due-requires c =
 pub returns : goal.returns
 returns c =
     let a = c.args in
-    let e = relay-accepted a.own_val a.bytes.now (able (goal.at.returns c).After-is_encodable) (accepted (goal.at.returns c).In-Accepted) in
-    record { value = c.relay_due.ensures.value ∙ sym e; bytes_after = c.relay_due.ensures.bytes_after ∙ sym (relayed_by a.own_val a.bytes.now _ e) }
+    let e = relay-accepted a.own a.bytes.now (able (goal.at.returns c).Else-not-is_encodable) (accepted (goal.at.returns c).In-Accepted) in
+    record { value = c.relay_due.ensures.value ∙ sym e; bytes_after = c.relay_due.ensures.bytes_after ∙ sym (relayed_by a.own a.bytes.now _ e) }

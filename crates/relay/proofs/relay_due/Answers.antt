@@ -61,9 +61,9 @@ whole c = not-true _ (sym (above c) ∙ eq-eqb _ _ c.if-set-due-ne0.false)
 -- whose it is
 whose : (c : After-is_ours) →
     let a = c.args in
-    c.is_ours.result ≡ ours a.own_val (decode Short a.bytes.now).frame
+    c.is_ours.result ≡ ours a.own (decode Short a.bytes.now).frame
 whose c =
-    c.is_ours.ensures ∙ rw (due c) (ap (same_station c.args.own_val) (sym (due_read c.args.bytes.now c.requires.0 (inner c))))
+    c.is_ours.ensures ∙ rw (due c) (ap (same_station c.args.own) (sym (due_read c.args.bytes.now c.requires.0 (inner c))))
 
 pub hop_set_at-set-requires : goal.hop_set_at-set-requires
 hop_set_at-set-requires c =
@@ -72,7 +72,7 @@ hop_set_at-set-requires c =
 
 pub returns-then-due-count : goal.returns-then-due-count
 returns-then-due-count c =
-    let e = due_none c.args.own_val (decode Short c.args.bytes.now).frame (sym (due (goal.at.returns-then-due-count c).After-first_clear-due) ∙ c.if-due-count.true ∙ c.requires.1) in
+    let e = due_none c.args.own (decode Short c.args.bytes.now).frame (sym (due (goal.at.returns-then-due-count c).After-first_clear-due) ∙ c.if-due-count.true ∙ c.requires.1) in
     record { value = sym e; bytes_after = ap (λ a. left_by a c.args.bytes.now) (sym e) }
 
 pub overflow_cast-due-2 : goal.overflow_cast-due-2
@@ -84,7 +84,7 @@ overflow_shr-set c = omega (arith, few (goal.at.overflow_shr-set c).Else-due-cou
 pub returns-then-set-due-ne0 : goal.returns-then-set-due-ne0
 returns-then-set-due-ne0 c =
     let b = not-false _ (sym (above (goal.at.returns-then-set-due-ne0 c).Else-due-count) ∙ ne_eqb _ _ c.if-set-due-ne0.true) in
-    let e = due-broken c.args.own_val (decode Short c.args.bytes.now).frame (is-due (goal.at.returns-then-set-due-ne0 c).Else-due-count) b in
+    let e = due-broken c.args.own (decode Short c.args.bytes.now).frame (is-due (goal.at.returns-then-set-due-ne0 c).Else-due-count) b in
     record { value = sym e; bytes_after = ap (λ a. left_by a c.args.bytes.now) (sym e) }
 
 pub overflow_mul-at : goal.overflow_mul-at
@@ -94,22 +94,22 @@ pub overflow_add-at : goal.overflow_add-at
 overflow_add-at c = omega (arith, due_in (goal.at.overflow_add-at c).Else-due-count)
 
 pub is_ours-requires : goal.is_ours-requires
-is_ours-requires c = due_in (goal.at.is_ours-requires c).After-first_clear-due
+is_ours-requires c = due_in (goal.at.is_ours-requires c).Else-due-count
 
 pub returns-then-not-is_ours : goal.returns-then-not-is_ours
 returns-then-not-is_ours c =
     let s = c.args.bytes.now in
-    let e = due-other c.args.own_val (decode Short s).frame (is-due (goal.at.returns-then-not-is_ours c).After-first_clear-due) (whole (goal.at.returns-then-not-is_ours c).Else-due-count) (sym (whose (goal.at.returns-then-not-is_ours c).After-is_ours) ∙ not-true _ c.if-not-is_ours.true) in
+    let e = due-other c.args.own (decode Short s).frame (is-due (goal.at.returns-then-not-is_ours c).Else-due-count) (whole (goal.at.returns-then-not-is_ours c).Else-set-due-ne0) (sym (whose (goal.at.returns-then-not-is_ours c).After-is_ours) ∙ not-true _ c.if-not-is_ours.true) in
     record { value = sym e; bytes_after = ap (λ a. left_by a s) (sym e) }
 
 pub overflow_add-at-2 : goal.overflow_add-at-2
-overflow_add-at-2 c = omega (arith, due_in (goal.at.overflow_add-at-2 c).After-first_clear-due)
+overflow_add-at-2 c = omega (arith, due_in (goal.at.overflow_add-at-2 c).Else-due-count)
 
 pub set_mark-requires : goal.set_mark-requires
-set_mark-requires c = omega (arith, due_in (goal.at.set_mark-requires c).After-first_clear-due)
+set_mark-requires c = omega (arith, due_in (goal.at.set_mark-requires c).Else-due-count)
 
 pub returns : goal.returns
 returns c =
     let s = c.args.bytes.now in
-    let e = due-ours c.args.own_val (decode Short s).frame (is-due (goal.at.returns c).After-first_clear-due) (whole (goal.at.returns c).Else-due-count) (sym (whose (goal.at.returns c).After-is_ours) ∙ not-false _ c.if-not-is_ours.false) in
-    record { value = sym e; bytes_after = c.set_mark.ensures ∙ rw (due (goal.at.returns c).After-hop_set_at-set, e) refl }
+    let e = due-ours c.args.own (decode Short s).frame (is-due (goal.at.returns c).Else-due-count) (whole (goal.at.returns c).Else-set-due-ne0) (sym (whose (goal.at.returns c).After-is_ours) ∙ not-false _ c.if-not-is_ours.false) in
+    record { value = sym e; bytes_after = c.set_mark.ensures ∙ rw (due (goal.at.returns c).After-first_clear-due, e) refl }
