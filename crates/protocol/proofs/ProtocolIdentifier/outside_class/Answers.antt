@@ -2,22 +2,14 @@
 use Prim.Native.Nat.{ℕ}
 use mathlib.Core.Path.{◌≡◌, refl, ap, sym, ◌∙◌}
 use mathlib.Core.Bool.{false, not}
-use mathlib.Core.List.{List, [], ◌∷◌}
-use types.Run.{OneOf, miss}
-use denote.Enum.Declared.{tag_of}
-use borrow.Author.Rules.{rules}
 use Rattle.protocol.specs.Pid.{outside_class}
 use Rattle.protocol.specs.declared.ProtocolIdentifier.{ProtocolIdentifier}
 use Rattle.protocol.specs.declared.ProtocolIdentifier.TheVariants.{Layer3Impl, X25Plp, CompressedTcpIp, UncompressedTcpIp, SegmentationFragment, TexnetDatagram, LinkQuality, Appletalk, AppletalkArp, ArpaIp, ArpaAddress, Flexnet, NetRom, None, Escape, Unknown}
-use Rattle.protocol.specs.contracts.ProtocolIdentifier.{the_type}
 use Rattle.protocol.proofs.ProtocolIdentifier.outside_class.Goals as goal
 
--- the tags of all other cases
-abbrev others : List ℕ
-others = 1 ∷ 2 ∷ 3 ∷ 4 ∷ 5 ∷ 6 ∷ 7 ∷ 8 ∷ 9 ∷ 10 ∷ 11 ∷ 12 ∷ 13 ∷ 14 ∷ 15 ∷ []
-
-told-other : (p : ProtocolIdentifier) → OneOf others (tag_of the_type p) → outside_class p ≡ false
-told-other (Layer3Impl b) h = absurd (miss others 0 tt h)
+-- an identifier of any other case
+told-other : (p : ProtocolIdentifier) → ((b : ℕ) → p ≡ Layer3Impl b → ⊥) → outside_class p ≡ false
+told-other (Layer3Impl b) h = absurd (h b refl)
 told-other X25Plp h = refl
 told-other CompressedTcpIp h = refl
 told-other UncompressedTcpIp h = refl
@@ -35,7 +27,7 @@ told-other Escape h = refl
 told-other (Unknown b) h = refl
 
 pub returns-in_default : goal.returns-in_default
-returns-in_default c = sym (told-other c.args.self c.in_default.keys2)
+returns-in_default c = sym (told-other c.args.self c.in_default.not-Layer3Impl)
 
 pub returns : goal.returns
 returns c = ap not c.is_layer3.ensures ∙ ap outside_class (sym c.in-Layer3Impl.is)
