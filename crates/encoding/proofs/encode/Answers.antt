@@ -31,16 +31,16 @@ room-test c = sym (c.lacks_room.ensures ∙ rw c.front_len.ensures refl)
 roomy : (c : Else-lacks_room)
     → let a = c.args in
     lacks_room a.mode a.content (length a.info.now) (length a.out.now) ≡ false
-roomy c = room-test c ∙ c.if-lacks_room.false
+roomy c = sym (c.lacks_room.ensures ∙ rw c.front_len.ensures refl) ∙ c.if-lacks_room.false
 
 pub returns-then-long_frmr : goal.returns-then-long_frmr
 returns-then-long_frmr c =
     let a = c.args in
     record {
       value = rw (answer-long a.mode a.content (length a.info.now) (length a.out.now) (sym c.long_frmr.ensures ∙ c.if-long_frmr.true))
-          (refl, sym (splice_none a.out.now 0));
+          refl;
       out_after = rw (answer-long a.mode a.content (length a.info.now) (length a.out.now) (sym c.long_frmr.ensures ∙ c.if-long_frmr.true))
-          (refl, sym (splice_none a.out.now 0));
+          (sym (splice_none a.out.now 0));
     }
 
 pub returns-then-stray_info : goal.returns-then-stray_info
@@ -49,9 +49,9 @@ returns-then-stray_info c =
     let stray = sym c.stray_info.ensures ∙ c.if-stray_info.true in
     record {
       value = rw (answer-stray a.mode a.content (length a.info.now) (length a.out.now) (no-frmr (goal.at.returns-then-stray_info c).Else-long_frmr) stray)
-          (refl, sym (splice_none a.out.now 0));
+          refl;
       out_after = rw (answer-stray a.mode a.content (length a.info.now) (length a.out.now) (no-frmr (goal.at.returns-then-stray_info c).Else-long_frmr) stray)
-          (refl, sym (splice_none a.out.now 0));
+          (sym (splice_none a.out.now 0));
     }
 
 pub returns-then-stray_pid : goal.returns-then-stray_pid
@@ -60,9 +60,9 @@ returns-then-stray_pid c =
     let outside = sym c.stray_pid.ensures ∙ c.if-stray_pid.true in
     record {
       value = rw (answer-outside a.mode a.content (length a.info.now) (length a.out.now) (no-frmr (goal.at.returns-then-stray_pid c).Else-long_frmr) (info-fits (goal.at.returns-then-stray_pid c).Else-stray_info) outside)
-          (refl, sym (splice_none a.out.now 0));
+          refl;
       out_after = rw (answer-outside a.mode a.content (length a.info.now) (length a.out.now) (no-frmr (goal.at.returns-then-stray_pid c).Else-long_frmr) (info-fits (goal.at.returns-then-stray_pid c).Else-stray_info) outside)
-          (refl, sym (splice_none a.out.now 0));
+          (sym (splice_none a.out.now 0));
     }
 
 pub returns-then-lacks_room : goal.returns-then-lacks_room
@@ -71,9 +71,9 @@ returns-then-lacks_room c =
     let short = room-test (goal.at.returns-then-lacks_room c).After-lacks_room ∙ c.if-lacks_room.true in
     record {
       value = rw (answer-short a.mode a.content (length a.info.now) (length a.out.now) (no-frmr (goal.at.returns-then-lacks_room c).Else-long_frmr) (info-fits (goal.at.returns-then-lacks_room c).Else-stray_info) (pid-inside (goal.at.returns-then-lacks_room c).Else-stray_pid) short)
-          (refl, sym (splice_none a.out.now 0));
+          refl;
       out_after = rw (answer-short a.mode a.content (length a.info.now) (length a.out.now) (no-frmr (goal.at.returns-then-lacks_room c).Else-long_frmr) (info-fits (goal.at.returns-then-lacks_room c).Else-stray_info) (pid-inside (goal.at.returns-then-lacks_room c).Else-stray_pid) short)
-          (refl, sym (splice_none a.out.now 0));
+          (sym (splice_none a.out.now 0));
     }
 
 pub overflow_add-result : goal.overflow_add-result
@@ -90,7 +90,7 @@ returns c =
     let a = c.args in
     record {
       value = rw (answer-written a.mode a.content (length a.info.now) (length a.out.now) (no-frmr (goal.at.returns c).Else-long_frmr) (info-fits (goal.at.returns c).Else-stray_info) (pid-inside (goal.at.returns c).Else-stray_pid) (roomy (goal.at.returns c).Else-lacks_room))
-          (rw first.0 refl, c.put.ensures ∙ rw (first.1, first.0) (info-after a.out.now a.mode a.content a.info.now (roomy (goal.at.returns c).Else-lacks_room)));
+          (rw first.value refl);
       out_after = rw (answer-written a.mode a.content (length a.info.now) (length a.out.now) (no-frmr (goal.at.returns c).Else-long_frmr) (info-fits (goal.at.returns c).Else-stray_info) (pid-inside (goal.at.returns c).Else-stray_pid) (roomy (goal.at.returns c).Else-lacks_room))
-          (rw first.0 refl, c.put.ensures ∙ rw (first.1, first.0) (info-after a.out.now a.mode a.content a.info.now (roomy (goal.at.returns c).Else-lacks_room)));
+          (c.put.ensures ∙ rw (first.out_after, first.value) (info-after a.out.now a.mode a.content a.info.now (roomy (goal.at.returns c).Else-lacks_room)));
     }

@@ -10,7 +10,6 @@ use Rattle.control.specs.declared.Mode.{Mode}
 use Rattle.content.specs.declared.FrameContent.{FrameContent}
 use Rattle.content.proofs.Laws.{front-short}
 use Rattle.encoding.proofs.Laws.{four-take}
-use borrow.Author.Rules.{rules}
 use Rattle.encoding.proofs.put_front.Goals as goal
 
 put_is : (m : Mode) (k : FrameContent) (n : ℕ) (octets l : List ℕ) → n ≡ length (front m k) → octets ≡ four (front m k)
