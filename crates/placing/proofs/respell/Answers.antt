@@ -93,6 +93,6 @@ bounds-bytes-from-7 c = within _ 5 _ (lit< tt) (inside (goal.at.bounds-bytes-fro
 pub returns : goal.returns
 returns c =
     let a = c.args in
-    let o : Octets a.bytes.now = λ n. (c.shared_slice_known-1.given n).fits in
+    let o : Octets a.bytes.now = λ n. (c.type_inv.bytes n).fits in
     c.store.ensures.out_after
     ∙ rw c.ssid_octet-last.ensures (ap (splice a.out.now a.at) (octets-again a.bytes.now a.from _ _ o (inside (goal.at.returns c).Else-len-from)))
