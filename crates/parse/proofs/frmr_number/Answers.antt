@@ -4,7 +4,6 @@ use borrow.Author.Tests.{eq-eqb, ne_eqb}
 use lib.ListN.{length}
 use Rattle.parse.specs.Content.{frmr_of}
 use Rattle.parse.proofs.Numbers.{short-frmr}
-use borrow.Author.Rules.{rules}
 use Rattle.parse.proofs.frmr_number.Goals as goal
 
 pub returns-then-bytes-eq4 : goal.returns-then-bytes-eq4

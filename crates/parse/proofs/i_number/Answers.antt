@@ -6,7 +6,6 @@ use lib.Dec.{ltb}
 use lib.ListN.{length}
 use Rattle.octets.proofs.Choice.{by}
 use Rattle.parse.proofs.Numbers.{pid_i, long_i}
-use borrow.Author.Rules.{rules}
 use Rattle.parse.proofs.i_number.Goals as goal
 
 pub returns-in-Short : goal.returns-in-Short

@@ -6,7 +6,6 @@ use lib.ListN.{get_or}
 use Rattle.octets.specs.Octet.{field}
 use Rattle.octets.proofs.Bits.{low_mask}
 use Rattle.parse.specs.Content.{content_of}
-use borrow.Author.Rules.{rules}
 use Rattle.parse.proofs.number_of.Goals as goal
 
 pub returns-then-bytes-eq0 : goal.returns-then-bytes-eq0

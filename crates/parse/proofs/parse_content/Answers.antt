@@ -1,7 +1,6 @@
 -- `parse_content` tells I, S and U apart by the low bits, and each part gives what its definition says.
 use Prim.Native.Nat.{ℕ}
 use mathlib.Core.Path.{sym, ◌∙◌}
-use borrow.Author.Rules.{rules}
 use borrow.Author.Tests.{eq-eqb, ne_eqb}
 use lib.ListN.{get_or}
 use Rattle.octets.specs.Octet.{field}

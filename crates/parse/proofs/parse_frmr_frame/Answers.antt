@@ -1,7 +1,6 @@
 -- By the mode.
 use mathlib.Core.Path.{refl}
 use Rattle.parse.specs.Content.{frmr_of}
-use borrow.Author.Rules.{rules}
 use Rattle.parse.proofs.parse_frmr_frame.Goals as goal
 
 pub returns-in-Short : goal.returns-in-Short

@@ -1,6 +1,5 @@
 -- By the mode.
 use mathlib.Core.Path.{refl}
-use borrow.Author.Rules.{rules}
 use Rattle.parse.proofs.parse_i_frame.Goals as goal
 
 pub returns-in-Short : goal.returns-in-Short

@@ -1,7 +1,6 @@
 -- N(S) of the first octet, N(R) and the poll bit of the second and the PID of the third, once there are three.
 use borrow.Author.Tests.{lt-ltb, le-ltb}
 use Rattle.parse.specs.Content.{i_of}
-use borrow.Author.Rules.{rules}
 use Rattle.parse.proofs.parse_long_i_frame.Goals as goal
 
 pub returns-then-bytes-lt-LONG_CONTROL : goal.returns-then-bytes-lt-LONG_CONTROL

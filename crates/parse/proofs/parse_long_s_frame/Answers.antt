@@ -2,7 +2,6 @@
 use mathlib.Core.Path.{refl}
 use borrow.Author.Tests.{lt-ltb, le-ltb}
 use Rattle.parse.specs.Content.{s_of}
-use borrow.Author.Rules.{rules}
 use Rattle.parse.proofs.parse_long_s_frame.Goals as goal
 
 pub returns-then-bytes-lt-LONG_CONTROL : goal.returns-then-bytes-lt-LONG_CONTROL

@@ -1,7 +1,6 @@
 -- By the mode; the short control field is the first octet.
 use mathlib.Core.Path.{refl}
 use Rattle.parse.specs.Content.{s_of}
-use borrow.Author.Rules.{rules}
 use Rattle.parse.proofs.parse_s_frame.Goals as goal
 
 pub returns-in-Short : goal.returns-in-Short

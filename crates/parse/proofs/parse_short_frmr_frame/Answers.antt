@@ -1,6 +1,5 @@
 -- `parse_short_frmr_frame` gives each field of the four octets, once there are exactly four.
 use Prim.Native.Nat.{ℕ}
-use borrow.Author.Rules.{rules}
 use borrow.Author.Tests.{eq-eqb, ne_eqb}
 use lib.ListN.{get_or}
 use Rattle.octets.proofs.Bits.{bit_test}
@@ -11,10 +10,6 @@ use Rattle.parse.proofs.parse_short_frmr_frame.Goals as goal
 pub returns-then-bytes-ne4 : goal.returns-then-bytes-ne4
 unfolding frmr_of
 returns-then-bytes-ne4 c = simp (ne_eqb _ _ c.if-bytes-ne4.true)
-
-shared-slice-read-rejected-control-field-raw :
-    tie.Need-shared-slice-read-rejected-control-field-raw
-shared-slice-read-rejected-control-field-raw c = search rules
 
 pub returns : goal.returns
 unfolding frmr_of response_of

@@ -1,7 +1,6 @@
 -- `parse_short_i_frame` gives the PID of the second octet and the fields of the first, once there are two.
 use borrow.Author.Tests.{lt-ltb, le-ltb}
 use Rattle.parse.specs.Content.{i_of}
-use borrow.Author.Rules.{rules}
 use Rattle.parse.proofs.parse_short_i_frame.Goals as goal
 
 pub returns-then-bytes-lt-CONTROL_AND_PID : goal.returns-then-bytes-lt-CONTROL_AND_PID

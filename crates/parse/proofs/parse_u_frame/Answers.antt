@@ -1,9 +1,7 @@
 -- `parse_u_frame` tells the kind by the octet without its P/F bit.
-use Prim.Native.Nat.{ℕ}
 use mathlib.Core.Path.{sym, ◌∙◌}
 use borrow.Author.Rules.{rules}
 use borrow.Author.Tests.{ne_eqb}
-use Rattle.control.specs.Control.{u_kind}
 use Rattle.parse.specs.Content.{u_of}
 use Rattle.control.proofs.Masks.{poll_mask, u_mask}
 use Rattle.parse.proofs.parse_u_frame.Goals as goal
@@ -46,18 +44,4 @@ returns-in-227 c = simp (sym (u_mask c.args.c c.ranges.c.fits) ∙ c.in-227.is, 
 
 pub returns-in_default : goal.returns-in_default
 unfolding u_of
-returns-in_default c =
-    let n : ℕ = c.args.c in
-    let m = u_mask n c.ranges.c.fits in
-    let rest = c.in_default.rest in
-    simp (
-      ne_eqb (u_kind n) 0x2F (λ e. rest.0.0.0.0.0.0.0.0.1 (m ∙ e)),
-      ne_eqb (u_kind n) 0x6F (λ e. rest.0.0.0.0.0.0.0.1 (m ∙ e)),
-      ne_eqb (u_kind n) 0x43 (λ e. rest.0.0.0.0.0.0.1 (m ∙ e)),
-      ne_eqb (u_kind n) 0x0F (λ e. rest.0.0.0.0.0.1 (m ∙ e)),
-      ne_eqb (u_kind n) 0x63 (λ e. rest.0.0.0.0.1 (m ∙ e)),
-      ne_eqb (u_kind n) 0x87 (λ e. rest.0.0.0.1 (m ∙ e)),
-      ne_eqb (u_kind n) 0x03 (λ e. rest.0.0.1 (m ∙ e)),
-      ne_eqb (u_kind n) 0xAF (λ e. rest.0.1 (m ∙ e)),
-      ne_eqb (u_kind n) 0xE3 (λ e. rest.1 (m ∙ e)),
-    )
+returns-in_default c = search (rules, ne_eqb, sym (u_mask c.args.c c.ranges.c.fits))

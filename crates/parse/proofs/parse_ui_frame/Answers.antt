@@ -1,5 +1,4 @@
 -- `parse_ui_frame` gives the PID of the second octet and the P/F bit of the first, once there are two.
-use borrow.Author.Rules.{rules}
 use borrow.Author.Tests.{lt-ltb, le-ltb}
 use Rattle.parse.specs.Content.{ui_of}
 use Rattle.control.proofs.Masks.{poll_mask}

@@ -2,7 +2,6 @@
 use mathlib.Core.Path.{refl, sym}
 use Rattle.parse.specs.Content.{s_of}
 use Rattle.parse.proofs.Numbers.{long_s}
-use borrow.Author.Rules.{rules}
 use Rattle.parse.proofs.s_number.Goals as goal
 
 pub returns-in-Short : goal.returns-in-Short
