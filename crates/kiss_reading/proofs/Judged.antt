@@ -5,8 +5,6 @@ use mathlib.Core.Bool.{true, false, cond, false≢true}
 use mathlib.Core.List.{List, [], ◌∷◌}
 use native.Mathlib.Omega.{arith}
 use borrow.Author.Tests.{eqb-true, ltb-false, lt-ltb, le-ltb}
-use types.Run.{OneOf, miss}
-use denote.Enum.Declared.{tag_of}
 use lib.Dec.{eqb, ltb}
 use lib.ListN.{length, get_or, drop, drop_of_length-le}
 use lib.Seq.{drop-cons}
@@ -18,11 +16,10 @@ use Rattle.kiss_reading.specs.Answer.{is_accepted, Given, refused, accepted}
 use Rattle.kiss_reading.specs.Read.{Heard, heard, on_port, typed, type_escaped, opened, read_packet, read_into}
 use Rattle.kiss_reading.specs.declared.KissAnswer.{KissAnswer}
 use Rattle.kiss_reading.specs.declared.KissAnswer.TheVariants.{Accepted, NoOpening, Empty, BadEscape, NotData, PortTooHigh, NoClosing, NoRoom}
-use Rattle.kiss_reading.specs.contracts.KissAnswer.{the_type}
 
 -- what a match on the answer tells where it is not the first case
-pub told-refused : (a : KissAnswer) → OneOf (1 ∷ 2 ∷ 3 ∷ 4 ∷ 5 ∷ 6 ∷ 7 ∷ []) (tag_of the_type a) → is_accepted a ≡ false
-told-refused Accepted h = absurd (miss (1 ∷ 2 ∷ 3 ∷ 4 ∷ 5 ∷ 6 ∷ 7 ∷ []) 0 tt h)
+pub told-refused : (a : KissAnswer) → (a ≡ Accepted → ⊥) → is_accepted a ≡ false
+told-refused Accepted h = absurd (h refl)
 told-refused NoOpening h = refl
 told-refused Empty h = refl
 told-refused BadEscape h = refl

@@ -1,16 +1,12 @@
 -- What is still to be written, put where the writing has come to, is the whole.
-use Prim.Native.Nat.{◌+◌, ◌-◌, ◌≤◌, ◌<◌}
-use mathlib.Core.Path.{◌≡◌, refl, ap, ◌∙◌}
+use Prim.Native.Nat.{◌-◌}
+use mathlib.Core.Path.{◌≡◌}
 use mathlib.Core.Bool.{false}
-use native.Mathlib.Omega.{arith}
-use lib.ListN.{drop, length-drop}
+use lib.ListN.{drop}
 use lib.ListN.{length as list_length}
 use Rattle.octets.specs.Splice.{splice}
-use Rattle.octets.proofs.Splice.{splice-length}
 use Rattle.kiss_reading.specs.Read.{heard}
-use Rattle.kiss_reading.specs.Steps.{data_of, Goes}
-use Rattle.kiss_reading.specs.declared.Step.{Step}
-use Rattle.kiss_reading.proofs.Turns.{Left, left_goes, left_turn, left_none}
+use Rattle.kiss_reading.proofs.Turns.{Left}
 use Rattle.kiss_reading.proofs.copy.Given as goal
 
 abbrev pub invariant-loop-j : goal.invariant-loop-j

@@ -11,7 +11,6 @@ use Rattle.octets.proofs.Splice.{splice_one}
 use Rattle.escapes.specs.Escape.{special}
 use Rattle.kiss_reading.specs.Steps.{step_of}
 use Rattle.kiss_reading.proofs.Turns.{step-plain, step_two}
-use borrow.Author.Rules.{rules}
 use Rattle.kiss_reading.proofs.copy_step.Goals as goal
 use Rattle.kiss_reading.proofs.copy_step.Goals.{After-plain_to-stop}
 

@@ -3,7 +3,6 @@ use mathlib.Core.Path.{sym, ◌∙◌}
 use native.Mathlib.Omega.{arith}
 use borrow.Author.Tests.{eq-eqb, ne_eqb}
 use Rattle.kiss_reading.proofs.Judged.{escaped_none, escaped_at}
-use borrow.Author.Rules.{rules}
 use Rattle.kiss_reading.proofs.escaped_type.Goals as goal
 
 pub returns-then-input-eq2 : goal.returns-then-input-eq2

@@ -4,7 +4,6 @@ use native.Mathlib.Omega.{arith}
 use borrow.Author.Tests.{eq-eqb, ne_eqb}
 use Rattle.kiss_reading.specs.Answer.{read_of}
 use Rattle.kiss_reading.proofs.Judged.{read_none, read-strange, read_opened}
-use borrow.Author.Rules.{rules}
 use Rattle.kiss_reading.proofs.judge.Goals as goal
 
 pub returns-then-input-eq0 : goal.returns-then-input-eq0

@@ -4,7 +4,6 @@ use native.Mathlib.Omega.{arith}
 use borrow.Author.Tests.{eq-eqb, ne_eqb}
 use Rattle.kiss_reading.specs.Answer.{read_of}
 use Rattle.kiss_reading.proofs.Judged.{opened_none, opened-empty, opened-escaped, opened-typed}
-use borrow.Author.Rules.{rules}
 use Rattle.kiss_reading.proofs.judge_opened.Goals as goal
 
 pub returns-then-input-eq1 : goal.returns-then-input-eq1

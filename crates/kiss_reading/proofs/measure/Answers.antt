@@ -1,39 +1,35 @@
-use Prim.Native.Nat.{◌+◌, ◌-◌, ◌≤◌}
+use Prim.Native.Nat.{ℕ, ◌+◌, ◌≤◌, ◌<◌}
 use mathlib.Core.Path.{◌≡◌, ap, sym, ◌∙◌}
 use mathlib.Core.Bool.{false}
+use mathlib.Core.List.{List}
 use native.Mathlib.Omega.{arith}
 use lib.ListN.{drop, length-drop}
 use lib.ListN.{length as list_length}
 use Rattle.kiss_reading.specs.Read.{heard, ends}
-use Rattle.kiss_reading.specs.Steps.{step_from, Goes, measured_of}
+use Rattle.kiss_reading.specs.Steps.{step_from, Goes}
 use Rattle.kiss_reading.specs.declared.Step.{Step}
-use Rattle.kiss_reading.proofs.Turns.{heard_end, heard-stops, heard_goes, measured_by, measured_start, measured-ends, measured_turn}
-use borrow.Author.Rules.{rules}
+use Rattle.kiss_reading.proofs.Turns.{heard_end, heard-stops, heard_goes, measured_start, measured-ends, measured_turn}
 use Rattle.kiss_reading.proofs.measure.Goals as goal
 
-width : (c : tie.After-step-at invariant-loop decreases-loop) → c.step-at.result.width
-    ≡ (step_from (drop c.before.before.loop.i c.before.before.before.before.args.input.now)).width
-width c = ap (λ (t : Step). t.width) c.step-at.ensures
+width : (t : Step) (l : List ℕ) → t ≡ step_from l → t.width ≡ (step_from l).width
+width t l e = ap (λ (x : Step). x.width) e
 
 -- what a step does to the place and to the length
-record Further (c : tie.Else1 invariant-loop decreases-loop) : Type 0 where
-  goes : Goes (drop c.before.before.before.before.loop.i c.before.before.before.before.before.before.args.input.now)
-  some : 1 ≤ c.before.before.step-at.result.width
-  wide : c.before.before.before.before.loop.i + c.before.before.step-at.result.width ≤ list_length c.before.before.before.before.before.before.args.input.now
-  short : c.before.before.step-at.result.length ≤ c.before.before.step-at.result.width
+record Further (s : List ℕ) (i : ℕ) (t : Step) : Type 0 where
+  goes : Goes (drop i s)
+  some : 1 ≤ t.width
+  wide : i + t.width ≤ list_length s
+  short : t.length ≤ t.width
 
-further : (c : tie.Else1 invariant-loop decreases-loop) → Further c
-further c =
-    let t = c.before.before in
-    let i = t.before.before.loop.i in
-    let s = t.before.before.before.before.args.input.now in
-    let g = heard_goes s i t.before.loop-test.true (λ z. c.if1.false (width t ∙ z)) in
-    let w = width t in
-    let l = ap (λ (x : Step). x.length) t.step-at.ensures in
+further : (s : List ℕ) (i : ℕ) (t : Step) → i < list_length s → t ≡ step_from (drop i s) → (t.width ≡ 0 → ⊥) → Further s i t
+further s i t h e n =
+    let w = width t (drop i s) e in
+    let g = heard_goes s i h (λ z. n (w ∙ z)) in
+    let l = ap (λ (x : Step). x.length) e in
     record {
       goes = g;
       some = omega (arith, w, g.some, g.short);
-      wide = omega (arith, w, g.wide, length-drop i s, t.before.before.loop.invariant.0);
+      wide = omega (arith, w, g.wide, length-drop i s, h);
       short = omega (arith, w, l, g.short);
     }
 
@@ -44,25 +40,25 @@ pub returns-then-step-eq0 : goal.returns-then-step-eq0
 returns-then-step-eq0 c =
     let l = c.loop-i in
     measured-ends l.length _ _
-    (heard-stops _ _ c.loop-i-test.true (sym (width (goal.at.returns-then-step-eq0 c).After-step_at-step) ∙ c.if-step-eq0.true) ∙ ap ends (sym c.stopped.ensures))
+    (heard-stops _ _ c.loop-i-test.true (sym (width _ _ c.step_at-step.ensures) ∙ c.if-step-eq0.true) ∙ ap ends (sym c.stopped.ensures))
     ∙ l.invariant.2
 
 pub overflow_add-i : goal.overflow_add-i
-overflow_add-i c = omega (arith, (further (goal.at.overflow_add-i c).Else-step-eq0).wide)
+overflow_add-i c = omega (arith, (further c.args.input.now _ _ c.loop-i-test.true c.step_at-step.ensures c.if-step-eq0.false).wide)
 
 pub overflow_add-length : goal.overflow_add-length
 overflow_add-length c =
-    let f = further (goal.at.overflow_add-length c).Else-step-eq0 in
+    let f = further c.args.input.now _ _ c.loop-i-test.true c.step_at-step.ensures c.if-step-eq0.false in
     omega (arith, f.wide, f.short)
 
 pub loop-i-smaller : goal.loop-i-smaller
 loop-i-smaller c =
-    let f = further (goal.at.loop-i-smaller c).Else-step-eq0 in
+    let f = further c.args.input.now _ _ c.loop-i-test.true c.step_at-step.ensures c.if-step-eq0.false in
     omega (arith, f.wide, f.some)
 
 pub loop-i-preserved : goal.loop-i-preserved
 loop-i-preserved c =
-    let f = further (goal.at.loop-i-preserved c).Else-step-eq0 in
+    let f = further c.args.input.now _ _ c.loop-i-test.true c.step_at-step.ensures c.if-step-eq0.false in
     let l = c.loop-i in
     (f.wide, omega (arith, f.short), measured_turn _ _ l.length _ f.goes c.step_at-step.ensures ∙ l.invariant.2)
 

@@ -1,15 +1,12 @@
 -- What the octets from here on come to, after so many octets of data, is what the whole comes to.
-use Prim.Native.Nat.{◌+◌, ◌-◌, ◌≤◌}
-use mathlib.Core.Path.{◌≡◌, ap, sym, ◌∙◌}
+use Prim.Native.Nat.{◌-◌, ◌≤◌}
+use mathlib.Core.Path.{◌≡◌}
 use mathlib.Core.Bool.{false}
-use native.Mathlib.Omega.{arith}
-use lib.ListN.{drop, length-drop}
+use lib.ListN.{drop}
 use lib.ListN.{length as list_length}
-use Rattle.kiss_reading.specs.Read.{heard, ends}
-use Rattle.kiss_reading.specs.Steps.{step_from, Goes, measured_of}
-use Rattle.kiss_reading.specs.declared.Step.{Step}
-use Rattle.kiss_reading.proofs.Turns.{heard_end, heard-stops, heard_goes, measured_by, measured_start, measured-ends, measured_turn}
-use borrow.Author.Rules.{rules}
+use Rattle.kiss_reading.specs.Read.{heard}
+use Rattle.kiss_reading.specs.Steps.{measured_of}
+use Rattle.kiss_reading.proofs.Turns.{measured_by}
 use Rattle.kiss_reading.proofs.measure.Given as goal
 
 abbrev pub invariant-loop-i : goal.invariant-loop-i

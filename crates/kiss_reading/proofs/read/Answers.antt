@@ -12,7 +12,6 @@ use Rattle.kiss_reading.specs.Read.{read_packet, read_into}
 use Rattle.kiss_reading.specs.declared.KissAnswer.TheVariants.{NoRoom}
 use Rattle.kiss_reading.specs.declared.KissRead.{KissRead}
 use Rattle.kiss_reading.proofs.Judged.{told-refused, fair_read, into-refused, into-short, into_fits, data-heard}
-use borrow.Author.Rules.{rules}
 use Rattle.kiss_reading.proofs.read.Goals as goal
 use Rattle.kiss_reading.proofs.read.Goals.{In-Accepted}
 
@@ -24,7 +23,7 @@ returns-in_default c =
     let a = c.args in
     let s = a.input.now in
     let no : is_accepted (read_packet s).answer ≡ false =
-    sym (ap (λ (r : KissRead). is_accepted r.answer) c.judge-judged.ensures) ∙ told-refused c.judge-judged.result.answer c.in_default.keys2 in
+    sym (ap (λ (r : KissRead). is_accepted r.answer) c.judge-judged.ensures) ∙ told-refused c.judge-judged.result.answer c.in_default.not-Accepted in
     let e : read_into s (length a.out.now) ≡ refused (read_packet s).answer = into-refused s (length a.out.now) no in record { value = c.judge-judged.ensures ∙ ap read_of (fair_read s no ∙ sym e); out_after = sym (ap (λ (g : Given). splice a.out.now 0 g.octets) e ∙ splice_none _ _) }
 
 pub returns-then-out-judged : goal.returns-then-out-judged

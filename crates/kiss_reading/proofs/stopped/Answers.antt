@@ -5,7 +5,6 @@ use native.Mathlib.Omega.{arith}
 use borrow.Author.Tests.{eq-eqb, ne_eqb}
 use lib.ListN.{length}
 use Rattle.kiss_reading.proofs.Turns.{stopped_bad, stopped-closed}
-use borrow.Author.Rules.{rules}
 use Rattle.kiss_reading.proofs.stopped.Goals as goal
 
 pub returns-then-input-at : goal.returns-then-input-at

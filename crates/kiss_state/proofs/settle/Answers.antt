@@ -1,7 +1,6 @@
 -- Three tests, in the order of the definition.
 use borrow.Author.Tests.{lt-ltb, le-ltb}
 use Rattle.kiss_state.specs.State.{settled_head}
-use borrow.Author.Rules.{rules}
 use Rattle.kiss_state.proofs.settle.Goals as goal
 
 pub returns-then-h-gt-ROOM : goal.returns-then-h-gt-ROOM
