@@ -6,7 +6,6 @@ use mathlib.Core.Logic.{◌⊎◌, inl, inr}
 use native.Mathlib.Omega.{arith}
 use borrow.Author.Tests.{eqb-true, ltb-true, ltb-false}
 use lib.Dec.{ltb, eqb}
-use lib.ListN.{length}
 use Rattle.octets.specs.Octet.{field}
 use Rattle.octets.proofs.Choice.{by, either}
 use Rattle.escapes.specs.Escape.{fend, fesc, tfend, tfesc}
@@ -110,7 +109,7 @@ store-room h b =
 
 -- an octet keeps the states that calls make so
 none_sound : (f d : ℕ) → f ≤ in_type → Sound (head_of 0 0 f d)
-none_sound f d l = record { length-in = omega arith; port-in = omega arith; phase-in = l }
+none_sound f d l = record { length_in = omega arith; port_in = omega arith; phase_in = l }
 
 move_keeps : (h : Head) (b : ℕ) → Sound h → Sound (move_of h b).head
 unfolding drop_of
@@ -118,11 +117,11 @@ move_keeps h b k =
     move_by h b (λ m. Sound m.head) (record {
       same = k;
       opens = none_sound opened h.dropped (omega arith);
-      waits = λ f l. record { length-in = k.length_in; port-in = k.port_in; phase-in = l };
+      waits = λ f l. record { length_in = k.length_in; port_in = k.port_in; phase_in = l };
       drops = λ f l. none_sound f _ l;
-      starts = λ p l. record { length-in = omega arith; port-in = l; phase-in = omega arith };
-      stores = λ z l. record { length-in = omega (arith, l); port-in = k.port_in; phase-in = omega arith };
-      closes = λ _. record { length-in = k.length_in; port-in = k.port_in; phase-in = omega arith };
+      starts = λ p l. record { length_in = omega arith; port_in = l; phase_in = omega arith };
+      stores = λ z l. record { length_in = omega (arith, l); port_in = k.port_in; phase_in = omega arith };
+      closes = λ _. record { length_in = k.length_in; port_in = k.port_in; phase_in = omega arith };
     })
 
 pub step_keeps : (s : Stream) (b : ℕ) → Sound s.head → Sound (step_of s b).head

@@ -1,7 +1,6 @@
 -- The count stops.
 use borrow.Author.Tests.{lt-ltb, le-ltb}
 use Rattle.kiss_octet.specs.Step.{counted_of}
-use borrow.Author.Rules.{rules}
 use Rattle.kiss_octet.proofs.counted.Goals as goal
 
 pub returns-then-n-lt-LAST_COUNT : goal.returns-then-n-lt-LAST_COUNT

@@ -1,6 +1,5 @@
 -- Nothing is kept but the count.
 use Rattle.kiss_octet.specs.Step.{drop_of}
-use borrow.Author.Rules.{rules}
 use Rattle.kiss_octet.proofs.drop.Goals as goal
 
 pub returns : goal.returns

@@ -1,7 +1,6 @@
 -- By the octet.
 use borrow.Author.Tests.{eq-eqb, ne_eqb}
 use Rattle.kiss_octet.specs.Step.{unescaped}
-use borrow.Author.Rules.{rules}
 use Rattle.kiss_octet.proofs.escaped.Goals as goal
 
 pub returns-then-octet-eq-TFEND : goal.returns-then-octet-eq-TFEND

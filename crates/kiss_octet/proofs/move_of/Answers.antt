@@ -2,7 +2,6 @@
 use borrow.Author.Tests.{eq-eqb, ne_eqb}
 use Rattle.kiss_octet.specs.Step.{move_of}
 use Rattle.kiss_octet.proofs.Laws.{type-stray}
-use borrow.Author.Rules.{rules}
 use Rattle.kiss_octet.proofs.move_of.Goals as goal
 
 pub returns-then-phase-eq-IN_DATA : goal.returns-then-phase-eq-IN_DATA

@@ -3,7 +3,6 @@ use native.Mathlib.Omega.{arith}
 use borrow.Author.Tests.{lt-ltb, le-ltb}
 use Rattle.kiss_state.specs.State.{room}
 use Rattle.kiss_octet.specs.Step.{put_of}
-use borrow.Author.Rules.{rules}
 use Rattle.kiss_octet.proofs.put.Goals as goal
 
 pub returns-then-h-lt-ROOM : goal.returns-then-h-lt-ROOM

@@ -1,7 +1,6 @@
 -- By the octet.
 use borrow.Author.Tests.{eq-eqb, ne_eqb}
 use Rattle.kiss_octet.specs.Step.{opened_of}
-use borrow.Author.Rules.{rules}
 use Rattle.kiss_octet.proofs.start.Goals as goal
 
 pub returns-then-octet-eq-FEND : goal.returns-then-octet-eq-FEND
@@ -14,4 +13,4 @@ returns-then-octet-eq-FESC c = simp (c.quiet-then-octet-eq-FESC.ensures, c.in_ph
 
 pub returns : goal.returns
 unfolding opened_of
-returns c = simp (c.type_inv.ensures, ne_eqb _ _ c.if-octet-eq-FEND.false, ne_eqb _ _ c.if-octet-eq-FESC.false)
+returns c = simp (c.typed.ensures, ne_eqb _ _ c.if-octet-eq-FEND.false, ne_eqb _ _ c.if-octet-eq-FESC.false)

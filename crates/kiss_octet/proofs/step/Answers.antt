@@ -2,7 +2,6 @@
 use mathlib.Core.Path.{sym}
 use Rattle.kiss_octet.specs.Step.{stored_by}
 use Rattle.kiss_octet.proofs.Laws.{store-room}
-use borrow.Author.Rules.{rules}
 use Rattle.kiss_octet.proofs.step.Goals as goal
 
 pub bounds-octets-at : goal.bounds-octets-at

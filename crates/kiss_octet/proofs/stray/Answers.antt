@@ -1,7 +1,6 @@
 -- By the octet.
 use borrow.Author.Tests.{eq-eqb, ne_eqb}
 use Rattle.kiss_octet.specs.Step.{stray_of}
-use borrow.Author.Rules.{rules}
 use Rattle.kiss_octet.proofs.stray.Goals as goal
 
 pub returns-then-octet-eq-FEND : goal.returns-then-octet-eq-FEND
