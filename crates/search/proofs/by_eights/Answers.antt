@@ -1,144 +1,86 @@
-use Prim.Native.Nat.{ℕ, ◌-◌}
-use mathlib.Core.Path.{ap}
+-- After each octet that does not pass the search has come one place on.
+use Prim.Native.Nat.{ℕ, ◌+◌, ◌≤◌}
+use mathlib.Core.Path.{◌≡◌, ap}
 use mathlib.Core.Bool.{not}
+use mathlib.Core.List.{List}
 use native.Mathlib.Omega.{arith}
 use borrow.Author.Tests.{eq-eqb}
+use lib.Bits.{bit_and}
 use lib.Dec.{lit<}
-use lib.ListN.{length}
+use lib.ListN.{length, get_or}
 use Rattle.search.specs.Search.{masked}
-use Rattle.search.proofs.Reached.{Reached, reached_next, Turn, turn_next, turn_in, turn_fits, turn_less}
-use borrow.Author.Rules.{rules}
+use Rattle.search.proofs.Reached.{Reached, reached_next, Turn, turn_next}
 use Rattle.search.proofs.by_eights.Goals as goal
 
+-- no bit of the mask is set there
+abbrev Clear : ℕ → List ℕ → ℕ → Type 0
+Clear m s i = bit_and (get_or s i 0) m ≡ 0
+
 -- the search has come k places past the turn's start
-abbrev Past : tie.At-loop invariant-loop decreases-loop → ℕ → Type 0
-Past l k = Turn (masked l.before.args.mask) l.before.args.bytes.now l.loop.i k
+abbrev Past : ℕ → List ℕ → ℕ → ℕ → Type 0
+Past m s i k = Turn (masked m) s i k
 
-one : (c : tie.Else1 invariant-loop decreases-loop) → Past c.before.before.before 1
-one c =
-    let l = c.before.before.before in
-    record {
-      room = omega arith;
-      fits = search rules;
-      reached = reached_next _ _ _ _ l.loop.invariant (omega arith) (ap not (eq-eqb _ _ c.if1.false)) (omega arith);
-    }
+module _ (m : ℕ) (s : List ℕ) (i : ℕ) (h : i + 8 ≤ length s) (r : Reached (masked m) s i) (a : Clear m s i) where
+  one : Past m s i 1
+  one = record { room = h; reached = reached_next _ _ _ _ r (omega arith) (ap not (eq-eqb _ _ a)) (omega arith) }
 
-two : (c : tie.Else2 invariant-loop decreases-loop) → Past c.before.before.before.before.before 2
-two c = turn_next (one c.before.before) (lit< tt) (ap not (eq-eqb _ _ c.if2.false))
+  two : Clear m s (i + 1) → Past m s i 2
+  two b = turn_next one (lit< tt) (ap not (eq-eqb _ _ b))
 
-three : (c : tie.Else3 invariant-loop decreases-loop) → Past c.before.before.before.before.before.before.before 3
-three c = turn_next (two c.before.before) (lit< tt) (ap not (eq-eqb _ _ c.if3.false))
+  three : Clear m s (i + 1) → Clear m s (i + 2) → Past m s i 3
+  three b c = turn_next (two b) (lit< tt) (ap not (eq-eqb _ _ c))
 
-four : (c : tie.Else4 invariant-loop decreases-loop) → Past c.before.before.before.before.before.before.before.before.before 4
-four c = turn_next (three c.before.before) (lit< tt) (ap not (eq-eqb _ _ c.if4.false))
+  four : Clear m s (i + 1) → Clear m s (i + 2) → Clear m s (i + 3) → Past m s i 4
+  four b c d = turn_next (three b c) (lit< tt) (ap not (eq-eqb _ _ d))
 
-five : (c : tie.Else5 invariant-loop decreases-loop) → Past c.before.before.before.before.before.before.before.before.before.before.before 5
-five c = turn_next (four c.before.before) (lit< tt) (ap not (eq-eqb _ _ c.if5.false))
+  five : Clear m s (i + 1) → Clear m s (i + 2) → Clear m s (i + 3) → Clear m s (i + 4) → Past m s i 5
+  five b c d e = turn_next (four b c d) (lit< tt) (ap not (eq-eqb _ _ e))
 
-six : (c : tie.Else6 invariant-loop decreases-loop) → Past c.before.before.before.before.before.before.before.before.before.before.before.before.before 6
-six c = turn_next (five c.before.before) (lit< tt) (ap not (eq-eqb _ _ c.if6.false))
+  six : Clear m s (i + 1) → Clear m s (i + 2) → Clear m s (i + 3) → Clear m s (i + 4) → Clear m s (i + 5) → Past m s i 6
+  six b c d e f = turn_next (five b c d e) (lit< tt) (ap not (eq-eqb _ _ f))
 
-seven : (c : tie.Else7 invariant-loop decreases-loop) → Past c.before.before.before.before.before.before.before.before.before.before.before.before.before.before.before 7
-seven c = turn_next (six c.before.before) (lit< tt) (ap not (eq-eqb _ _ c.if7.false))
+  seven : Clear m s (i + 1) → Clear m s (i + 2) → Clear m s (i + 3) → Clear m s (i + 4) → Clear m s (i + 5) → Clear m s (i + 6) → Past m s i 7
+  seven b c d e f g = turn_next (six b c d e f) (lit< tt) (ap not (eq-eqb _ _ g))
 
-eight : (c : tie.Else8 invariant-loop decreases-loop) → Past c.before.before.before.before.before.before.before.before.before.before.before.before.before.before.before.before.before 8
-eight c = turn_next (seven c.before.before) (lit< tt) (ap not (eq-eqb _ _ c.if8.false))
+  eight : Clear m s (i + 1) → Clear m s (i + 2) → Clear m s (i + 3) → Clear m s (i + 4) → Clear m s (i + 5) → Clear m s (i + 6) → Clear m s (i + 7) → Past m s i 8
+  eight b c d e f g k = turn_next (seven b c d e f g) (lit< tt) (ap not (eq-eqb _ _ k))
 
-pub returns-then-bytes-i-ne0 : goal.returns-then-bytes-i-ne0
-returns-then-bytes-i-ne0 c = record { upper_bound = c.loop-i.invariant.0; bytes_value = c.loop-i.invariant.1 }
+pub returns-then-bytes-i-ne0-2-clause-bytes_value : goal.returns-then-bytes-i-ne0-2-clause-bytes_value
+returns-then-bytes-i-ne0-2-clause-bytes_value c =
+    let a = c.args in
+    (one a.mask a.bytes.now c.loop-i.i (omega arith) c.loop-i.invariant c.if-bytes-i-ne0.false).reached.1
 
-pub overflow_add-i : goal.overflow_add-i
-overflow_add-i c = turn_fits (one (goal.at.overflow_add-i c).Else-bytes-i-ne0) (lit< tt)
+pub returns-then-bytes-i-ne0-3-clause-bytes_value : goal.returns-then-bytes-i-ne0-3-clause-bytes_value
+returns-then-bytes-i-ne0-3-clause-bytes_value c =
+    let a = c.args in
+    (two a.mask a.bytes.now c.loop-i.i (omega arith) c.loop-i.invariant c.if-bytes-i-ne0.false c.if-bytes-i-ne0-2.false).reached.1
 
-pub bounds-bytes-i-in-loop-i : goal.bounds-bytes-i-in-loop-i
-bounds-bytes-i-in-loop-i c = turn_in (one (goal.at.bounds-bytes-i-in-loop-i c).Else-bytes-i-ne0) (lit< tt)
+pub returns-then-bytes-i-ne0-4-clause-bytes_value : goal.returns-then-bytes-i-ne0-4-clause-bytes_value
+returns-then-bytes-i-ne0-4-clause-bytes_value c =
+    let a = c.args in
+    (three a.mask a.bytes.now c.loop-i.i (omega arith) c.loop-i.invariant c.if-bytes-i-ne0.false c.if-bytes-i-ne0-2.false c.if-bytes-i-ne0-3.false).reached.1
 
-pub overflow_add-result : goal.overflow_add-result
-overflow_add-result c = turn_fits (one (goal.at.overflow_add-result c).Else-bytes-i-ne0) (lit< tt)
+pub returns-then-bytes-i-ne0-5-clause-bytes_value : goal.returns-then-bytes-i-ne0-5-clause-bytes_value
+returns-then-bytes-i-ne0-5-clause-bytes_value c =
+    let a = c.args in
+    (four a.mask a.bytes.now c.loop-i.i (omega arith) c.loop-i.invariant c.if-bytes-i-ne0.false c.if-bytes-i-ne0-2.false c.if-bytes-i-ne0-3.false c.if-bytes-i-ne0-4.false).reached.1
 
-pub returns-then-bytes-i-ne0-2 : goal.returns-then-bytes-i-ne0-2
-returns-then-bytes-i-ne0-2 c = (one (goal.at.returns-then-bytes-i-ne0-2 c).Else-bytes-i-ne0).reached
+pub returns-then-bytes-i-ne0-6-clause-bytes_value : goal.returns-then-bytes-i-ne0-6-clause-bytes_value
+returns-then-bytes-i-ne0-6-clause-bytes_value c =
+    let a = c.args in
+    (five a.mask a.bytes.now c.loop-i.i (omega arith) c.loop-i.invariant c.if-bytes-i-ne0.false c.if-bytes-i-ne0-2.false c.if-bytes-i-ne0-3.false c.if-bytes-i-ne0-4.false c.if-bytes-i-ne0-5.false).reached.1
 
-pub overflow_add-i-in-loop-i : goal.overflow_add-i-in-loop-i
-overflow_add-i-in-loop-i c = turn_fits (two (goal.at.overflow_add-i-in-loop-i c).Else-bytes-i-ne0-2) (lit< tt)
+pub returns-then-bytes-i-ne0-7-clause-bytes_value : goal.returns-then-bytes-i-ne0-7-clause-bytes_value
+returns-then-bytes-i-ne0-7-clause-bytes_value c =
+    let a = c.args in
+    (six a.mask a.bytes.now c.loop-i.i (omega arith) c.loop-i.invariant c.if-bytes-i-ne0.false c.if-bytes-i-ne0-2.false c.if-bytes-i-ne0-3.false c.if-bytes-i-ne0-4.false c.if-bytes-i-ne0-5.false c.if-bytes-i-ne0-6.false).reached.1
 
-pub bounds-bytes-i-in-loop-i-2 : goal.bounds-bytes-i-in-loop-i-2
-bounds-bytes-i-in-loop-i-2 c = turn_in (two (goal.at.bounds-bytes-i-in-loop-i-2 c).Else-bytes-i-ne0-2) (lit< tt)
-
-pub overflow_add-result-then-bytes-i-ne0-3 : goal.overflow_add-result-then-bytes-i-ne0-3
-overflow_add-result-then-bytes-i-ne0-3 c = turn_fits (two (goal.at.overflow_add-result-then-bytes-i-ne0-3 c).Else-bytes-i-ne0-2) (lit< tt)
-
-pub returns-then-bytes-i-ne0-3 : goal.returns-then-bytes-i-ne0-3
-returns-then-bytes-i-ne0-3 c = (two (goal.at.returns-then-bytes-i-ne0-3 c).Else-bytes-i-ne0-2).reached
-
-pub overflow_add-i-in-loop-i-2 : goal.overflow_add-i-in-loop-i-2
-overflow_add-i-in-loop-i-2 c = turn_fits (three (goal.at.overflow_add-i-in-loop-i-2 c).Else-bytes-i-ne0-3) (lit< tt)
-
-pub bounds-bytes-i-in-loop-i-3 : goal.bounds-bytes-i-in-loop-i-3
-bounds-bytes-i-in-loop-i-3 c = turn_in (three (goal.at.bounds-bytes-i-in-loop-i-3 c).Else-bytes-i-ne0-3) (lit< tt)
-
-pub overflow_add-result-then-bytes-i-ne0-4 : goal.overflow_add-result-then-bytes-i-ne0-4
-overflow_add-result-then-bytes-i-ne0-4 c = turn_fits (three (goal.at.overflow_add-result-then-bytes-i-ne0-4 c).Else-bytes-i-ne0-3) (lit< tt)
-
-pub returns-then-bytes-i-ne0-4 : goal.returns-then-bytes-i-ne0-4
-returns-then-bytes-i-ne0-4 c = (three (goal.at.returns-then-bytes-i-ne0-4 c).Else-bytes-i-ne0-3).reached
-
-pub overflow_add-i-in-loop-i-3 : goal.overflow_add-i-in-loop-i-3
-overflow_add-i-in-loop-i-3 c = turn_fits (four (goal.at.overflow_add-i-in-loop-i-3 c).Else-bytes-i-ne0-4) (lit< tt)
-
-pub bounds-bytes-i-in-loop-i-4 : goal.bounds-bytes-i-in-loop-i-4
-bounds-bytes-i-in-loop-i-4 c = turn_in (four (goal.at.bounds-bytes-i-in-loop-i-4 c).Else-bytes-i-ne0-4) (lit< tt)
-
-pub overflow_add-result-then-bytes-i-ne0-5 : goal.overflow_add-result-then-bytes-i-ne0-5
-overflow_add-result-then-bytes-i-ne0-5 c = turn_fits (four (goal.at.overflow_add-result-then-bytes-i-ne0-5 c).Else-bytes-i-ne0-4) (lit< tt)
-
-pub returns-then-bytes-i-ne0-5 : goal.returns-then-bytes-i-ne0-5
-returns-then-bytes-i-ne0-5 c = (four (goal.at.returns-then-bytes-i-ne0-5 c).Else-bytes-i-ne0-4).reached
-
-pub overflow_add-i-in-loop-i-4 : goal.overflow_add-i-in-loop-i-4
-overflow_add-i-in-loop-i-4 c = turn_fits (five (goal.at.overflow_add-i-in-loop-i-4 c).Else-bytes-i-ne0-5) (lit< tt)
-
-pub bounds-bytes-i-in-loop-i-5 : goal.bounds-bytes-i-in-loop-i-5
-bounds-bytes-i-in-loop-i-5 c = turn_in (five (goal.at.bounds-bytes-i-in-loop-i-5 c).Else-bytes-i-ne0-5) (lit< tt)
-
-pub overflow_add-result-then-bytes-i-ne0-6 : goal.overflow_add-result-then-bytes-i-ne0-6
-overflow_add-result-then-bytes-i-ne0-6 c = turn_fits (five (goal.at.overflow_add-result-then-bytes-i-ne0-6 c).Else-bytes-i-ne0-5) (lit< tt)
-
-pub returns-then-bytes-i-ne0-6 : goal.returns-then-bytes-i-ne0-6
-returns-then-bytes-i-ne0-6 c = (five (goal.at.returns-then-bytes-i-ne0-6 c).Else-bytes-i-ne0-5).reached
-
-pub overflow_add-i-in-loop-i-5 : goal.overflow_add-i-in-loop-i-5
-overflow_add-i-in-loop-i-5 c = turn_fits (six (goal.at.overflow_add-i-in-loop-i-5 c).Else-bytes-i-ne0-6) (lit< tt)
-
-pub bounds-bytes-i-in-loop-i-6 : goal.bounds-bytes-i-in-loop-i-6
-bounds-bytes-i-in-loop-i-6 c = turn_in (six (goal.at.bounds-bytes-i-in-loop-i-6 c).Else-bytes-i-ne0-6) (lit< tt)
-
-pub overflow_add-result-then-bytes-i-ne0-7 : goal.overflow_add-result-then-bytes-i-ne0-7
-overflow_add-result-then-bytes-i-ne0-7 c = turn_fits (six (goal.at.overflow_add-result-then-bytes-i-ne0-7 c).Else-bytes-i-ne0-6) (lit< tt)
-
-pub returns-then-bytes-i-ne0-7 : goal.returns-then-bytes-i-ne0-7
-returns-then-bytes-i-ne0-7 c = (six (goal.at.returns-then-bytes-i-ne0-7 c).Else-bytes-i-ne0-6).reached
-
-pub overflow_add-i-in-loop-i-6 : goal.overflow_add-i-in-loop-i-6
-overflow_add-i-in-loop-i-6 c = turn_fits (seven (goal.at.overflow_add-i-in-loop-i-6 c).Else-bytes-i-ne0-7) (lit< tt)
-
-pub bounds-bytes-i-in-loop-i-7 : goal.bounds-bytes-i-in-loop-i-7
-bounds-bytes-i-in-loop-i-7 c = turn_in (seven (goal.at.bounds-bytes-i-in-loop-i-7 c).Else-bytes-i-ne0-7) (lit< tt)
-
-pub overflow_add-result-then-bytes-i-ne0-8 : goal.overflow_add-result-then-bytes-i-ne0-8
-overflow_add-result-then-bytes-i-ne0-8 c = turn_fits (seven (goal.at.overflow_add-result-then-bytes-i-ne0-8 c).Else-bytes-i-ne0-7) (lit< tt)
-
-pub returns-then-bytes-i-ne0-8 : goal.returns-then-bytes-i-ne0-8
-returns-then-bytes-i-ne0-8 c = (seven (goal.at.returns-then-bytes-i-ne0-8 c).Else-bytes-i-ne0-7).reached
-
-pub overflow_add-i-in-loop-i-7 : goal.overflow_add-i-in-loop-i-7
-overflow_add-i-in-loop-i-7 c = (eight (goal.at.overflow_add-i-in-loop-i-7 c).Else-bytes-i-ne0-8).ranges
-
-pub loop-i-smaller : goal.loop-i-smaller
-loop-i-smaller c = turn_less (eight (goal.at.loop-i-smaller c).Else-bytes-i-ne0-8)
+pub returns-then-bytes-i-ne0-8-clause-bytes_value : goal.returns-then-bytes-i-ne0-8-clause-bytes_value
+returns-then-bytes-i-ne0-8-clause-bytes_value c =
+    let a = c.args in
+    (seven a.mask a.bytes.now c.loop-i.i (omega arith) c.loop-i.invariant c.if-bytes-i-ne0.false c.if-bytes-i-ne0-2.false c.if-bytes-i-ne0-3.false c.if-bytes-i-ne0-4.false c.if-bytes-i-ne0-5.false c.if-bytes-i-ne0-6.false c.if-bytes-i-ne0-7.false).reached.1
 
 pub loop-i-preserved : goal.loop-i-preserved
-loop-i-preserved c = (eight (goal.at.loop-i-preserved c).Else-bytes-i-ne0-8).reached
-
-pub returns : goal.returns
-returns c = record { upper_bound = c.loop-i.invariant.0; bytes_value = c.loop-i.invariant.1 }
+loop-i-preserved c =
+    let a = c.args in
+    (eight a.mask a.bytes.now c.loop-i.i (omega arith) c.loop-i.invariant c.if-bytes-i-ne0.false c.if-bytes-i-ne0-2.false c.if-bytes-i-ne0-3.false c.if-bytes-i-ne0-4.false c.if-bytes-i-ne0-5.false c.if-bytes-i-ne0-6.false c.if-bytes-i-ne0-7.false c.if-bytes-i-ne0-8.false).reached

@@ -1,13 +1,10 @@
-use Prim.Native.Nat.{◌-◌}
 use mathlib.Core.Path.{ap}
 use mathlib.Core.Bool.{not}
 use native.Mathlib.Omega.{arith}
 use borrow.Author.Tests.{eq-eqb, ne_eqb}
-use lib.ListN.{length}
 use Rattle.octets.proofs.First.{first_step, first_end}
 use Rattle.search.specs.Search.{masked}
-use Rattle.search.proofs.Reached.{Reached, reached_next}
-use borrow.Author.Rules.{rules}
+use Rattle.search.proofs.Reached.{reached_next}
 use Rattle.search.proofs.find.Goals as goal
 
 pub loop-i-init : goal.loop-i-init

@@ -1,5 +1,5 @@
--- `from_byte` gives the identifier of the octet: the class first, a name by its octet, else `Unknown`. One more name is one more line with
--- `keys`.
+-- `from_byte` gives the identifier of the octet: the class first, a name by its octet, else `Unknown`. One more name is one more answer
+-- like those of the names.
 use mathlib.Core.Path.{ap, sym, ◌∙◌}
 use borrow.Author.Rules.{rules}
 use borrow.Author.Tests.{ne_eqb}
