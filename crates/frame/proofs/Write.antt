@@ -2,13 +2,11 @@
 use Prim.Native.Nat.{ℕ, zero, suc, ◌+◌, ◌-◌, ◌*◌, ◌≤◌, ◌<◌}
 use mathlib.Core.Path.{◌≡◌, refl, subst, ◌∙◌}
 use mathlib.Core.Bool.{true, false, not, ◌&&◌}
-use mathlib.Core.List.{List, [], ◌∷◌, ◌++◌, append_assoc}
+use mathlib.Core.List.{List, [], ◌++◌, append_assoc}
 use mathlib.Core.Logic.{⊎_elim}
 use native.Mathlib.Nat.{eq-or-lt_of_le, le_of_suc-le-suc, not-suc-le-zero}
 use native.Mathlib.Numerals.{add-one}
 use native.Mathlib.Omega.{arith}
-use types.Run.{OneOf, miss}
-use denote.Enum.Declared.{tag_of}
 use borrow.Author.Tests.{ltb-false, le-ltb, not-false}
 use lib.Dec.{eqb, ltb}
 use lib.ListN.{length, take, drop, length-append, length-drop}
@@ -28,7 +26,6 @@ use Rattle.frame.specs.Spell.{repeater_at, groups_of, destination_mark, source_m
 use Rattle.frame.specs.Write.{route_encodable, frame_encodable, content_answer, write_answer, Taken, octets_by}
 use Rattle.frame.specs.declared.WriteAnswer.{WriteAnswer}
 use Rattle.frame.specs.declared.WriteAnswer.TheVariants.{Accepted, RouteTooLong, NotEncodable, FrameRejectInLongMode, InfoNotAllowed, PidOutsideClass, NoRoom}
-use Rattle.frame.specs.contracts.WriteAnswer.{the_type}
 use Rattle.frame.specs.declared.Mark.{Mark}
 use Rattle.frame.specs.declared.Mark.TheVariants.{Command, Response, Absent}
 use Rattle.frame.specs.declared.RouteEntry.{RouteEntry}
@@ -149,17 +146,8 @@ unfolding Says
 accepted_taken m f info room e = subst (Says m f info room) e (says m f info room)
 
 -- what a match on the answer tells
-pub told-accepted : (a : WriteAnswer) → OneOf (0 ∷ []) (tag_of the_type a) → a ≡ Accepted
-told-accepted Accepted h = refl
-told-accepted RouteTooLong h = absurd (miss (0 ∷ []) 1 tt h)
-told-accepted NotEncodable h = absurd (miss (0 ∷ []) 2 tt h)
-told-accepted FrameRejectInLongMode h = absurd (miss (0 ∷ []) 3 tt h)
-told-accepted InfoNotAllowed h = absurd (miss (0 ∷ []) 4 tt h)
-told-accepted PidOutsideClass h = absurd (miss (0 ∷ []) 5 tt h)
-told-accepted NoRoom h = absurd (miss (0 ∷ []) 6 tt h)
-
-pub told-refused : (a : WriteAnswer) (s : List ℕ) → OneOf (1 ∷ 2 ∷ 3 ∷ 4 ∷ 5 ∷ 6 ∷ []) (tag_of the_type a) → octets_by a s ≡ []
-told-refused Accepted s h = absurd (miss (1 ∷ 2 ∷ 3 ∷ 4 ∷ 5 ∷ 6 ∷ []) 0 tt h)
+pub told-refused : (a : WriteAnswer) (s : List ℕ) → (a ≡ Accepted → ⊥) → octets_by a s ≡ []
+told-refused Accepted s h = absurd (h refl)
 told-refused RouteTooLong s h = refl
 told-refused NotEncodable s h = refl
 told-refused FrameRejectInLongMode s h = refl

@@ -1,6 +1,5 @@
 -- The default frame is the simple UI frame from NOCALL to NOCALL.
 use Rattle.frame.specs.Frame.{default_frame}
-use borrow.Author.Rules.{rules}
 use Rattle.frame.proofs.Ax25Frame.default.Goals as goal
 
 pub returns : goal.returns

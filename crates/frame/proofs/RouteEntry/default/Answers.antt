@@ -1,6 +1,5 @@
 -- An unused place is NOCALL, unmarked.
 use Rattle.frame.specs.Frame.{no_entry}
-use borrow.Author.Rules.{rules}
 use Rattle.frame.proofs.RouteEntry.default.Goals as goal
 
 pub returns : goal.returns

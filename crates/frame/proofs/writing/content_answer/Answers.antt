@@ -3,7 +3,6 @@ use mathlib.Core.Path.{◌≡◌, sym, ◌∙◌}
 use mathlib.Core.Bool.{false}
 use Rattle.content.specs.Refused.{long_frmr, stray_info, stray_pid}
 use Rattle.frame.specs.Write.{content_answer}
-use borrow.Author.Rules.{rules}
 use Rattle.frame.proofs.writing.content_answer.Goals as goal
 use Rattle.frame.proofs.writing.content_answer.Goals.{Else-long_frmr, Else-stray_info, Else-stray_pid}
 

@@ -1,10 +1,7 @@
-use Prim.Native.Nat.{◌-◌, ◌≤◌}
 use mathlib.Core.Path.{◌≡◌, sym, ◌∙◌}
 use native.Mathlib.Omega.{arith}
-use Rattle.octets.specs.Splice.{splice}
 use Rattle.octets.proofs.Splice.{splice_none, splice-length}
 use Rattle.placing.proofs.Laws.{put_taken}
-use Rattle.frame.specs.Spell.{groups_of}
 use Rattle.frame.proofs.Write.{groups_none, groups-more, route_each}
 use borrow.Author.Rules.{rules}
 use Rattle.frame.proofs.writing.put_route.Goals as goal

@@ -1,9 +1,6 @@
-use Prim.Native.Nat.{◌-◌, ◌≤◌}
 use mathlib.Core.Path.{◌≡◌, refl, sym, ◌∙◌}
-use mathlib.Core.Bool.{true}
 use native.Mathlib.Numerals.{add-one}
 use native.Mathlib.Omega.{arith}
-use borrow.Author.Tests.{not-true, not-false}
 use Rattle.frame.specs.Write.{route_encodable}
 use Rattle.frame.proofs.Write.{route_one}
 use borrow.Author.Rules.{rules}
@@ -14,13 +11,13 @@ unfolding route_encodable
 loop-i-init c = (search rules, search rules)
 
 pub returns-then-not-is_encodable : goal.returns-then-not-is_encodable
-returns-then-not-is_encodable c = sym (route_one _ _ c.loop-i.i (sym c.is_encodable.ensures ∙ not-true _ c.if-not-is_encodable.true) (omega arith))
+returns-then-not-is_encodable c = sym (route_one _ _ c.loop-i.i (sym c.is_encodable.ensures ∙ c.if-not-is_encodable.true) (omega arith))
 
 pub loop-i-preserved : goal.loop-i-preserved
 unfolding route_encodable
 loop-i-preserved c =
     let l = c.loop-i in
-    let e = sym c.is_encodable.ensures ∙ not-false _ c.if-not-is_encodable.false in
+    let e = sym c.is_encodable.ensures ∙ c.if-not-is_encodable.false in
     (search rules, rw (add-one, l.invariant.1, e) refl)
 
 pub returns : goal.returns

@@ -1,11 +1,10 @@
 -- The route's length, then the addresses, then the content; the room needed is the length of what the frame spells.
 use mathlib.Core.Path.{refl, sym, ◌∙◌}
 use native.Mathlib.Omega.{arith}
-use borrow.Author.Tests.{lt-ltb, le-ltb, not-true, not-false}
+use borrow.Author.Tests.{lt-ltb, le-ltb}
 use Rattle.content.proofs.Laws.{front-short}
 use Rattle.frame.specs.Write.{write_answer}
 use Rattle.frame.proofs.Write.{content_decides}
-use borrow.Author.Rules.{rules}
 use Rattle.frame.proofs.writing.write_answer.Goals as goal
 
 pub returns-then-count-gt8 : goal.returns-then-count-gt8
@@ -14,7 +13,7 @@ returns-then-count-gt8 c = simp (lt-ltb _ _ c.if-count-gt8.true)
 
 pub returns-then-not-frame_encodable : goal.returns-then-not-frame_encodable
 unfolding write_answer
-returns-then-not-frame_encodable c = simp (le-ltb _ _ c.if-count-gt8.false, sym c.frame_encodable.ensures ∙ not-true _ c.if-not-frame_encodable.true)
+returns-then-not-frame_encodable c = simp (le-ltb _ _ c.if-count-gt8.false, sym c.frame_encodable.ensures ∙ c.if-not-frame_encodable.true)
 
 pub overflow_add-head-2 : goal.overflow_add-head-2
 overflow_add-head-2 c =
@@ -24,4 +23,4 @@ overflow_add-head-2 c =
 pub returns : goal.returns
 returns c =
     c.content_answer.ensures
-    ∙ content_decides _ _ _ _ _ c.if-count-gt8.false (sym c.frame_encodable.ensures ∙ not-false _ c.if-not-frame_encodable.false) (rw c.front_len.ensures refl)
+    ∙ content_decides _ _ _ _ _ c.if-count-gt8.false (sym c.frame_encodable.ensures ∙ c.if-not-frame_encodable.false) (rw c.front_len.ensures refl)
