@@ -4,8 +4,10 @@
 ghost use Rattle.std.specs.Prelude.{◌<◌, ◌≤◌, length};
 
 use kiss_state::Head;
-use libc::{STDERR_FILENO, STDIN_FILENO, STDOUT_FILENO};
 use link_record::Link;
+use std::env::FillError;
+use std::io::{Print, Read, Stdin, Stdout};
+use std::rt::Env;
 
 // Where the following stands: the numbers of the stream, the record of the link, whether no further frame is offered, and whether all that
 // was printed could be written.
@@ -39,7 +41,13 @@ fn start(link: Link) -> Place {
 }
 
 // A packet that the stream gave out: its data is a frame.
-fn follow_frame(place: Place, head: Head, octets: [u8; 1024], length: usize) -> Place
+fn follow_frame(
+    output: Stdout,
+    place: Place,
+    head: Head,
+    octets: [u8; 1024],
+    length: usize,
+) -> Place
     requires { length ≤ 1024 }
 {
     // All that is printed of a frame fits.
@@ -47,7 +55,7 @@ fn follow_frame(place: Place, head: Head, octets: [u8; 1024], length: usize) -> 
     let link = place.link;
     let followed = following::follow(link, place.stopped, &octets[..length], &mut text);
     let printed = followed.length;
-    let written = io::write_all(STDOUT_FILENO, &text[..printed]);
+    let written = output.write_all(&text[..printed]).is_ok();
     let link = followed.link;
     Place {
         head,
@@ -58,7 +66,13 @@ fn follow_frame(place: Place, head: Head, octets: [u8; 1024], length: usize) -> 
 }
 
 // What stands in a piece from `at` on, through the first packet that is given out.
-fn follow_packet(octets: &mut [u8; 1024], place: Place, piece: &[u8], at: usize) -> Reached
+fn follow_packet(
+    output: Stdout,
+    octets: &mut [u8; 1024],
+    place: Place,
+    piece: &[u8],
+    at: usize,
+) -> Reached
     requires { at < length piece.now }
     ensures { (at < result.at) × (result.at ≤ length piece.now) }
 {
@@ -82,42 +96,46 @@ fn follow_packet(octets: &mut [u8; 1024], place: Place, piece: &[u8], at: usize)
     // A copy, because a part of an array that is lent can't be lent on.
     let copy = *octets;
     Reached {
-        place: follow_frame(place, head, copy, packet.length),
+        place: follow_frame(output, place, head, copy, packet.length),
         at: next,
     }
 }
 
 // All of a piece.
-fn follow_piece(octets: &mut [u8; 1024], place: Place, piece: &[u8]) -> Place {
+fn follow_piece(output: Stdout, octets: &mut [u8; 1024], place: Place, piece: &[u8]) -> Place {
     let mut reached = Reached { place, at: 0 };
     while reached.at < piece.len() {
         let place = reached.place;
-        reached = follow_packet(octets, place, piece, reached.at);
+        reached = follow_packet(output, octets, place, piece, reached.at);
     }
     reached.place
 }
 
-// Reads once; nothing is left to read where what it gives is empty.
-fn read_some(piece: &mut [u8]) -> usize
+// Reads once; nothing is left to read where what it gives is empty. A read that fails is taken for the end.
+fn read_some(mut input: Stdin, piece: &mut [u8]) -> usize
     ensures { result ≤ length piece.new }
 {
-    let got = libc::read(STDIN_FILENO, piece);
-    io::count(got, piece)
+    input.read(piece).unwrap_or(0)
+}
+
+// Room for what is read at once.
+fn piece_buffer() -> [u8; 65536] {
+    [0; 65536]
 }
 
 // The whole stream. A loop has to end, and nothing says that a stream does, so it counts its turns down, from a number that no run uses up.
 // It ends early where nobody reads what it prints.
-fn follow_all(link: Link) -> Place {
+fn follow_all(input: Stdin, output: Stdout, link: Link) -> Place {
     let mut octets = [0u8; 1024];
-    let mut piece = io::large_buffer();
+    let mut piece = piece_buffer();
     let mut place = start(link);
     let mut turns = u64::MAX;
     while turns > 0 {
-        let n = read_some(&mut piece);
+        let n = read_some(input, &mut piece);
         if n == 0 {
             break;
         }
-        place = follow_piece(&mut octets, place, &piece[..n]);
+        place = follow_piece(output, &mut octets, place, &piece[..n]);
         if !place.written {
             break;
         }
@@ -126,8 +144,8 @@ fn follow_all(link: Link) -> Place {
     place
 }
 
-fn follow_link(link: Link) {
-    let place = follow_all(link);
+fn follow_link(input: Stdin, output: Stdout, link: Link) {
+    let place = follow_all(input, output, link);
     if !place.written {
         return;
     }
@@ -135,7 +153,7 @@ fn follow_link(link: Link) {
     let head = place.head;
     let link = place.link;
     let length = following::totals(link, head.dropped, &mut text);
-    io::write_all(STDOUT_FILENO, &text[..length]);
+    let _ = output.write_all(&text[..length]);
 }
 
 // Room for the longest argument that Linux passes, 131,071 octets, whatever number of zeros lead its SSID.
@@ -143,21 +161,37 @@ fn argument_buffer() -> [u8; 131072] {
     [0; 131072]
 }
 
-fn main() {
-    if os::arg_count() != 3 {
-        io::write_all(STDERR_FILENO, b"usage: follow A B <STREAM\n");
+// Puts an argument at the start of a buffer, and gives its length. One that is not there is an empty text.
+fn argument(env: &impl Env, i: usize, text: &mut [u8]) -> usize
+    ensures { result ≤ length text.new }
+{
+    env.arg(i, text).unwrap_or(0)
+}
+
+// Whether there is an argument of this number.
+fn is_given(env: &impl Env, i: usize) -> bool {
+    match env.arg(i, &mut []) {
+        Ok(_) => true,
+        Err(FillError::TooLong) => true,
+        Err(FillError::NotPresent) => false,
+    }
+}
+
+fn main(rt: HostRuntime) {
+    let output = rt.stdout();
+    if !is_given(&rt, 2) || is_given(&rt, 3) {
+        let _ = rt.stderr().write_all(b"usage: follow A B <STREAM\n");
     }
     let mut a = argument_buffer();
     let mut b = argument_buffer();
-    // An argument that is not there is an empty text.
-    let n = os::arg(1, &mut a);
-    let m = os::arg(2, &mut b);
+    let n = argument(&rt, 1, &mut a);
+    let m = argument(&rt, 2, &mut b);
     let mut text = [0u8; 32];
     let begun = following::begin(&a[..n], &b[..m], &mut text);
     let length = begun.length;
-    io::write_all(STDOUT_FILENO, &text[..length]);
+    let _ = output.write_all(&text[..length]);
     if begun.ready {
         let link = begun.link;
-        follow_link(link);
+        follow_link(rt.stdin(), output, link);
     }
 }

@@ -2,6 +2,7 @@
 // behind those that a call may write, EE too, is shown as well, three octets of it.
 use crate::words::{first, show_lent, show_number};
 use address::Address;
+use std::io::Stdout;
 
 // The list is of the short mode, the Rust's.
 const SHORT: u32 = 0;
@@ -14,14 +15,14 @@ fn shown(room: usize) -> usize {
     room + 3
 }
 
-fn show_answer(answer: u32) {
-    show_number(answer as usize);
+fn show_answer(output: Stdout, answer: u32) {
+    show_number(output, answer as usize);
 }
 
-fn show_written(answer: u32, length: usize, lent: &[u8]) {
-    show_answer(answer);
-    show_number(length);
-    show_lent(lent);
+fn show_written(output: Stdout, answer: u32, length: usize, lent: &[u8]) {
+    show_answer(output, answer);
+    show_number(output, length);
+    show_lent(output, lent);
 }
 
 // A decoder, by its letter: the one for frames, or the one for old captures.
@@ -32,34 +33,37 @@ fn decode_by(letter: u8, input: &[u8], flat: &mut [u8], places: &mut [usize]) ->
     }
 }
 
-fn decode(letter: u8, input: &[u8]) {
+fn decode(output: Stdout, letter: u8, input: &[u8]) {
     let mut flat = [0xEEu8; 105];
     let mut places: [usize; 5] = [0, 0, 0, 0, 0];
-    show_answer(decode_by(letter, input, &mut flat, &mut places));
-    show_number(places[0]);
-    show_number(places[1]);
-    show_number(places[2]);
-    show_number(places[3]);
-    show_number(places[4]);
-    show_lent(&flat);
+    show_answer(output, decode_by(letter, input, &mut flat, &mut places));
+    show_number(output, places[0]);
+    show_number(output, places[1]);
+    show_number(output, places[2]);
+    show_number(output, places[3]);
+    show_number(output, places[4]);
+    show_lent(output, &flat);
 }
 
-fn reason(input: &[u8]) {
+fn reason(output: Stdout, input: &[u8]) {
     let mut number = 0xEEEE_EEEE;
     let mut place = 0xEEEE_EEEE;
-    show_answer(loader::ax25_reason(input, SHORT, &mut number, &mut place));
-    show_answer(number);
-    show_number(place);
+    show_answer(
+        output,
+        loader::ax25_reason(input, SHORT, &mut number, &mut place),
+    );
+    show_answer(output, number);
+    show_number(output, place);
 }
 
-fn reencode(input: &[u8]) {
+fn reencode(output: Stdout, input: &[u8]) {
     let mut out = [0xEEu8; 515];
-    show_answer(loader::ax25_decode(input));
-    show_answer(loader::ax25_canonical(input));
-    reason(input);
+    show_answer(output, loader::ax25_decode(input));
+    show_answer(output, loader::ax25_canonical(input));
+    reason(output, input);
     let length = loader::ax25_reencoded_length(input);
     let answer = loader::ax25_reencode(input, &mut out);
-    show_written(answer, length, first(&out, shown(length)));
+    show_written(output, answer, length, first(&out, shown(length)));
 }
 
 // A call that writes, by its letter: a frame, content, or an address as text.
@@ -71,18 +75,18 @@ fn write_by(letter: u8, given: &[u8], info: &[u8], out: &mut [u8], length: &mut 
     }
 }
 
-fn write_into(letter: u8, given: &[u8], info: &[u8], out: &mut [u8], room: usize) {
+fn write_into(output: Stdout, letter: u8, given: &[u8], info: &[u8], out: &mut [u8], room: usize) {
     if out.len() < room {
         return;
     }
     let mut length: [usize; 1] = [0];
     let answer = write_by(letter, given, info, &mut out[..room], &mut length);
-    show_written(answer, length[0], first(out, shown(room)));
+    show_written(output, answer, length[0], first(out, shown(room)));
 }
 
-fn write(letter: u8, given: &[u8], info: &[u8], room: usize) {
+fn write(output: Stdout, letter: u8, given: &[u8], info: &[u8], room: usize) {
     let mut out = [0xEEu8; 515];
-    write_into(letter, given, info, &mut out, room);
+    write_into(output, letter, given, info, &mut out, room);
 }
 
 // A call that leaves a record, content or an address, by its letter.
@@ -107,78 +111,81 @@ fn size(letter: u8) -> usize {
     }
 }
 
-fn leave(letter: u8, one: &[u8], other: &[u8], ssid: u8) {
+fn leave(output: Stdout, letter: u8, one: &[u8], other: &[u8], ssid: u8) {
     let mut out = [0xEEu8; 105];
-    show_answer(leave_by(letter, one, other, ssid, &mut out));
-    show_lent(first(&out, shown(size(letter))));
+    show_answer(output, leave_by(letter, one, other, ssid, &mut out));
+    show_lent(output, first(&out, shown(size(letter))));
 }
 
-fn hops(record: &[u8]) {
+fn hops(output: Stdout, record: &[u8]) {
     let mut numbers: [usize; 3] = [0, 0, 0];
-    show_answer(probe::probe_hops(record, &mut numbers));
-    show_number(numbers[0]);
-    show_number(numbers[1]);
-    show_number(numbers[2]);
+    show_answer(output, probe::probe_hops(record, &mut numbers));
+    show_number(output, numbers[0]);
+    show_number(output, numbers[1]);
+    show_number(output, numbers[2]);
 }
 
 // The frame to be relayed is the first octets of the buffer.
-fn relay_in(callsign: &[u8], ssid: u8, out: &mut [u8], length: usize) {
+fn relay_in(output: Stdout, callsign: &[u8], ssid: u8, out: &mut [u8], length: usize) {
     if out.len() < length {
         return;
     }
-    show_answer(loader::ax25_relay(callsign, ssid, &mut out[..length]));
-    show_lent(first(out, shown(length)));
+    show_answer(
+        output,
+        loader::ax25_relay(callsign, ssid, &mut out[..length]),
+    );
+    show_lent(output, first(out, shown(length)));
 }
 
-fn relay(callsign: &[u8], frame: &[u8], ssid: u8) {
+fn relay(output: Stdout, callsign: &[u8], frame: &[u8], ssid: u8) {
     let mut out = [0xEEu8; 515];
     lent_buffer::put(&mut out, 0, frame);
-    relay_in(callsign, ssid, &mut out, frame.len());
+    relay_in(output, callsign, ssid, &mut out, frame.len());
 }
 
 // The first nine octets have the room.
-fn put_in(out: &mut [u8], at: usize, address: Address, mark: bool, end: bool) {
+fn put_in(output: Stdout, out: &mut [u8], at: usize, address: Address, mark: bool, end: bool) {
     if out.len() < 9 {
         return;
     }
     let answer = placing::put(&mut out[..9], at, address, mark, end);
-    show_answer(answer.number());
-    show_lent(out);
+    show_answer(output, answer.number());
+    show_lent(output, out);
 }
 
 // A group, as a value and written into lent octets. The number is four times the place there, twice the end bit, and the mark.
-fn group(flat: &[u8], n: usize) {
+fn group(output: Stdout, flat: &[u8], n: usize) {
     let address = flat::given::address_from(flat);
     let mark = n % 2 == 1;
     let end = n / 2 % 2 == 1;
     let written = group::to_bytes(address, mark, end);
     let answer = written.answer;
     let octets = written.group;
-    show_answer(answer.number());
-    show_lent(&octets);
+    show_answer(output, answer.number());
+    show_lent(output, &octets);
     let mut out = [0xEEu8; 12];
-    put_in(&mut out, n / 4, address, mark, end);
+    put_in(output, &mut out, n / 4, address, mark, end);
 }
 
 // What a line has: its letter, two words of octets and a number, each none or 0 where it lacks it.
-pub(crate) fn answer(letter: u8, one: &[u8], other: &[u8], n: usize) {
+pub(crate) fn answer(output: Stdout, letter: u8, one: &[u8], other: &[u8], n: usize) {
     match letter {
         b'#' => (),
         b'D' => {
-            decode(letter, one);
-            reencode(one)
+            decode(output, letter, one);
+            reencode(output, one)
         }
         b'O' => {
-            decode(letter, one);
-            show_answer(loader::ax25_decode_old_capture(one))
+            decode(output, letter, one);
+            show_answer(output, loader::ax25_decode_old_capture(one))
         }
-        b'W' => write(letter, one, other, n),
-        b'E' => write(letter, one, other, n),
-        b'S' => write(letter, one, other, n),
-        b'H' => hops(one),
-        b'Q' => show_answer(probe::probe_same_station(one, other)),
-        b'R' => relay(one, other, (n % 256) as u8),
-        b'G' => group(one, n),
-        _ => leave(letter, one, other, (n % 256) as u8),
+        b'W' => write(output, letter, one, other, n),
+        b'E' => write(output, letter, one, other, n),
+        b'S' => write(output, letter, one, other, n),
+        b'H' => hops(output, one),
+        b'Q' => show_answer(output, probe::probe_same_station(one, other)),
+        b'R' => relay(output, one, other, (n % 256) as u8),
+        b'G' => group(output, one, n),
+        _ => leave(output, letter, one, other, (n % 256) as u8),
     }
 }

@@ -1,7 +1,7 @@
 // The words of a line, separated by single spaces: octets in hex, `-` for none; numbers in decimal.
 ghost use Rattle.std.specs.Prelude.{◌≤◌, ◌<◌, length};
 
-use libc::STDOUT_FILENO;
+use std::io::{Print, Stdout};
 
 // The first n octets; all where there are fewer.
 pub(crate) fn first(s: &[u8], n: usize) -> &[u8] {
@@ -120,14 +120,14 @@ fn hex(s: &[u8], out: &mut [u8]) -> usize
     2 * i
 }
 
-pub(crate) fn show(text: &[u8]) {
-    io::write_all(STDOUT_FILENO, text);
+pub(crate) fn show(output: Stdout, text: &[u8]) {
+    let _ = output.write_all(text);
 }
 
 // A space, then the number.
-pub(crate) fn show_number(n: usize) {
-    show(b" ");
-    io::print_decimal(STDOUT_FILENO, n as u64);
+pub(crate) fn show_number(output: Stdout, n: usize) {
+    show(output, b" ");
+    let _ = output.print(n);
 }
 
 // Whether every octet is EE, which lent octets are before a call.
@@ -143,13 +143,13 @@ fn untouched(s: &[u8]) -> bool {
 }
 
 // A space, then octets that were lent: a dot where none of them was touched.
-pub(crate) fn show_lent(s: &[u8]) {
+pub(crate) fn show_lent(output: Stdout, s: &[u8]) {
     if untouched(s) {
-        show(b" .");
+        show(output, b" .");
         return;
     }
     let mut digits = [0u8; 1030];
     let n = hex(s, &mut digits);
-    show(b" ");
-    show(first(&digits, n));
+    show(output, b" ");
+    show(output, first(&digits, n));
 }
