@@ -1,9 +1,7 @@
-use Prim.Native.Nat.{◌-◌, ◌≤◌}
 use mathlib.Core.Path.{◌≡◌, refl, ap, sym, ◌∙◌}
 use native.Mathlib.Omega.{arith}
-use lib.ListN.{length, drop}
 use Rattle.kiss_state.specs.State.{stream_of}
-use Rattle.kiss_stream.specs.Feed.{Called, later, taken_from, feed_of, fed_of}
+use Rattle.kiss_stream.specs.Feed.{Called, feed_of, fed_of}
 use Rattle.kiss_stream.proofs.Laws.{later_none, taken-gives, taken_goes, taken-ends}
 use borrow.Author.Rules.{rules}
 use Rattle.kiss_stream.proofs.feed.Goals as goal
@@ -18,18 +16,16 @@ pub skip-i-requires : goal.skip-i-requires
 skip-i-requires c = c.fill-filled.ensures.1
 
 -- the whole call is the call from behind the runs on
-behind : (c : tie.After-skip invariant-loop decreases-loop) → taken_from (stream_of c.before.before.before.before.before.before.before.args.octets.now c.before.before.before.before.before.settle.result) c.before.before.before.before.before.before.before.args.piece.now
-    ≡ later c.skip.result (taken_from (stream_of c.before.before.fill.new.0 c.before.before.fill.result.head) (drop c.skip.result c.before.before.before.before.before.before.before.args.piece.now))
-behind c =
-    let f = c.before.before.fill in
-    c.before.before.before.before.loop.invariant.1 ∙ f.ensures.2 ∙ (c.skip.ensures (stream_of f.new.0 f.result.head) refl).2
+behind : {w x y z : Called} → w ≡ x → x ≡ y → y ≡ z → w ≡ z
+behind a b c = a ∙ b ∙ c
 
 pub returns-then-i-piece : goal.returns-then-i-piece
 unfolding feed_of
 returns-then-i-piece c =
     let f = c.fill-filled in
+    let k = c.skip-i in
     let e = c.settle-h.ensures in
-    let w = taken-ends _ (stream_of f.new.0 f.result.head) _ c.skip-i.result (behind (goal.at.returns-then-i-piece c).After-skip-i) c.if-i-piece.true in
+    let w = taken-ends _ (stream_of f.new.octets f.result.head) _ c.skip-i.result (behind c.loop-i.invariant.1 f.ensures.2 (k.ensures (stream_of f.new.octets f.result.head) refl).2) c.if-i-piece.true in
     answered (sym (rw e at w))
 
 pub returns-then-m : goal.returns-then-m
@@ -39,18 +35,18 @@ returns-then-m c =
     let k = c.skip-i in
     let s = c.step-m in
     let e = c.settle-h.ensures in
-    let w = taken-gives _ f.new.0 f.result.head _ k.result s.result s.new.0 (behind (goal.at.returns-then-m c).After-skip-i) (omega arith) s.ensures.0 s.ensures.1 c.if-m.true in
+    let w = taken-gives _ f.new.octets f.result.head _ k.result s.result s.new.octets (behind c.loop-i.invariant.1 f.ensures.2 (k.ensures (stream_of f.new.octets f.result.head) refl).2) (omega arith) s.ensures.value s.ensures.octets_after c.if-m.true in
     rw c.packet_of.ensures (answered (sym (rw e at w)))
 
 pub loop-i-smaller : goal.loop-i-smaller
 loop-i-smaller c =
     let f = c.fill-filled in
     let k = c.skip-i in
-    omega (arith, f.ensures.0, (k.ensures (stream_of f.new.0 f.result.head) refl).0)
+    omega (arith, f.ensures.0, (k.ensures (stream_of f.new.octets f.result.head) refl).0)
 
 pub loop-i-preserved : goal.loop-i-preserved
 loop-i-preserved c =
     let f = c.fill-filled in
     let k = c.skip-i in
     let s = c.step-m in
-    (omega arith, taken_goes _ f.new.0 f.result.head _ k.result s.result s.new.0 (behind (goal.at.loop-i-preserved c).After-skip-i) (omega arith) s.ensures.0 s.ensures.1 c.if-m.false)
+    (omega arith, taken_goes _ f.new.octets f.result.head _ k.result s.result s.new.octets (behind c.loop-i.invariant.1 f.ensures.2 (k.ensures (stream_of f.new.octets f.result.head) refl).2) (omega arith) s.ensures.value s.ensures.octets_after c.if-m.false)

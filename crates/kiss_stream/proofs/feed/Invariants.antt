@@ -1,12 +1,9 @@
 -- The call is the fold of the step. The invariant: the whole call is the call on the rest from here, with i octets more taken.
 use Prim.Native.Nat.{◌-◌, ◌≤◌}
-use mathlib.Core.Path.{◌≡◌, refl, ap, sym, ◌∙◌}
-use native.Mathlib.Omega.{arith}
+use mathlib.Core.Path.{◌≡◌}
 use lib.ListN.{length, drop}
 use Rattle.kiss_state.specs.State.{stream_of}
-use Rattle.kiss_stream.specs.Feed.{Called, later, taken_from, feed_of, fed_of}
-use Rattle.kiss_stream.proofs.Laws.{later_none, taken-gives, taken_goes, taken-ends}
-use borrow.Author.Rules.{rules}
+use Rattle.kiss_stream.specs.Feed.{later, taken_from}
 use Rattle.kiss_stream.proofs.feed.Given as goal
 
 abbrev pub invariant-loop-i : goal.invariant-loop-i

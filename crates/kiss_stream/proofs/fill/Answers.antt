@@ -1,10 +1,9 @@
-use Prim.Native.Nat.{ℕ, ◌+◌, ◌-◌, ◌≤◌}
+use Prim.Native.Nat.{ℕ, ◌+◌, ◌-◌}
 use mathlib.Core.Path.{refl, ap, ◌∙◌}
 use native.Mathlib.Omega.{arith}
-use lib.ListN.{length, drop}
-use Rattle.kiss_state.specs.State.{in_data, head_of, phased, stream_of}
+use lib.ListN.{drop}
+use Rattle.kiss_state.specs.State.{phased, stream_of}
 use Rattle.kiss_stream.specs.Feed.{later, taken_from}
-use Rattle.kiss_stream.specs.Steps.{Reaches}
 use borrow.Author.Rules.{rules}
 use Rattle.kiss_stream.proofs.fill.Goals as goal
 
@@ -47,7 +46,7 @@ loop-to-preserved c =
     let k = f.ensures.1 h.port h.dropped in
     let d = c.escaped_at-escaped.ensures c.if-escaped-eq0.false in
     let on = l.invariant.1.0 in
-    let e = d.1 f.new.0 (l.end + (f.result - l.i)) h.port h.dropped (omega arith) in
+    let e = d.1 f.new.octets (l.end + (f.result - l.i)) h.port h.dropped (omega arith) in
     (omega arith, (omega (arith, on, k.0), d.0, l.invariant.1.2 ∙ k.2 ∙ e))
 
 pub overflow_cast-length : goal.overflow_cast-length

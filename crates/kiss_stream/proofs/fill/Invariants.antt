@@ -1,12 +1,8 @@
 -- The call from `from` on comes to the same as from here, with the data that was met stored.
-use Prim.Native.Nat.{ℕ, ◌+◌, ◌-◌, ◌≤◌}
-use mathlib.Core.Path.{refl, ap, ◌∙◌}
-use native.Mathlib.Omega.{arith}
-use lib.ListN.{length, drop}
-use Rattle.kiss_state.specs.State.{in_data, head_of, phased, stream_of}
-use Rattle.kiss_stream.specs.Feed.{later, taken_from}
+use Prim.Native.Nat.{◌-◌, ◌≤◌}
+use lib.ListN.{length}
+use Rattle.kiss_state.specs.State.{in_data, head_of, stream_of}
 use Rattle.kiss_stream.specs.Steps.{Reaches}
-use borrow.Author.Rules.{rules}
 use Rattle.kiss_stream.proofs.fill.Given as goal
 
 abbrev pub invariant-loop-to : goal.invariant-loop-to

@@ -1,8 +1,5 @@
-use Prim.Native.Nat.{◌-◌}
 use native.Mathlib.Omega.{arith}
-use lib.ListN.{length}
-use Rattle.kiss_stream.proofs.Laws.{Filled, filled_none, filled_more, filled-gives}
-use borrow.Author.Rules.{rules}
+use Rattle.kiss_stream.proofs.Laws.{filled_none, filled_more, filled-gives}
 use Rattle.kiss_stream.proofs.fill_plain.Goals as goal
 
 pub loop-i-init : goal.loop-i-init

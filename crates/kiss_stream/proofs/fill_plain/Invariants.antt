@@ -1,9 +1,7 @@
 -- What was met so far is stored, and the call from `from` on comes to the same as from here.
 use Prim.Native.Nat.{◌-◌}
-use native.Mathlib.Omega.{arith}
 use lib.ListN.{length}
-use Rattle.kiss_stream.proofs.Laws.{Filled, filled_none, filled_more, filled-gives}
-use borrow.Author.Rules.{rules}
+use Rattle.kiss_stream.proofs.Laws.{Filled}
 use Rattle.kiss_stream.proofs.fill_plain.Given as goal
 
 abbrev pub invariant-loop-i : goal.invariant-loop-i

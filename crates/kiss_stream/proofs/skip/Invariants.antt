@@ -1,14 +1,9 @@
 -- What was passed leaves every state as it is that is in the phase.
 use Prim.Native.Nat.{◌-◌}
-use mathlib.Core.Path.{◌≡◌, refl, ◌∙◌}
-use mathlib.Core.Logic.{inl, inr, ⊎_elim}
-use native.Mathlib.Omega.{arith}
-use borrow.Author.Tests.{eqb-true, not-false}
+use mathlib.Core.Path.{◌≡◌}
 use lib.ListN.{length}
 use Rattle.kiss_state.specs.declared.Stream.{Stream}
 use Rattle.kiss_stream.specs.Steps.{Reaches}
-use Rattle.kiss_stream.proofs.Laws.{taken_passes}
-use borrow.Author.Rules.{rules}
 use Rattle.kiss_stream.proofs.skip.Given as goal
 
 abbrev pub invariant-loop-i : goal.invariant-loop-i
