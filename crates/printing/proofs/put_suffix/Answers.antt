@@ -1,7 +1,6 @@
 -- `put_suffix` writes nothing for SSID 0, else the hyphen and the digits.
 use mathlib.Core.Path.{sym}
 use borrow.Author.Tests.{eq-eqb, ne_eqb, lt-ltb, le-ltb}
-use borrow.Author.Rules.{rules}
 use Rattle.octets.proofs.Splice.{splice_none}
 use Rattle.printing.specs.Print.{ssid_suffix, decimal_text}
 use Rattle.printing.proofs.put_suffix.Goals as goal
