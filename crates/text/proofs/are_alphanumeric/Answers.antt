@@ -1,9 +1,5 @@
-use Prim.Native.Nat.{◌-◌, ◌≤◌}
-use mathlib.Core.Path.{◌≡◌, sym, ◌∙◌}
-use borrow.Author.Tests.{not-true, not-false}
+use mathlib.Core.Path.{sym, ◌∙◌}
 use borrow.Author.Rules.{rules}
-use lib.ListN.{length, drop}
-use Rattle.octets.specs.All.{all}
 use Rattle.octets.proofs.All.{all_step, all_end}
 use Rattle.text.specs.Text.{alphanumeric}
 use Rattle.text.proofs.are_alphanumeric.Goals as goal
@@ -14,7 +10,7 @@ returns-then-not-is_alphanumeric c =
     sym
     (sym l.invariant.1
     ∙ all_step alphanumeric _ l.i 0 (search rules)
-    ∙ simp (sym c.is_alphanumeric.ensures ∙ not-true _ c.if-not-is_alphanumeric.true))
+    ∙ simp (sym c.is_alphanumeric.ensures ∙ c.if-not-is_alphanumeric.true))
 
 pub loop-i-preserved : goal.loop-i-preserved
 loop-i-preserved c =
@@ -23,7 +19,7 @@ loop-i-preserved c =
       sym
           (sym l.invariant.1
           ∙ all_step alphanumeric _ l.i 0 (search rules)
-          ∙ simp (sym c.is_alphanumeric.ensures ∙ not-false _ c.if-not-is_alphanumeric.false)),
+          ∙ simp (sym c.is_alphanumeric.ensures ∙ c.if-not-is_alphanumeric.false)),
     )
 
 pub returns : goal.returns

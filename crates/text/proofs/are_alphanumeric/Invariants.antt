@@ -1,11 +1,8 @@
 -- `are_alphanumeric` tests every character. The invariant: the test of what is left decides.
 use Prim.Native.Nat.{◌-◌, ◌≤◌}
-use mathlib.Core.Path.{◌≡◌, sym, ◌∙◌}
-use borrow.Author.Tests.{not-true, not-false}
-use borrow.Author.Rules.{rules}
+use mathlib.Core.Path.{◌≡◌}
 use lib.ListN.{length, drop}
 use Rattle.octets.specs.All.{all}
-use Rattle.octets.proofs.All.{all_step, all_end}
 use Rattle.text.specs.Text.{alphanumeric}
 use Rattle.text.proofs.are_alphanumeric.Given as goal
 

@@ -1,12 +1,8 @@
 -- `first_hyphen` finds it. The invariant: the search of what is left goes on from here.
-use Prim.Native.Nat.{ℕ, suc, ◌+◌, ◌-◌, ◌≤◌}
-use mathlib.Core.Path.{◌≡◌, ◌∙◌}
-use native.Mathlib.Omega.{arith}
-use borrow.Author.Tests.{eq-eqb, ne_eqb}
-use borrow.Author.Rules.{rules}
+use Prim.Native.Nat.{◌+◌, ◌-◌, ◌≤◌}
+use mathlib.Core.Path.{◌≡◌}
 use lib.ListN.{length, drop}
 use Rattle.octets.specs.First.{first}
-use Rattle.octets.proofs.First.{first_step, first_end}
 use Rattle.text.specs.Text.{hyphen}
 use Rattle.text.proofs.first_hyphen.Given as goal
 

@@ -2,8 +2,7 @@
 use Prim.Native.Nat.{◌≤◌}
 use mathlib.Core.Path.{sym, ◌∙◌}
 use native.Mathlib.Omega.{arith}
-use borrow.Author.Tests.{lt-ltb, le-ltb, not-true, not-false}
-use borrow.Author.Rules.{rules}
+use borrow.Author.Tests.{lt-ltb, le-ltb}
 use lib.ListN.{length}
 use lib.Seq.{length-take-le}
 use Rattle.octets.proofs.First.{first_le}
@@ -13,14 +12,14 @@ use Rattle.text.proofs.from_str.Goals as goal
 
 pub returns-then-not-is_ascii : goal.returns-then-not-is_ascii
 unfolding read_text
-returns-then-not-is_ascii c = simp (c.refusal.ensures, sym c.is_ascii.ensures ∙ not-true _ c.if-not-is_ascii.true)
+returns-then-not-is_ascii c = simp (c.refusal.ensures, sym c.is_ascii.ensures ∙ c.if-not-is_ascii.true)
 
 pub returns-then-hyphens-gt1 : goal.returns-then-hyphens-gt1
 unfolding read_text
 returns-then-hyphens-gt1 c =
     simp (
       c.refusal-then-hyphens-gt1.ensures,
-      sym c.is_ascii.ensures ∙ not-false _ c.if-not-is_ascii.false,
+      sym c.is_ascii.ensures ∙ c.if-not-is_ascii.false,
       ← c.hyphens.ensures,
       lt-ltb 1 c.hyphens.result (omega arith),
     )
@@ -28,15 +27,15 @@ returns-then-hyphens-gt1 c =
 pub slice_bounds-read_with-end : goal.slice_bounds-read_with-end
 slice_bounds-read_with-end c =
     let t = c.args.text.now in
-    let h : c.first-hyphen.result ≤ length t = rw c.first-hyphen.ensures (first_le hyphen t) in
+    let h : c.first_hyphen-n.result ≤ length t = rw c.first_hyphen-n.ensures (first_le hyphen t) in
     sym (length-take-le _ t h)
 
 pub returns : goal.returns
 unfolding read_text
 returns c =
     simp (
-      sym c.is_ascii.ensures ∙ not-false _ c.if1.false,
+      sym c.is_ascii.ensures ∙ c.if-not-is_ascii.false,
       ← c.hyphens.ensures,
-      le-ltb _ _ c.if2.false,
+      le-ltb _ _ c.if-hyphens-gt1.false,
     )
-    (c.read_with.ensures ∙ rw (c.ssid_from.ensures, c.first-hyphen.ensures) (read_both _ _))
+    (c.read_with.ensures ∙ rw (c.ssid_from.ensures, c.first_hyphen-n.ensures) (read_both _ _))

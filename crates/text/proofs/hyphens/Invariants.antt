@@ -1,14 +1,9 @@
 -- `hyphens` counts them. The invariant: those so far and those of what is left are all.
-use Prim.Native.Nat.{ℕ, suc, ◌+◌, ◌-◌, ◌≤◌}
-use mathlib.Core.Path.{◌≡◌, ◌∙◌}
-use mathlib.Core.Logic.{⊎_elim}
-use native.Mathlib.Omega.{arith}
-use borrow.Author.Tests.{eq-eqb, ne_eqb}
-use borrow.Author.Rules.{rules}
+use Prim.Native.Nat.{◌+◌, ◌-◌, ◌≤◌}
+use mathlib.Core.Path.{◌≡◌}
 use lib.ListN.{length, drop}
 use Rattle.octets.specs.Count.{count}
 use Rattle.text.specs.Text.{hyphen}
-use Rattle.octets.proofs.Count.{count_step, count_end}
 use Rattle.text.proofs.hyphens.Given as goal
 
 abbrev pub invariant-loop-i : goal.invariant-loop-i

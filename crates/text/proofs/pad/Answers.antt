@@ -1,5 +1,4 @@
 -- `pad` puts together the six characters.
-use borrow.Author.Rules.{rules}
 use Rattle.text.specs.Text.{padded}
 use Rattle.text.proofs.pad.Goals as goal
 

@@ -1,6 +1,7 @@
-use Prim.Native.Nat.{ℕ, ◌+◌, ◌*◌, ◌-◌, ◌≤◌}
+use Prim.Native.Nat.{ℕ, ◌+◌, ◌*◌, ◌-◌, ◌<◌}
 use mathlib.Core.Path.{◌≡◌, refl, ap, sym, ◌∙◌}
 use mathlib.Core.Bool.{◌&&◌}
+use mathlib.Core.List.{List}
 use native.Mathlib.Omega.{arith}
 use borrow.Author.Tests.{le-leb, lt-leb}
 use borrow.Author.Rules.{rules}
@@ -19,17 +20,14 @@ pub loop-i-init : goal.loop-i-init
 loop-i-init c = (search rules, (search rules, (refl, refl)))
 
 -- the test of all digits, from the one in hand on
-turn : (c : tie.After-shared-slice-known invariant-loop decreases-loop) →
-    let i = c.before.before.loop.i in
-    let t = c.before.before.before.before.args.text.now in
-    all digit t ≡ (digit (get_or t i 0) && all digit (drop (i + 1) t))
-turn c = sym c.before.before.loop.invariant.1.1.0 ∙ all_step digit _ _ 0 c.before.loop-test.true
+turn : (t : List ℕ) (i : ℕ) → i < length t → all digit (drop i t) ≡ all digit t → all digit t ≡ (digit (get_or t i 0) && all digit (drop (i + 1) t))
+turn t i h e = sym e ∙ all_step digit t i 0 h
 
 pub returns-then-d-lt48 : goal.returns-then-d-lt48
-returns-then-d-lt48 c = sym (say-strange _ (turn (goal.at.returns-then-d-lt48 c).After-shared_slice_known-1 ∙ simp (lt-leb 48 _ c.if-d-lt48.true)))
+returns-then-d-lt48 c = sym (say-strange _ (turn _ _ c.loop-i-test.true c.loop-i.invariant.1.1.0 ∙ simp (lt-leb 48 _ c.if-d-lt48.true)))
 
 pub returns-then-d-gt57 : goal.returns-then-d-gt57
-returns-then-d-gt57 c = sym (say-strange _ (turn (goal.at.returns-then-d-gt57 c).After-shared_slice_known-1 ∙ simp (le-leb 48 _ c.if-d-lt48.false, lt-leb _ 57 c.if-d-gt57.true)))
+returns-then-d-gt57 c = sym (say-strange _ (turn _ _ c.loop-i-test.true c.loop-i.invariant.1.1.0 ∙ simp (le-leb 48 _ c.if-d-lt48.false, lt-leb _ 57 c.if-d-gt57.true)))
 
 pub returns-then-value-gt255 : goal.returns-then-value-gt255
 returns-then-value-gt255 c =
@@ -47,7 +45,7 @@ loop-i-preserved c =
       (
         search rules,
         (
-          sym (turn (goal.at.loop-i-preserved c).After-shared_slice_known-1 ∙ simp (le-leb 48 _ c.if-d-lt48.false, le-leb _ 57 c.if-d-gt57.false)),
+          sym (turn _ _ c.loop-i-test.true c.loop-i.invariant.1.1.0 ∙ simp (le-leb 48 _ c.if-d-lt48.false, le-leb _ 57 c.if-d-gt57.false)),
           sym (decimal_step t l.i l.value (omega arith)) ∙ l.invariant.1.1.1,
         ),
       ),

@@ -1,16 +1,9 @@
 -- `parse_digits` gives the number. The invariant: what is left decides whether all are digits and, with the value so far, which number.
-use Prim.Native.Nat.{ℕ, ◌+◌, ◌*◌, ◌-◌, ◌≤◌}
-use mathlib.Core.Path.{◌≡◌, refl, ap, sym, ◌∙◌}
-use mathlib.Core.Bool.{◌&&◌}
-use native.Mathlib.Omega.{arith}
-use borrow.Author.Tests.{le-leb, lt-leb}
-use borrow.Author.Rules.{rules}
-use lib.ListN.{length, get_or, drop}
+use Prim.Native.Nat.{◌-◌, ◌≤◌}
+use mathlib.Core.Path.{◌≡◌}
+use lib.ListN.{length, drop}
 use Rattle.octets.specs.All.{all}
-use Rattle.octets.proofs.All.{all_step, all_end}
-use Rattle.text.specs.declared.Ssid.TheVariants.{Number}
 use Rattle.text.specs.Text.{digit, decimal_from, decimal}
-use Rattle.text.proofs.Reading.{decimal_step, decimal_end, decimal_least, say_none, say-strange, say_big, say-number}
 use Rattle.text.proofs.parse_digits.Given as goal
 
 abbrev pub invariant-loop-i : goal.invariant-loop-i

@@ -1,6 +1,5 @@
 -- `parse_ssid` takes off the plus sign and reads the digits.
 use mathlib.Core.Path.{sym}
-use borrow.Author.Rules.{rules}
 use Rattle.octets.proofs.Splice.{part_from}
 use Rattle.text.proofs.Reading.{say_none, after_none, after_plus_lem, after-other}
 use Rattle.text.proofs.parse_ssid.Goals as goal

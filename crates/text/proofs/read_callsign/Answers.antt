@@ -1,7 +1,6 @@
 -- `read_callsign` makes the tests in the table's order.
 use mathlib.Core.Path.{sym, ◌∙◌}
-use borrow.Author.Tests.{eq-eqb, ne_eqb, lt-ltb, le-ltb, not-true, not-false}
-use borrow.Author.Rules.{rules}
+use borrow.Author.Tests.{eq-eqb, ne_eqb, lt-ltb, le-ltb}
 use Rattle.text.specs.Text.{read_callsign}
 use Rattle.text.proofs.read_callsign.Goals as goal
 
@@ -20,7 +19,7 @@ returns-then-not-are_alphanumeric c =
       c.refusal-then-not-are_alphanumeric.ensures,
       ne_eqb _ _ c.if-callsign-eq0.false,
       le-ltb _ _ c.if-callsign-gt6.false,
-      sym c.are_alphanumeric.ensures ∙ not-true _ c.if-not-are_alphanumeric.true,
+      sym c.are_alphanumeric.ensures ∙ c.if-not-are_alphanumeric.true,
     )
 
 pub returns-then-ssid-gt15 : goal.returns-then-ssid-gt15
@@ -30,7 +29,7 @@ returns-then-ssid-gt15 c =
       c.refusal-then-ssid-gt15.ensures,
       ne_eqb _ _ c.if-callsign-eq0.false,
       le-ltb _ _ c.if-callsign-gt6.false,
-      sym c.are_alphanumeric.ensures ∙ not-false _ c.if-not-are_alphanumeric.false,
+      sym c.are_alphanumeric.ensures ∙ c.if-not-are_alphanumeric.false,
       lt-ltb _ _ c.if-ssid-gt15.true,
     )
 
@@ -41,6 +40,6 @@ returns c =
       c.pad.ensures,
       ne_eqb _ _ c.if-callsign-eq0.false,
       le-ltb _ _ c.if-callsign-gt6.false,
-      sym c.are_alphanumeric.ensures ∙ not-false _ c.if-not-are_alphanumeric.false,
+      sym c.are_alphanumeric.ensures ∙ c.if-not-are_alphanumeric.false,
       le-ltb _ _ c.if-ssid-gt15.false,
     )

@@ -1,5 +1,4 @@
 -- `read_with` goes by what the text of the SSID says.
-use borrow.Author.Rules.{rules}
 use Rattle.text.proofs.read_with.Goals as goal
 
 pub returns-in-Number : goal.returns-in-Number

@@ -1,5 +1,4 @@
 -- `refusal` gives NOCALL, SSID 0.
-use borrow.Author.Rules.{rules}
 use Rattle.text.proofs.refusal.Goals as goal
 
 pub returns : goal.returns

@@ -1,6 +1,5 @@
 -- `ssid_from` reads what follows the hyphen.
 use borrow.Author.Tests.{lt-ltb, le-ltb}
-use borrow.Author.Rules.{rules}
 use Rattle.octets.proofs.Splice.{part_from}
 use Rattle.text.specs.Text.{ssid_from}
 use Rattle.text.proofs.ssid_from.Goals as goal

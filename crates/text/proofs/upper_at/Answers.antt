@@ -1,7 +1,6 @@
 -- `upper_at` gives the character in upper case, or the space that stands past the end.
 use mathlib.Core.Path.{refl}
 use native.Mathlib.Omega.{arith}
-use borrow.Author.Rules.{rules}
 use lib.ListN.{get_or-eq_default}
 use Rattle.text.specs.Text.{upper}
 use Rattle.octets.proofs.Place.{get_d_within}
