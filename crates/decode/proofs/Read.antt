@@ -7,8 +7,6 @@ use mathlib.Core.List.{List, [], ◌∷◌}
 use native.Mathlib.Nat.{mod-eq_of_lt}
 use native.Mathlib.Omega.{arith}
 use borrow.Author.Tests.{ne_eqb, eqb-true, le-leb}
-use types.Run.{OneOf, miss}
-use denote.Enum.Declared.{tag_of}
 use lib.Bits.{and_mask}
 use lib.Dec.{eqb, ltb}
 use lib.ListN.{length, get_or, set}
@@ -16,13 +14,12 @@ use Rattle.octets.specs.Octet.{Octets, bit}
 use Rattle.octets.specs.First.{first}
 use Rattle.octets.proofs.Bits.{bit_test}
 use Rattle.octets.proofs.First.{first_is, first_beyond, first_sooner, first-same}
-use Rattle.parse.specs.contracts.ContentAnswer.{the_type}
+use Rattle.content.specs.declared.FrameContent.{FrameContent}
 use Rattle.parse.specs.declared.ContentAnswer.{ContentAnswer}
 use Rattle.parse.specs.declared.ContentAnswer.TheVariants as content
 use Rattle.decode.specs.Answer.{number_of, is_accepted}
 use Rattle.decode.specs.declared.DecodeAnswer.{DecodeAnswer}
 use Rattle.decode.specs.declared.DecodeAnswer.TheVariants as answer
-use Rattle.decode.specs.contracts.DecodeAnswer.{the_type as decode-type}
 use Rattle.search.specs.Search.{masked}
 use Rattle.decode.specs.Read.{nonzero, start_of, end_of, entry_at, place_at, route_at, refusal_of}
 
@@ -65,8 +62,8 @@ pub end-masked : (s : List ℕ) → first (masked 0x01) s ≡ end_of s
 end-masked s = first-same (masked 0x01) (bit 0) s 0 (λ k h. bit_test (get_or s k 0) 0)
 
 -- what a match on the answer tells where it is not the first case
-pub told-refused : (a : DecodeAnswer) → OneOf (1 ∷ 2 ∷ 3 ∷ 4 ∷ 5 ∷ 6 ∷ 7 ∷ 8 ∷ 9 ∷ 10 ∷ 11 ∷ []) (tag_of decode-type a) → is_accepted a ≡ false
-told-refused answer.Accepted h = absurd (miss (1 ∷ 2 ∷ 3 ∷ 4 ∷ 5 ∷ 6 ∷ 7 ∷ 8 ∷ 9 ∷ 10 ∷ 11 ∷ []) 0 tt h)
+pub told-refused : (a : DecodeAnswer) → (a ≡ answer.Accepted → ⊥) → is_accepted a ≡ false
+told-refused answer.Accepted h = absurd (h refl)
 told-refused answer.OnlyNullBytes h = refl
 told-refused answer.NoEndToAddressField h = refl
 told-refused (answer.AddressFieldTooShort start end) h = refl
@@ -80,8 +77,8 @@ told-refused answer.FrameRejectInLongMode h = refl
 told-refused answer.MissingControlOctet h = refl
 
 -- and of the content's answer
-pub told-content : (a : ContentAnswer) → OneOf (1 ∷ 2 ∷ 3 ∷ 4 ∷ 5 ∷ 6 ∷ []) (tag_of the_type a) → is_accepted (refusal_of a) ≡ false
-told-content (content.Accepted k) h = absurd (miss (1 ∷ 2 ∷ 3 ∷ 4 ∷ 5 ∷ 6 ∷ []) 0 tt h)
+pub told-content : (a : ContentAnswer) → ((k : FrameContent) → a ≡ content.Accepted k → ⊥) → is_accepted (refusal_of a) ≡ false
+told-content (content.Accepted k) h = absurd (h k refl)
 told-content content.ContentZeroLength h = refl
 told-content content.MissingPidField h = refl
 told-content content.UnrecognisedUFieldType h = refl

@@ -1,7 +1,6 @@
 -- The number of the octets from the control octet on.
 use Rattle.octets.proofs.Splice.{part_from}
 use Rattle.decode.proofs.Whole.{refusal_by_lem}
-use borrow.Author.Rules.{rules}
 use Rattle.decode.proofs.content_answer.Goals as goal
 
 pub returns : goal.returns

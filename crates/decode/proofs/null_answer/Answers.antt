@@ -8,7 +8,7 @@ use Rattle.decode.proofs.null_answer.Goals as goal
 use Rattle.decode.proofs.null_answer.Goals.{After-find-nulls}
 
 start : (c : After-find-nulls) → c.find-nulls.result ≡ start_of c.args.bytes.now
-start c = c.find-nulls.ensures.value ∙ start-masked _ (λ k. (c.shared_slice_known-1.given k).fits)
+start c = c.find-nulls.ensures.value ∙ start-masked _ (λ k. search rules)
 
 pub returns-then-nulls-bytes : goal.returns-then-nulls-bytes
 returns-then-nulls-bytes c = simp (← start (goal.at.returns-then-nulls-bytes c).After-find-nulls, eq-eqb _ _ c.if-nulls-bytes.true)

@@ -9,7 +9,6 @@ use Rattle.decode.specs.Read.{refused_with, with_content, decode_field}
 use Rattle.decode.specs.Outline.{outline_by}
 use Rattle.decode.proofs.Read.{told-refused}
 use Rattle.decode.proofs.Whole.{outline-refused, refused-content, accepted-content}
-use borrow.Author.Rules.{rules}
 use Rattle.decode.proofs.outline_field.Goals as goal
 use Rattle.decode.proofs.outline_field.Goals.{After-content_answer-answer}
 
@@ -37,7 +36,7 @@ returns-then-count-gt8 c = simp (c.refused_outline-then-count-gt8.ensures, sub-z
 pub returns-in_default : goal.returns-in_default
 returns-in_default c =
     let e = c.content_answer-answer.ensures in
-    let h = rw e at (told-refused c.content_answer-answer.result c.in_default.keys2) in
+    let h = rw e at (told-refused c.content_answer-answer.result c.in_default.not-Accepted) in
     c.refused_outline-in_default.ensures ∙ rw (e, past (goal.at.returns-in_default c).After-content_answer-answer) (outline-refused _ _ h ∙ ap (outline_by _) (refused-content _ _ _ _ _ _ h))
 
 pub returns : goal.returns

@@ -2,23 +2,22 @@
 use mathlib.Core.Path.{◌≡◌, refl, sym, ◌∙◌}
 use mathlib.Core.Bool.{true}
 use native.Mathlib.Omega.{arith}
-use borrow.Author.Tests.{eq-eqb, ne_eqb, not-true, not-false}
+use borrow.Author.Tests.{eq-eqb, ne_eqb}
 use lib.ListN.{get_or}
 use Rattle.decode.specs.Read.{nonzero, end_of, refused_with}
 use Rattle.decode.proofs.Read.{end-masked}
 use Rattle.decode.proofs.Whole.{first-decode, null_outline}
-use borrow.Author.Rules.{rules}
 use Rattle.decode.proofs.outline_of.Goals as goal
 use Rattle.decode.proofs.outline_of.Goals.{After-find-end, Else-not-starts}
 
 first : (c : Else-not-starts) → nonzero (get_or c.args.bytes.now 0 0) ≡ true
-first c = sym c.starts.ensures ∙ not-false _ c.if-not-starts.false
+first c = sym c.starts.ensures ∙ c.if-not-starts.false
 
 end : (c : After-find-end) → c.find-end.result ≡ end_of c.args.bytes.now
 end c = c.find-end.ensures.value ∙ end-masked _
 
 pub returns-then-not-starts : goal.returns-then-not-starts
-returns-then-not-starts c = c.refused_outline.ensures ∙ rw c.null_answer.ensures (null_outline _ _ (sym c.starts.ensures ∙ not-true _ c.if-not-starts.true))
+returns-then-not-starts c = c.refused_outline.ensures ∙ rw c.null_answer.ensures (null_outline _ _ (sym c.starts.ensures ∙ c.if-not-starts.true))
 
 pub returns-then-end-bytes : goal.returns-then-end-bytes
 unfolding refused_with

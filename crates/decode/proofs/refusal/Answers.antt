@@ -1,6 +1,6 @@
 -- By the definition, number for number.
-use Prim.Native.Nat.{ℕ}
 use borrow.Author.Tests.{ne_eqb}
+use borrow.Author.Rules.{rules}
 use Rattle.decode.proofs.refusal.Goals as goal
 
 pub returns-in-0 : goal.returns-in-0
@@ -22,14 +22,4 @@ pub returns-in-12 : goal.returns-in-12
 returns-in-12 c = simp c.in-12.is
 
 pub returns-in_default : goal.returns-in_default
-returns-in_default c =
-    let n : ℕ = c.args.number in
-    let rest = c.in_default.rest in
-    simp (
-      ne_eqb n 0 rest.0.0.0.0.0.1,
-      ne_eqb n 5 rest.0.0.0.0.1,
-      ne_eqb n 7 rest.0.0.0.1,
-      ne_eqb n 8 rest.0.0.1,
-      ne_eqb n 11 rest.0.1,
-      ne_eqb n 12 rest.1,
-    )
+returns-in_default c = search (rules, ne_eqb)

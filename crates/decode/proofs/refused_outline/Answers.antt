@@ -1,5 +1,4 @@
 -- Of the default frame.
-use borrow.Author.Rules.{rules}
 use Rattle.decode.proofs.refused_outline.Goals as goal
 
 pub returns : goal.returns

@@ -2,7 +2,6 @@
 use mathlib.Core.Path.{◌≡◌, refl}
 use lib.ListN.{get_or, get_or-eq_default}
 use native.Mathlib.Omega.{arith}
-use borrow.Author.Rules.{rules}
 use Rattle.decode.proofs.starts.Goals as goal
 
 pub returns-then-bytes-eq0 : goal.returns-then-bytes-eq0
