@@ -1,10 +1,8 @@
 -- By the law of a line in two pieces.
 use mathlib.Core.Path.{sym}
-use native.Mathlib.Nat.{lt_of_le_of_lt}
 use native.Mathlib.Omega.{arith}
 use lib.Seq.{length-take-le}
 use Rattle.demand_contracts_stream.proofs.Laws.{rest_all, two_few, two_parts}
-use borrow.Author.Rules.{rules}
 use Rattle.demand_contracts_stream.proofs.in_two.Goals as goal
 
 pub slice_bounds-used_up-end : goal.slice_bounds-used_up-end
@@ -17,7 +15,7 @@ overflow_add-result c =
     let g = c.used_up-second in
     let rest = rest_all a.line.now a.cut in
     let g-is = rw rest at g.ensures in
-    record { fits = lt_of_le_of_lt (two_few a.octets.now a.head a.line.now a.cut f.result g.result f.new.0 g.new.0 f.ensures.0 f.ensures.1 f.ensures.2 g-is.0 g-is.1 g-is.2) c.well-formed.1.1.0.0 }
+    omega (arith, two_few a.octets.now a.head a.line.now a.cut f.result g.result f.new.octets g.new.octets f.ensures.0 f.ensures.1 f.ensures.2 g-is.0 g-is.1 g-is.2)
 
 pub returns : goal.returns
 returns c =
@@ -26,4 +24,4 @@ returns c =
     let g = c.used_up-second in
     let rest = rest_all a.line.now a.cut in
     let g-is = rw rest at g.ensures in
-    two_parts a.octets.now a.head a.line.now a.cut f.result g.result f.new.0 g.new.0 f.ensures.0 f.ensures.1 f.ensures.2 g-is.0 g-is.1 g-is.2
+    two_parts a.octets.now a.head a.line.now a.cut f.result g.result f.new.octets g.new.octets f.ensures.0 f.ensures.1 f.ensures.2 g-is.0 g-is.1 g-is.2
