@@ -1,7 +1,6 @@
 -- The due place is the first clear bit of the hop set.
 use mathlib.Core.Path.{◌∙◌}
 use Rattle.hops.proofs.Laws.{due_clear}
-use borrow.Author.Rules.{rules}
 use Rattle.hops.proofs.due_place.Goals as goal
 
 pub returns : goal.returns

@@ -1,11 +1,8 @@
 -- From place i up the set is that of the places there, lowest first.
-use Prim.Native.Nat.{◌+◌, ◌-◌, ◌*◌, ◌≤◌, ◌<◌}
-use mathlib.Core.Path.{◌≡◌, refl, ◌∙◌}
-use native.Mathlib.Omega.{arith}
+use Prim.Native.Nat.{◌≤◌}
+use mathlib.Core.Path.{◌≡◌}
 use lib.ListN.{drop}
-use Rattle.hops.specs.Hops.{marked_at, marks, set_of, hop_set}
-use Rattle.hops.proofs.Laws.{set_turn}
-use borrow.Author.Rules.{rules}
+use Rattle.hops.specs.Hops.{marks, set_of}
 use Rattle.hops.proofs.hop_set.Given as goal
 
 abbrev pub invariant-loop-i : goal.invariant-loop-i

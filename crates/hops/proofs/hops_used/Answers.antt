@@ -1,6 +1,5 @@
 -- The ones are counted of the hop set.
 use Rattle.hops.specs.Hops.{hops_used}
-use borrow.Author.Rules.{rules}
 use Rattle.hops.proofs.hops_used.Goals as goal
 
 pub returns : goal.returns

@@ -1,12 +1,8 @@
 -- The comparison from place i on is the comparison of the whole.
 use Prim.Native.Nat.{◌-◌, ◌≤◌}
-use mathlib.Core.Path.{◌≡◌, refl, sym, ◌∙◌}
-use native.Mathlib.Omega.{arith}
-use borrow.Author.Tests.{eq-eqb, ne_eqb}
+use mathlib.Core.Path.{◌≡◌}
 use lib.ListN.{drop}
 use Rattle.octets.specs.Same.{same}
-use Rattle.octets.proofs.Same.{same_step, same_end}
-use borrow.Author.Rules.{rules}
 use Rattle.hops.proofs.same_callsign.Given as goal
 
 abbrev pub invariant-loop-i : goal.invariant-loop-i

@@ -1,7 +1,6 @@
 -- SSIDs first, then callsigns.
 use borrow.Author.Tests.{eq-eqb, ne_eqb}
 use Rattle.hops.specs.Station.{same_station}
-use borrow.Author.Rules.{rules}
 use Rattle.hops.proofs.same_station.Goals as goal
 
 pub returns-then-a-b : goal.returns-then-a-b
