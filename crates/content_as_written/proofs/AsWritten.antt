@@ -21,7 +21,7 @@ use Rattle.parse.specs.Numbers.{is_frmr}
 use Rattle.content_as_written.specs.AsWritten.{frmr_tidy, s_tidy, is_tidy, u_tail, has_tail, as_written, info_of}
 use Rattle.content_as_written.proofs.Back.{flags_below, low-back}
 use Rattle.parse.proofs.Read.{Reads}
-use Rattle.parse.proofs.Read.Reads.{i-frame, rr-frame, rnr-frame, rej-frame, srej-frame, sabm-frame, sabme-frame, disc-frame, dm-frame, ua-frame, frmr-frame, ui-frame, xid-frame, test-frame}
+use Rattle.parse.proofs.Read.Reads.{i_frame, rr_frame, rnr_frame, rej_frame, srej_frame, sabm_frame, sabme_frame, disc_frame, dm_frame, ua_frame, frmr_frame, ui_frame, xid_frame, test_frame}
 use Rattle.control.specs.declared.Mode.{Mode}
 use Rattle.control.specs.declared.Mode.TheVariants.{Short, Long}
 use Rattle.content.specs.declared.CommandResponse.TheVariants.{Command, Response}
@@ -131,21 +131,21 @@ i_exact Long s o n t =
     three-then s _ _ _ n (omega arith) (received-again (get_or s 1 0) (o 1)) (octet_pid (get_or s 2 0) (o 2))
 
 pub info_exact : (m : Mode) (s : List ℕ) → Octets s → {k : FrameContent} → Reads m s k → has_info k ≡ true → spell_content m k (info_of m k s) ≡ s
-info_exact m s o (i-frame n t) e = i_exact m s o n t
-info_exact m s o (rr-frame n t) e = absurd (false≢true e)
-info_exact m s o (rnr-frame n t) e = absurd (false≢true e)
-info_exact m s o (rej-frame n t) e = absurd (false≢true e)
-info_exact m s o (srej-frame n t) e = absurd (false≢true e)
-info_exact m s o (sabm-frame n t) e = absurd (false≢true e)
-info_exact m s o (sabme-frame n t) e = absurd (false≢true e)
-info_exact m s o (disc-frame n t) e = absurd (false≢true e)
-info_exact m s o (dm-frame n t) e = absurd (false≢true e)
-info_exact m s o (ua-frame n t) e = absurd (false≢true e)
-info_exact m s o (frmr-frame a n t) e = absurd (false≢true e)
-info_exact m s o (ui-frame n t) e =
+info_exact m s o (i_frame n t) e = i_exact m s o n t
+info_exact m s o (rr_frame n t) e = absurd (false≢true e)
+info_exact m s o (rnr_frame n t) e = absurd (false≢true e)
+info_exact m s o (rej_frame n t) e = absurd (false≢true e)
+info_exact m s o (srej_frame n t) e = absurd (false≢true e)
+info_exact m s o (sabm_frame n t) e = absurd (false≢true e)
+info_exact m s o (sabme_frame n t) e = absurd (false≢true e)
+info_exact m s o (disc_frame n t) e = absurd (false≢true e)
+info_exact m s o (dm_frame n t) e = absurd (false≢true e)
+info_exact m s o (ua_frame n t) e = absurd (false≢true e)
+info_exact m s o (frmr_frame a n t) e = absurd (false≢true e)
+info_exact m s o (ui_frame n t) e =
     two_then s _ _ n (rw t at (unnumbered-again (get_or s 0 0) (o 0))) (octet_pid (get_or s 1 0) (o 1))
-info_exact m s o (xid-frame n t) e = one_then s _ n (rw t at (unnumbered-again (get_or s 0 0) (o 0)))
-info_exact m s o (test-frame n t) e = one_then s _ n (rw t at (unnumbered-again (get_or s 0 0) (o 0)))
+info_exact m s o (xid_frame n t) e = one_then s _ n (rw t at (unnumbered-again (get_or s 0 0) (o 0)))
+info_exact m s o (test_frame n t) e = one_then s _ n (rw t at (unnumbered-again (get_or s 0 0) (o 0)))
 
 -- the control field of an S frame that is tidy and has no tail
 tidy-again : (m : Mode) (s : List ℕ) → Octets s → (k : ℕ) → s_kind (get_or s 0 0) ≡ k → s_tidy m (get_or s 0 0) ≡ true → length s ≡ controls m
@@ -173,24 +173,24 @@ module _ (m : Mode) (s : List ℕ) (o : Octets s) (passed : as_written m s ≡ t
       one_part s _ (no_longer 1 n h.0) (rw e at (unnumbered-again (get_or s 0 0) (o 0)))
 
   pub as-written_exact : {k : FrameContent} → Reads m s k → spell_content m k (info_of m k s) ≡ s
-  as-written_exact (i-frame n t) = info_exact m s o (i-frame n t) refl
-  as-written_exact (rr-frame n t) = s_exact rr refl n t
-  as-written_exact (rnr-frame n t) = s_exact rnr refl n t
-  as-written_exact (rej-frame n t) = s_exact rej refl n t
-  as-written_exact (srej-frame n t) = s_exact srej refl n t
-  as-written_exact (sabm-frame n t) = u_exact sabm refl refl refl n t
-  as-written_exact (sabme-frame n t) = u_exact sabme refl refl refl n t
-  as-written_exact (disc-frame n t) = u_exact disc refl refl refl n t
-  as-written_exact (dm-frame n t) = u_exact dm refl refl refl n t
-  as-written_exact (ua-frame n t) = u_exact ua refl refl refl n t
-  as-written_exact (frmr-frame a n t) =
+  as-written_exact (i_frame n t) = info_exact m s o (i_frame n t) refl
+  as-written_exact (rr_frame n t) = s_exact rr refl n t
+  as-written_exact (rnr_frame n t) = s_exact rnr refl n t
+  as-written_exact (rej_frame n t) = s_exact rej refl n t
+  as-written_exact (srej_frame n t) = s_exact srej refl n t
+  as-written_exact (sabm_frame n t) = u_exact sabm refl refl refl n t
+  as-written_exact (sabme_frame n t) = u_exact sabme refl refl refl n t
+  as-written_exact (disc_frame n t) = u_exact disc refl refl refl n t
+  as-written_exact (dm_frame n t) = u_exact dm refl refl refl n t
+  as-written_exact (ua_frame n t) = u_exact ua refl refl refl n t
+  as-written_exact (frmr_frame a n t) =
       let tidy = both (eqb (field 4 4 (get_or s 1 0)) 0) (eqb (field 0 1 (get_or s 2 0)) 0) (sym (as-written-frmr m s t) ∙ passed) in
       four_parts s _ _ _ _ n (rw t at (unnumbered-again (get_or s 0 0) (o 0)))
       (flags-again (get_or s 1 0) (o 1) (eqb-true (field 4 4 (get_or s 1 0)) 0 tidy.0))
       (copy_even (get_or s 2 0) (o 2) ∙ omega (arith, eqb-true (field 0 1 (get_or s 2 0)) 0 tidy.1)) refl
-  as-written_exact (ui-frame n t) = info_exact m s o (ui-frame n t) refl
-  as-written_exact (xid-frame n t) = info_exact m s o (xid-frame n t) refl
-  as-written_exact (test-frame n t) = info_exact m s o (test-frame n t) refl
+  as-written_exact (ui_frame n t) = info_exact m s o (ui_frame n t) refl
+  as-written_exact (xid_frame n t) = info_exact m s o (xid_frame n t) refl
+  as-written_exact (test_frame n t) = info_exact m s o (test_frame n t) refl
 
 low_none : (n : ℕ) (p : Bool) (v : ℕ) → field 0 1 (numbered n p (sent Short v)) ≡ 0
 low_none n p v = omega (arith, low-back n (sent Short v) (omega arith) p)

@@ -1,6 +1,6 @@
 -- What upper layers rest on: plain content is read back from what it spells, and what reading accepts is plain and no longer when
 -- spelled again.
-use Prim.Native.Nat.{ℕ, ◌+◌, ◌<◌, ◌≤◌}
+use Prim.Native.Nat.{ℕ, ◌<◌, ◌≤◌}
 use mathlib.Core.Path.{◌≡◌, refl, ◌∙◌}
 use mathlib.Core.Bool.{Bool, true, false, true≢false}
 use mathlib.Core.List.{List, [], ◌∷◌, ◌++◌}
@@ -19,7 +19,7 @@ use Rattle.content_as_written.specs.AsWritten.{as_written, info_of}
 use Rattle.content_as_written.proofs.AsWritten.{info_exact, as-written_exact, as-written_spelled}
 use Rattle.content_as_written.proofs.Back.{flags_below, i-back, s-back, sabm-back, sabme-back, disc-back, dm-back, ua-back, frmr_way, frmr-back, ui-back, xid-back, test_back}
 use Rattle.parse.proofs.Read.{Reads, accepted, sized}
-use Rattle.parse.proofs.Read.Reads.{i-frame, rr-frame, rnr-frame, rej-frame, srej-frame, sabm-frame, sabme-frame, disc-frame, dm-frame, ua-frame, frmr-frame, ui-frame, xid-frame, test-frame}
+use Rattle.parse.proofs.Read.Reads.{i_frame, rr_frame, rnr_frame, rej_frame, srej_frame, sabm_frame, sabme_frame, disc_frame, dm_frame, ua_frame, frmr_frame, ui_frame, xid_frame, test_frame}
 use Rattle.control.specs.declared.Mode.{Mode}
 use Rattle.control.specs.declared.Mode.TheVariants.{Short, Long}
 use Rattle.content.specs.declared.FrameContent.{FrameContent}
@@ -62,21 +62,21 @@ pub content-plain : (m : Mode) (s : List ℕ) → Octets s → (k : FrameContent
 content-plain m s o k e = plain m (accepted m s k e)
   where
     plain : (m : Mode) {k : FrameContent} → Reads m s k → PlainContent m k
-    plain m (i-frame n t) = (receive_below m s, send_below m s, pid-plain _ (o _))
-    plain m (rr-frame n t) = receive_below m s
-    plain m (rnr-frame n t) = receive_below m s
-    plain m (rej-frame n t) = receive_below m s
-    plain m (srej-frame n t) = receive_below m s
-    plain m (sabm-frame n t) = tt
-    plain m (sabme-frame n t) = tt
-    plain m (disc-frame n t) = tt
-    plain m (dm-frame n t) = tt
-    plain m (ua-frame n t) = tt
-    plain Short (frmr-frame a n t) = (omega arith, omega arith, o 3)
-    plain Long (frmr-frame a n t) = true≢false a
-    plain m (ui-frame n t) = pid-plain (get_or s 1 0) (o 1)
-    plain m (xid-frame n t) = tt
-    plain m (test-frame n t) = tt
+    plain m (i_frame n t) = (receive_below m s, send_below m s, pid-plain _ (o _))
+    plain m (rr_frame n t) = receive_below m s
+    plain m (rnr_frame n t) = receive_below m s
+    plain m (rej_frame n t) = receive_below m s
+    plain m (srej_frame n t) = receive_below m s
+    plain m (sabm_frame n t) = tt
+    plain m (sabme_frame n t) = tt
+    plain m (disc_frame n t) = tt
+    plain m (dm_frame n t) = tt
+    plain m (ua_frame n t) = tt
+    plain Short (frmr_frame a n t) = (omega arith, omega arith, o 3)
+    plain Long (frmr_frame a n t) = true≢false a
+    plain m (ui_frame n t) = pid-plain (get_or s 1 0) (o 1)
+    plain m (xid_frame n t) = tt
+    plain m (test_frame n t) = tt
 
 pub content_fits : (m : Mode) (s : List ℕ) (k : FrameContent) → content_of m s ≡ Accepted k → length (front m k) ≤ length s
 content_fits m s k e = (sized m s k e).1

@@ -16,13 +16,12 @@ use Rattle.control.specs.Spell.{flags, sequenced, unnumbered}
 use Rattle.content.specs.Spell.{has_info, front, spell_content}
 use Rattle.control.specs.declared.Mode.{Mode}
 use Rattle.control.specs.declared.Mode.TheVariants.{Short, Long}
-use Rattle.content.specs.declared.FrameReject.{FrameReject}
 use Rattle.content.specs.declared.FrameContent.{FrameContent}
 use Rattle.content.specs.declared.FrameContent.TheVariants as kind
 use Rattle.parse.specs.Content.{frmr_fields_of, response_of, frmr_of, s_kind_of, s_of, u_of, content_of}
 use Rattle.parse.specs.declared.ContentAnswer.TheVariants.{Accepted}
 use Rattle.parse.proofs.Read.{Reads, accepted}
-use Rattle.parse.proofs.Read.Reads.{i-frame, rr-frame, rnr-frame, rej-frame, srej-frame, sabm-frame, sabme-frame, disc-frame, dm-frame, ua-frame, frmr-frame, ui-frame, xid-frame, test-frame}
+use Rattle.parse.proofs.Read.Reads.{i_frame, rr_frame, rnr_frame, rej_frame, srej_frame, sabm_frame, sabme_frame, disc_frame, dm_frame, ua_frame, frmr_frame, ui_frame, xid_frame, test_frame}
 use Rattle.content_as_written.specs.AsWritten.{info_of}
 use Rattle.content_as_written.specs.Unseen.{unseen_s, unseen, has_unseen}
 use Rattle.content_as_written.proofs.Back.{same_kind, z-back, y-back, x-back, w-back}
@@ -95,25 +94,25 @@ module _ (m : Mode) (s : List ℕ) (o : Octets s) where
   kept : {k : FrameContent} → Reads m s k → (i j : ℕ) → i < length (front m k) → j < 8 → unseen m k i j ≡ false
       → bit j (get_or (front m k) i 0) ≡ bit j (get_or s i 0)
   unfolding unseen
-  kept (i-frame n t) i j l h u = info_kept (i-frame n t) refl i j l
-  kept (rr-frame n t) i j l h u = s_kept m s o rr t i j l h u
-  kept (rnr-frame n t) i j l h u = s_kept m s o rnr t i j l h u
-  kept (rej-frame n t) i j l h u = s_kept m s o rej t i j l h u
-  kept (srej-frame n t) i j l h u = s_kept m s o srej t i j l h u
-  kept (sabm-frame n t) i j l h u = u_kept _ t i j l
-  kept (sabme-frame n t) i j l h u = u_kept _ t i j l
-  kept (disc-frame n t) i j l h u = u_kept _ t i j l
-  kept (dm-frame n t) i j l h u = u_kept _ t i j l
-  kept (ua-frame n t) i j l h u = u_kept _ t i j l
-  kept (frmr-frame a n t) zero j l h u = ap (bit j) (rw t at (unnumbered-again (get_or s 0 0) (o 0)))
-  kept (frmr-frame a n t) (suc zero) j l h u = flag_bits j (omega (arith, leb-false _ j (neither _ _ u).0))
-  kept (frmr-frame a n t) (suc (suc zero)) j l h u =
+  kept (i_frame n t) i j l h u = info_kept (i_frame n t) refl i j l
+  kept (rr_frame n t) i j l h u = s_kept m s o rr t i j l h u
+  kept (rnr_frame n t) i j l h u = s_kept m s o rnr t i j l h u
+  kept (rej_frame n t) i j l h u = s_kept m s o rej t i j l h u
+  kept (srej_frame n t) i j l h u = s_kept m s o srej t i j l h u
+  kept (sabm_frame n t) i j l h u = u_kept _ t i j l
+  kept (sabme_frame n t) i j l h u = u_kept _ t i j l
+  kept (disc_frame n t) i j l h u = u_kept _ t i j l
+  kept (dm_frame n t) i j l h u = u_kept _ t i j l
+  kept (ua_frame n t) i j l h u = u_kept _ t i j l
+  kept (frmr_frame a n t) zero j l h u = ap (bit j) (rw t at (unnumbered-again (get_or s 0 0) (o 0)))
+  kept (frmr_frame a n t) (suc zero) j l h u = flag_bits j (omega (arith, leb-false _ j (neither _ _ u).0))
+  kept (frmr_frame a n t) (suc (suc zero)) j l h u =
       ap (bit j) (copy_even (get_or s 2 0) (o 2)) ∙ even_bits (get_or s 2 0) j (omega (arith, eqb-false j _ u)) h
-  kept (frmr-frame a n t) (suc (suc (suc zero))) j l h u = refl
-  kept (frmr-frame a n t) (suc (suc (suc (suc i)))) j l h u = absurd (omega arith)
-  kept (ui-frame n t) i j l h u = info_kept (ui-frame n t) refl i j l
-  kept (xid-frame n t) i j l h u = info_kept (xid-frame n t) refl i j l
-  kept (test-frame n t) i j l h u = info_kept (test-frame n t) refl i j l
+  kept (frmr_frame a n t) (suc (suc (suc zero))) j l h u = refl
+  kept (frmr_frame a n t) (suc (suc (suc (suc i)))) j l h u = absurd (omega arith)
+  kept (ui_frame n t) i j l h u = info_kept (ui_frame n t) refl i j l
+  kept (xid_frame n t) i j l h u = info_kept (xid_frame n t) refl i j l
+  kept (test_frame n t) i j l h u = info_kept (test_frame n t) refl i j l
 
 -- FRMR by its length and control octet, and S of the long mode by its first
 frmr_read : (s : List ℕ) → length s ≡ 4 → u_kind (get_or s 0 0) ≡ frmr → content_of Short s ≡ Accepted (kind.FrameReject (frmr_fields_of s))
@@ -189,21 +188,21 @@ module _ (s t : List ℕ) (o : Octets s) (p : Octets t) (n : length t ≡ length
 
   same_read : (m : Mode) {k : FrameContent} → Reads m s k → content_of m s ≡ Accepted k → Same m k → content_of m t ≡ Accepted k
   unfolding unseen
-  same_read m (i-frame l c) e f = plainly m (λ i j. refl) e f
-  same_read m (rr-frame l c) e f = s-same m (λ i j. refl) l (omega (arith, c)) e f
-  same_read m (rnr-frame l c) e f = s-same m (λ i j. refl) l (omega (arith, c)) e f
-  same_read m (rej-frame l c) e f = s-same m (λ i j. refl) l (omega (arith, c)) e f
-  same_read m (srej-frame l c) e f = s-same m (λ i j. refl) l (omega (arith, c)) e f
-  same_read m (sabm-frame l c) e f = plainly m (λ i j. refl) e f
-  same_read m (sabme-frame l c) e f = plainly m (λ i j. refl) e f
-  same_read m (disc-frame l c) e f = plainly m (λ i j. refl) e f
-  same_read m (dm-frame l c) e f = plainly m (λ i j. refl) e f
-  same_read m (ua-frame l c) e f = plainly m (λ i j. refl) e f
-  same_read Short (frmr-frame a l c) e f = frmr_read t (n ∙ l) (ap u_kind (control-same f) ∙ c) ∙ rw (frmr_fields f) refl
-  same_read Long (frmr-frame a l c) e f = absurd (true≢false a)
-  same_read m (ui-frame l c) e f = plainly m (λ i j. refl) e f
-  same_read m (xid-frame l c) e f = plainly m (λ i j. refl) e f
-  same_read m (test-frame l c) e f = plainly m (λ i j. refl) e f
+  same_read m (i_frame l c) e f = plainly m (λ i j. refl) e f
+  same_read m (rr_frame l c) e f = s-same m (λ i j. refl) l (omega (arith, c)) e f
+  same_read m (rnr_frame l c) e f = s-same m (λ i j. refl) l (omega (arith, c)) e f
+  same_read m (rej_frame l c) e f = s-same m (λ i j. refl) l (omega (arith, c)) e f
+  same_read m (srej_frame l c) e f = s-same m (λ i j. refl) l (omega (arith, c)) e f
+  same_read m (sabm_frame l c) e f = plainly m (λ i j. refl) e f
+  same_read m (sabme_frame l c) e f = plainly m (λ i j. refl) e f
+  same_read m (disc_frame l c) e f = plainly m (λ i j. refl) e f
+  same_read m (dm_frame l c) e f = plainly m (λ i j. refl) e f
+  same_read m (ua_frame l c) e f = plainly m (λ i j. refl) e f
+  same_read Short (frmr_frame a l c) e f = frmr_read t (n ∙ l) (ap u_kind (control-same f) ∙ c) ∙ rw (frmr_fields f) refl
+  same_read Long (frmr_frame a l c) e f = absurd (true≢false a)
+  same_read m (ui_frame l c) e f = plainly m (λ i j. refl) e f
+  same_read m (xid_frame l c) e f = plainly m (λ i j. refl) e f
+  same_read m (test_frame l c) e f = plainly m (λ i j. refl) e f
 
   pub unseen_read : (m : Mode) (k : FrameContent) → content_of m s ≡ Accepted k → Same m k → content_of m t ≡ Accepted k
   unseen_read m k e f = same_read m (accepted m s k e) e f

@@ -3,7 +3,6 @@ use mathlib.Core.Path.{◌≡◌, sym}
 use lib.ListN.{get_or}
 use Rattle.parse.specs.Numbers.{is_i, is_s}
 use Rattle.content_as_written.specs.AsWritten.{has_tail}
-use borrow.Author.Rules.{rules}
 use Rattle.content_as_written.proofs.has_tail.Goals as goal
 use Rattle.content_as_written.proofs.has_tail.Goals.{After-is_i, After-is_s}
 

@@ -16,7 +16,7 @@ s-test c = rw (← c.octet-control.ensures) (sym c.is_s.ensures)
 
 -- the control octet without its P/F bit
 masked : (c : After-octet-control) → bit_and c.octet-control.result 0xEF ≡ u_kind (get_or c.args.bytes.now 0 0)
-masked c = rw c.octet-control.ensures (u_mask _ (c.shared_slice_known-1.given 0).fits)
+masked c = rw c.octet-control.ensures (u_mask _ (search rules))
 
 pub returns-then-is_s : goal.returns-then-is_s
 unfolding is_tidy

@@ -1,7 +1,6 @@
 -- Past the end there is the default.
 use mathlib.Core.Path.{sym}
 use lib.ListN.{get_or-eq_default}
-use borrow.Author.Rules.{rules}
 use Rattle.content_as_written.proofs.octet.Goals as goal
 
 pub returns-else-at-bytes : goal.returns-else-at-bytes

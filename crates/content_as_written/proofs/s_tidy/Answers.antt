@@ -6,7 +6,6 @@ use borrow.Author.Tests.{eq-eqb, lt-ltb, ltb-true, eqb-true}
 use lib.Dec.{eqb, ltb}
 use Rattle.octets.specs.Octet.{field}
 use Rattle.octets.proofs.Choice.{equal}
-use borrow.Author.Rules.{rules}
 use Rattle.content_as_written.proofs.s_tidy.Goals as goal
 
 below : (b : ℕ) → b < 256 → ltb b 16 ≡ eqb (field 4 4 b) 0

@@ -1,9 +1,8 @@
 -- By the octet without its P/F bit.
-use Prim.Native.Nat.{ℕ}
 use mathlib.Core.Path.{refl, sym, ◌∙◌}
 use borrow.Author.Tests.{ne_eqb}
-use Rattle.control.specs.Control.{u_kind}
 use Rattle.control.proofs.Masks.{u_mask}
+use borrow.Author.Rules.{rules}
 use Rattle.content_as_written.proofs.u_has_tail.Goals as goal
 
 pub returns-in-3 : goal.returns-in-3
@@ -19,14 +18,4 @@ pub returns-in-135 : goal.returns-in-135
 returns-in-135 c = rw (sym (u_mask c.args.control c.ranges.control.fits) ∙ c.in-135.is) refl
 
 pub returns-in_default : goal.returns-in_default
-returns-in_default c =
-    let n : ℕ = c.args.control in
-    let m = u_mask n c.ranges.control.fits in
-    let rest = c.in_default.rest in
-    rw (
-      ne_eqb (u_kind n) 0x03 (λ e. rest.0.0.0.1 (m ∙ e)),
-      ne_eqb (u_kind n) 0xAF (λ e. rest.0.0.1 (m ∙ e)),
-      ne_eqb (u_kind n) 0xE3 (λ e. rest.0.1 (m ∙ e)),
-      ne_eqb (u_kind n) 0x87 (λ e. rest.1 (m ∙ e)),
-    )
-    refl
+returns-in_default c = search (rules, ne_eqb, sym (u_mask c.args.control c.ranges.control.fits))
