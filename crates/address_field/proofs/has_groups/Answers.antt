@@ -1,6 +1,5 @@
 -- The tests in the definition's order.
 use borrow.Author.Tests.{le-leb, lt-leb}
-use borrow.Author.Rules.{rules}
 use Rattle.address_field.proofs.has_groups.Goals as goal
 
 pub returns-then-count-gt8 : goal.returns-then-count-gt8

@@ -2,7 +2,6 @@
 use mathlib.Core.Path.{refl, ◌∙◌}
 use Rattle.octets.proofs.Place.{seven_at}
 use Rattle.decode.specs.Read.{parsed_at}
-use borrow.Author.Rules.{rules}
 use Rattle.address_field.proofs.parse_group.Goals as goal
 
 pub returns : goal.returns

@@ -1,6 +1,5 @@
 -- The groups at 0, 7 and 14.
 use Rattle.decode.specs.Read.{frame_at}
-use borrow.Author.Rules.{rules}
 use Rattle.address_field.proofs.parse_groups.Goals as goal
 
 pub returns : goal.returns
