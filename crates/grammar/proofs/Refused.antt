@@ -1,6 +1,6 @@
 -- A refused decode is its answer with the default frame and no info; nothing decodes to `UnknownContent`; a refused write writes
 -- nothing, and an accepted one what the frame spells.
-use Prim.Native.Nat.{ℕ, ◌+◌, ◌-◌, ◌≤◌}
+use Prim.Native.Nat.{ℕ, ◌+◌, ◌≤◌}
 use mathlib.Core.Path.{◌≡◌, refl, ap, sym, ◌∙◌}
 use mathlib.Core.Bool.{false}
 use mathlib.Core.List.{List, []}
