@@ -12,7 +12,6 @@ use Rattle.decode.proofs.Whole.{refusal_by_lem, refused-content}
 use Rattle.decode.proofs.Read.{told-content}
 use Rattle.address_field.specs.Field.{framed}
 use Rattle.address_field.proofs.Laws.{framed_at}
-use borrow.Author.Rules.{rules}
 use Rattle.reading.proofs.decode_content.Goals as goal
 use Rattle.reading.proofs.decode_content.Goals.{After-parse_content-answer, After-parse_frame-frame}
 
@@ -24,7 +23,7 @@ answered c = simp (c.parse_content-answer.ensures, part_from)
 pub returns-in_default : goal.returns-in_default
 returns-in_default c =
     simp (c.refused.ensures, c.refusal.ensures, c.number.ensures, refusal_by_lem, answered (goal.at.returns-in_default c).After-parse_content-answer)
-    (refused-content _ _ _ _ _ c.parse_content-answer.result (told-content c.parse_content-answer.result c.in_default.keys2))
+    (refused-content _ _ _ _ _ c.parse_content-answer.result (told-content c.parse_content-answer.result c.in_default.not-Accepted))
 
 -- the octets hold the groups
 held : (c : After-parse_frame-frame) (k : FrameContent) →

@@ -1,7 +1,6 @@
 -- Going on from the input's own outline is decoding.
 use mathlib.Core.Path.{◌∙◌}
 use Rattle.decode.proofs.Whole.{by_outline}
-use borrow.Author.Rules.{rules}
 use Rattle.reading.proofs.from_bytes.Goals as goal
 
 pub returns : goal.returns

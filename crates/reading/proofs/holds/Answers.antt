@@ -1,7 +1,6 @@
 -- The tests in the definition's order.
 use native.Mathlib.Omega.{arith}
 use borrow.Author.Tests.{lt-ltb, le-ltb}
-use borrow.Author.Rules.{rules}
 use Rattle.reading.proofs.holds.Goals as goal
 
 pub returns-then-len-end : goal.returns-then-len-end

@@ -1,6 +1,5 @@
 -- A refusal carries the default frame and no info.
 use Rattle.decode.specs.Read.{refused_with}
-use borrow.Author.Rules.{rules}
 use Rattle.reading.proofs.refused.Goals as goal
 
 pub returns : goal.returns

@@ -1,6 +1,5 @@
 -- A kind that has info has it after the octets before it.
 use Rattle.decode.specs.Read.{accepted_with}
-use borrow.Author.Rules.{rules}
 use Rattle.reading.proofs.with_info.Goals as goal
 
 pub returns : goal.returns

@@ -1,7 +1,6 @@
 -- By whether the kind has info.
 use mathlib.Core.Path.{sym, ◌∙◌}
 use Rattle.decode.specs.Read.{accepted_with}
-use borrow.Author.Rules.{rules}
 use Rattle.reading.proofs.without_pid.Goals as goal
 
 pub returns : goal.returns
