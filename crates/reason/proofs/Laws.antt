@@ -2,9 +2,7 @@
 use Prim.Native.Nat.{ℕ, ◌+◌, ◌%◌, ◌<◌}
 use mathlib.Core.Path.{◌≡◌, refl, ◌∙◌}
 use mathlib.Core.Bool.{Bool, true, false, cond, not, ◌&&◌}
-use mathlib.Core.List.{List, [], ◌∷◌}
-use types.Run.{OneOf, miss}
-use denote.Enum.Declared.{tag_of}
+use mathlib.Core.List.{List}
 use native.Mathlib.Omega.{arith}
 use borrow.Author.Tests.{eqb-true}
 use lib.Dec.{eqb}
@@ -17,7 +15,6 @@ use Rattle.decode.specs.Answer.{number_of, is_accepted}
 use Rattle.decode.specs.Read.{end_of, command_of, decode}
 use Rattle.decode.proofs.Read.{zero-accepted}
 use Rattle.reason.specs.Reason.{code_of, is_none, first_of, accepted_reason, reason_of, place_of, why_of}
-use Rattle.reason.specs.contracts.Reason.{the_type}
 use Rattle.reason.specs.declared.Reason.{Reason}
 use Rattle.reason.specs.declared.Reason.TheVariants.{None, Leftover, Marks, Tail, Fixed, Refused}
 
@@ -67,8 +64,8 @@ accepted_why m s e =
     (rw e (first_below _ _ _ _), zero, rw zero refl)
 
 -- what a match on the reason tells where it is not the first case
-pub told_some : (r : Reason) → OneOf (1 ∷ 2 ∷ 3 ∷ 4 ∷ 5 ∷ []) (tag_of the_type r) → is_none r ≡ false
-told_some None h = absurd (miss (1 ∷ 2 ∷ 3 ∷ 4 ∷ 5 ∷ []) 0 tt h)
+pub told_some : (r : Reason) → (r ≡ None → ⊥) → is_none r ≡ false
+told_some None h = absurd (h refl)
 told_some Leftover h = refl
 told_some Marks h = refl
 told_some Tail h = refl

@@ -2,7 +2,6 @@
 use mathlib.Core.Path.{◌∙◌}
 use Rattle.octets.proofs.Splice.{part_from}
 use Rattle.reason.specs.Reason.{accepted_reason}
-use borrow.Author.Rules.{rules}
 use Rattle.reason.proofs.accepted_reason.Goals as goal
 
 pub returns : goal.returns

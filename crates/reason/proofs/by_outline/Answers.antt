@@ -8,7 +8,6 @@ use Rattle.decode.specs.declared.Outline.{Outline}
 use Rattle.decode.proofs.Read.{told-refused}
 use Rattle.decode.proofs.Accepts.{accepts}
 use Rattle.reason.specs.Reason.{reason_of}
-use borrow.Author.Rules.{rules}
 use Rattle.reason.proofs.by_outline.Goals as goal
 use Rattle.reason.proofs.by_outline.Goals.{In-Accepted}
 
@@ -23,7 +22,7 @@ unfolding reason_of
 returns-in_default c =
     let a = c.args in
     let refused : is_accepted (decode a.mode a.bytes.now).answer ≡ false =
-    rw (← ap (λ (o : Outline). o.answer) c.requires) (told-refused a.outline.answer c.in_default.keys2) in
+    rw (← ap (λ (o : Outline). o.answer) c.requires) (told-refused a.outline.answer c.in_default.not-Accepted) in
     rw refused refl
 
 pub accepted_reason-requires : goal.accepted_reason-requires

@@ -1,6 +1,5 @@
 -- Both as they are of the input.
 use mathlib.Core.Path.{refl}
-use borrow.Author.Rules.{rules}
 use Rattle.reason.proofs.judge.Goals as goal
 
 pub returns : goal.returns

@@ -10,7 +10,6 @@ use lib.Dec.{eqb}
 use Rattle.octets.proofs.Choice.{by}
 use Rattle.decode.proofs.Read.{end-masked}
 use Rattle.reason.specs.Reason.{place_of}
-use borrow.Author.Rules.{rules}
 use Rattle.reason.proofs.place_of.Goals as goal
 
 -- the places by what the code asks of the number
@@ -41,7 +40,10 @@ three-four n l h =
 pub returns-then-number-lt3 : goal.returns-then-number-lt3
 returns-then-number-lt3 c =
     let a = c.args in
-    ⊎_elim (λ w. sym (below-three a.number a.bytes.now w.taken)) (λ w. sym (at-ten a.number a.bytes.now w.1.taken)) c.then-number-lt3.branch
+    ⊎_elim
+    (λ (h : a.number < 3). sym (below-three a.number a.bytes.now h))
+    (λ w. sym (at-ten a.number a.bytes.now (eq-eqb a.number 10 w.1)))
+    c.then-number-lt3.either
 
 pub returns-then-number-eq9 : goal.returns-then-number-eq9
 returns-then-number-eq9 c = let a = c.args in sym (at-nine a.number a.bytes.now c.if-number-eq9.true)
@@ -51,7 +53,7 @@ unfolding place_of
 returns-then-number-lt5 c =
     let a = c.args in
     rw (
-      from-three a.number c.if-number-lt3.false c.if-number-eq10.false,
+      from-three a.number c.if-number-lt3.false (ne_eqb a.number 10 c.if-number-eq10.false),
       three-four a.number c.if-number-lt3.false c.if-number-lt5.true,
     )
     (c.find-end.ensures.value ∙ end-masked a.bytes.now)
@@ -61,7 +63,7 @@ unfolding place_of
 returns c =
     let a = c.args in
     simp (
-      from-three a.number c.if-number-lt3.false c.if-number-eq10.false,
+      from-three a.number c.if-number-lt3.false (ne_eqb a.number 10 c.if-number-eq10.false),
       ne_eqb a.number 3 (λ e. omega (arith, e, c.if-number-lt5.false)),
       ne_eqb a.number 4 (λ e. omega (arith, e, c.if-number-lt5.false)),
       ne_eqb a.number 9 c.if-number-eq9.false,

@@ -4,7 +4,6 @@ use Rattle.decode.specs.Answer.{number_of}
 use Rattle.decode.specs.Read.{decode}
 use Rattle.decode.specs.declared.Outline.{Outline}
 use Rattle.reason.specs.Reason.{why_of}
-use borrow.Author.Rules.{rules}
 use Rattle.reason.proofs.why_of.Goals as goal
 use Rattle.reason.proofs.why_of.Goals.{After-number-number}
 
