@@ -1,5 +1,4 @@
 -- Eight octets.
-use borrow.Author.Rules.{rules}
 use Rattle.flat.specs.Given.{address_at}
 use Rattle.flat.proofs.given.address_at.Goals as goal
 

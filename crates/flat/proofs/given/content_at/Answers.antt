@@ -1,5 +1,4 @@
 -- The parts are what their own functions ensure.
-use borrow.Author.Rules.{rules}
 use Rattle.flat.specs.Given.{content_at}
 use Rattle.flat.proofs.given.content_at.Goals as goal
 

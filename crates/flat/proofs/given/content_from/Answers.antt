@@ -1,5 +1,4 @@
 -- By the content at 0.
-use borrow.Author.Rules.{rules}
 use Rattle.flat.proofs.given.content_from.Goals as goal
 
 pub returns : goal.returns

@@ -1,6 +1,7 @@
 -- Kind by kind; past the last there is `UnknownContent`.
 use Prim.Native.Nat.{ℕ}
 use mathlib.Core.Path.{ap, sym}
+use borrow.Author.Rules.{rules}
 use Rattle.flat.specs.Given.{content_with}
 use Rattle.flat.proofs.Past.{content-past}
 use Rattle.flat.proofs.given.content_with.Goals as goal
@@ -62,4 +63,4 @@ unfolding content_with
 returns-in-13 c = ap (λ (k : ℕ). content_with k c.args.pid c.args.fields) (sym c.in-13.is)
 
 pub returns-in_default : goal.returns-in_default
-returns-in_default c = sym (content-past _ _ _ c.in_default.rest)
+returns-in_default c = sym (content-past _ _ _ (search rules))

@@ -1,5 +1,4 @@
 -- The address, then the octet after it.
-use borrow.Author.Rules.{rules}
 use Rattle.flat.specs.Given.{entry_at}
 use Rattle.flat.proofs.given.entry_at.Goals as goal
 

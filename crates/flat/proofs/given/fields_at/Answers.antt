@@ -1,5 +1,4 @@
 -- Field by field.
-use borrow.Author.Rules.{rules}
 use Rattle.flat.specs.Given.{fields_at}
 use Rattle.flat.proofs.given.fields_at.Goals as goal
 

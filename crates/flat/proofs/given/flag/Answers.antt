@@ -1,6 +1,5 @@
 -- By the octet.
 use mathlib.Core.Path.{refl}
-use borrow.Author.Rules.{rules}
 use Rattle.flat.proofs.given.flag.Goals as goal
 
 pub returns : goal.returns

@@ -1,5 +1,4 @@
 -- The parts are what their own functions ensure.
-use borrow.Author.Rules.{rules}
 use Rattle.flat.specs.Given.{frame_from}
 use Rattle.flat.proofs.given.frame_from.Goals as goal
 

@@ -1,6 +1,5 @@
 -- Past the end there is 0.
 use mathlib.Core.Path.{sym}
-use borrow.Author.Rules.{rules}
 use lib.ListN.{get_or-eq_default}
 use Rattle.flat.proofs.given.octet.Goals as goal
 

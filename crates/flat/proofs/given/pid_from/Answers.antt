@@ -1,6 +1,7 @@
 -- Case by case; past the last there is `Unknown`.
 use Prim.Native.Nat.{ℕ}
 use mathlib.Core.Path.{ap, sym}
+use borrow.Author.Rules.{rules}
 use Rattle.flat.specs.Given.{pid_from}
 use Rattle.flat.proofs.Past.{pid-past}
 use Rattle.flat.proofs.given.pid_from.Goals as goal
@@ -66,4 +67,4 @@ unfolding pid_from
 returns-in-14 c = ap (λ (k : ℕ). pid_from k c.args.octet) (sym c.in-14.is)
 
 pub returns-in_default : goal.returns-in_default
-returns-in_default c = sym (pid-past _ _ c.in_default.rest)
+returns-in_default c = sym (pid-past _ _ (search rules))

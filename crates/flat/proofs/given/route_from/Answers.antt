@@ -1,5 +1,4 @@
 -- Eight entries.
-use borrow.Author.Rules.{rules}
 use Rattle.flat.specs.Given.{route_from}
 use Rattle.flat.proofs.given.route_from.Goals as goal
 

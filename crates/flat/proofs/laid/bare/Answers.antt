@@ -1,6 +1,5 @@
 -- The cast of the flag is its octet.
 use mathlib.Core.Path.{refl}
-use borrow.Author.Rules.{rules}
 use Rattle.flat.proofs.Parts.{flag_byte}
 use Rattle.flat.proofs.laid.bare.Goals as goal
 

@@ -1,6 +1,5 @@
 -- Each kind by one of the three shapes.
 use mathlib.Core.Path.{refl, ◌∙◌}
-use borrow.Author.Rules.{rules}
 use Rattle.flat.proofs.laid.content_octets.Goals as goal
 
 pub returns-in-Information : goal.returns-in-Information

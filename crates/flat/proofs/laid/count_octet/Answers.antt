@@ -1,6 +1,5 @@
 -- By the one test.
 use borrow.Author.Tests.{lt-ltb, le-ltb}
-use borrow.Author.Rules.{rules}
 use Rattle.flat.specs.Laid.{count_flat}
 use Rattle.flat.proofs.laid.count_octet.Goals as goal
 

@@ -1,6 +1,5 @@
 -- The twelve octets are the content's.
 use mathlib.Core.Path.{refl, ◌∙◌}
-use borrow.Author.Rules.{rules}
 use Rattle.flat.proofs.laid.put_content.Goals as goal
 
 pub returns : goal.returns

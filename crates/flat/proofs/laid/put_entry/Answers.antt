@@ -1,6 +1,5 @@
 -- The nine octets are the address and its mark.
 use mathlib.Core.Path.{refl, ◌∙◌}
-use borrow.Author.Rules.{rules}
 use Rattle.flat.proofs.Parts.{flag_byte}
 use Rattle.flat.proofs.laid.put_entry.Goals as goal
 

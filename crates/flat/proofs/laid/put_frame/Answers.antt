@@ -1,6 +1,5 @@
 -- The parts are written one after the other, and together they are the flat frame.
 use mathlib.Core.Path.{sym, ◌∙◌}
-use borrow.Author.Rules.{rules}
 use Rattle.flat.proofs.Parts.{flat-put, flat_out}
 use Rattle.flat.proofs.laid.put_frame.Goals as goal
 

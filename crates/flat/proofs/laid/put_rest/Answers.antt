@@ -1,6 +1,5 @@
 -- Two octets, then the content after them.
 use mathlib.Core.Path.{◌∙◌}
-use borrow.Author.Rules.{rules}
 use Rattle.flat.proofs.Parts.{rest_put}
 use Rattle.flat.proofs.laid.put_rest.Goals as goal
 

@@ -1,8 +1,6 @@
-use Prim.Native.Nat.{◌-◌, ◌≤◌}
 use mathlib.Core.Path.{◌≡◌, sym, ◌∙◌}
 use native.Mathlib.Omega.{arith}
 use borrow.Author.Rules.{rules}
-use Rattle.octets.specs.Splice.{splice}
 use Rattle.octets.proofs.Splice.{splice_none, splice-length}
 use Rattle.flat.specs.Laid.{route_flat}
 use Rattle.flat.proofs.Parts.{route-more}

@@ -1,12 +1,8 @@
 -- So far the first i places are written.
 use Prim.Native.Nat.{◌-◌, ◌≤◌}
-use mathlib.Core.Path.{◌≡◌, sym, ◌∙◌}
-use native.Mathlib.Omega.{arith}
-use borrow.Author.Rules.{rules}
+use mathlib.Core.Path.{◌≡◌}
 use Rattle.octets.specs.Splice.{splice}
-use Rattle.octets.proofs.Splice.{splice_none, splice-length}
 use Rattle.flat.specs.Laid.{route_flat}
-use Rattle.flat.proofs.Parts.{route-more}
 use Rattle.flat.proofs.laid.put_route.Given as goal
 
 abbrev pub invariant-loop-i : goal.invariant-loop-i

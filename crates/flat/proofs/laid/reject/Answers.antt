@@ -1,5 +1,4 @@
 -- The casts of the flags are their octets.
-use borrow.Author.Rules.{rules}
 use Rattle.flat.proofs.Parts.{flag_byte}
 use Rattle.flat.proofs.laid.reject.Goals as goal
 

@@ -1,6 +1,5 @@
 -- The two octets of the PID are what their own functions ensure.
 use mathlib.Core.Path.{refl}
-use borrow.Author.Rules.{rules}
 use Rattle.flat.proofs.Parts.{flag_byte}
 use Rattle.flat.proofs.laid.with_pid.Goals as goal
 
