@@ -2,7 +2,6 @@
 use mathlib.Core.Path.{◌≡◌, refl, sym, ◌∙◌}
 use Rattle.link_frame.specs.Frame.{asked_by, other}
 use Rattle.link_frame.proofs.Laws.{unasked, asked}
-use borrow.Author.Rules.{rules}
 use Rattle.link_frame.proofs.acknowledged.Goals as goal
 use Rattle.link_frame.proofs.acknowledged.Goals.{After-asked_by}
 

@@ -1,7 +1,6 @@
 -- Each event by its own function.
 use mathlib.Core.Path.{sym, ◌∙◌}
 use Rattle.link_frame.proofs.Laws.{heard_as_lem}
-use borrow.Author.Rules.{rules}
 use Rattle.link_frame.proofs.hear.Goals as goal
 
 pub returns-in-Nothing : goal.returns-in-Nothing

@@ -1,6 +1,5 @@
 -- The memory of that side.
 use mathlib.Core.Path.{refl}
-use borrow.Author.Rules.{rules}
 use Rattle.link_frame.proofs.moved_from.Goals as goal
 
 pub returns-in-A : goal.returns-in-A

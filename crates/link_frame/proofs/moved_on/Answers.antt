@@ -2,7 +2,6 @@
 use Prim.Native.Nat.{ℕ, ◌+◌, ◌%◌}
 use mathlib.Core.Path.{◌≡◌, refl, ◌∙◌}
 use native.Mathlib.Omega.{arith}
-use borrow.Author.Rules.{rules}
 use Rattle.link_frame.proofs.moved_on.Goals as goal
 
 next : (e : ℕ) → (e % 8 + 1) % 8 ≡ (e + 1) % 8

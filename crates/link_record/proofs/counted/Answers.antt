@@ -1,7 +1,6 @@
 -- Four counts of 32 bits have a sum of 34.
 use mathlib.Core.Path.{refl}
 use Rattle.link_record.specs.Record.{counted}
-use borrow.Author.Rules.{rules}
 use Rattle.link_record.proofs.counted.Goals as goal
 
 pub returns : goal.returns

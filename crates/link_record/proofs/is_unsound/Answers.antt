@@ -3,7 +3,6 @@ use Prim.Native.Nat.{◌≤◌, ◌<◌}
 use mathlib.Core.Path.{sym}
 use Rattle.link_record.specs.Record.{counted}
 use Rattle.link_record.proofs.Laws.{over-offered, over_from_a, from_b}
-use borrow.Author.Rules.{rules}
 use Rattle.link_record.proofs.is_unsound.Goals as goal
 use Rattle.link_record.proofs.is_unsound.Goals.{Else-sum-wide}
 

@@ -1,18 +1,16 @@
 -- Each refusal by its own test, in the order of the tests.
 use mathlib.Core.Path.{◌≡◌, sym, ◌∙◌}
 use mathlib.Core.Bool.{true}
-use borrow.Author.Tests.{not-true, not-false}
 use Rattle.link_record.specs.Record.{stations_encodable}
 use Rattle.link_record.proofs.Laws.{refused_station, refused_equal, refused-unsound, refused_full, takes_one}
-use borrow.Author.Rules.{rules}
 use Rattle.link_record.proofs.refusal.Goals as goal
 use Rattle.link_record.proofs.refusal.Goals.{Else-not-are_encodable}
 
 able : (c : Else-not-are_encodable) → stations_encodable c.args.link ≡ true
-able c = sym c.are_encodable.ensures ∙ not-false _ c.if-not-are_encodable.false
+able c = sym c.are_encodable.ensures ∙ c.if-not-are_encodable.false
 
 pub returns-then-not-are_encodable : goal.returns-then-not-are_encodable
-returns-then-not-are_encodable c = sym (refused_station _ (sym c.are_encodable.ensures ∙ not-true _ c.if-not-are_encodable.true))
+returns-then-not-are_encodable c = sym (refused_station _ (sym c.are_encodable.ensures ∙ c.if-not-are_encodable.true))
 
 pub returns-then-same_station : goal.returns-then-same_station
 returns-then-same_station c = sym (refused_equal _ (able (goal.at.returns-then-same_station c).Else-not-are_encodable) (sym c.same_station.ensures ∙ c.if-same_station.true))
