@@ -200,9 +200,9 @@ step_sound l s h =
     by (takes (refusal l))
     (λ t.
     let c = step_counting l s t in
-    let w = c.within (record { from-a = h.from_a; from-b = h.from_b }) in
+    let w = c.within (record { from_a = h.from_a; from_b = h.from_b }) in
     let few : cond (is_information l.a l.b s) 1 0 ≤ 1 = either (λ (n : ℕ). n ≤ 1) (is_information l.a l.b s) (λ e. omega arith) (λ e. omega arith) in
-    record { counts = omega (arith, c.counts, c.offered, h.counts, few); from-a = w.from_a; from-b = w.from_b })
+    record { counts = omega (arith, c.counts, c.offered, h.counts, few); from_a = w.from_a; from_b = w.from_b })
     (λ t. subst Sound (sym (ap (λ (r : Stepped). r.link) (step-refused l s t))) h)
 
 after_sound : (l : Link) (ss : List (List ℕ)) → Sound l → Sound (after l ss)

@@ -2,10 +2,8 @@
 use Prim.Native.Nat.{ℕ, ◌+◌}
 use mathlib.Core.Path.{◌≡◌, refl, ap, sym, ◌∙◌}
 use mathlib.Core.Bool.{Bool, true, false, true≢false, false≢true, cond, ◌&&◌}
-use mathlib.Core.List.{List, [], ◌∷◌}
+use mathlib.Core.List.{List}
 use native.Mathlib.Omega.{arith}
-use types.Run.{OneOf, miss}
-use denote.Enum.Declared.{tag_of}
 use Rattle.control.specs.declared.Mode.TheVariants.{Short}
 use Rattle.content.specs.declared.FrameContent.{FrameContent}
 use Rattle.frame.specs.declared.Ax25Frame.{Ax25Frame}
@@ -16,7 +14,6 @@ use Rattle.link_record.specs.Record.{counted, refusal}
 use Rattle.link_record.specs.declared.Link.{Link}
 use Rattle.link_record.specs.declared.LinkAnswer.{LinkAnswer}
 use Rattle.link_record.specs.declared.LinkAnswer.TheVariants.{Offered, NotEncodable, EqualStations, Unsound, Full, Refused}
-use Rattle.link_record.specs.contracts.LinkAnswer.{the_type}
 use Rattle.link_record.proofs.Laws.{takes, counted_is}
 use Rattle.link_frame.specs.Frame.{event_of, heard_of}
 use Rattle.link_frame.specs.declared.Event.TheVariants.{Nothing}
@@ -73,8 +70,8 @@ unfolding step_of
 step_by_lem l s a e = rw e refl
 
 -- what a match on the record's refusal tells where there is one
-pub told_taken : (a : LinkAnswer) → OneOf (1 ∷ 2 ∷ 3 ∷ 4 ∷ 5 ∷ []) (tag_of the_type a) → takes a ≡ false
-told_taken Offered h = absurd (miss (1 ∷ 2 ∷ 3 ∷ 4 ∷ 5 ∷ []) 0 tt h)
+pub told_taken : (a : LinkAnswer) → (a ≡ Offered → ⊥) → takes a ≡ false
+told_taken Offered h = absurd (h refl)
 told_taken NotEncodable h = refl
 told_taken EqualStations h = refl
 told_taken Unsound h = refl
@@ -120,7 +117,7 @@ tallied_counting l i r g o more e = record {
   b = refl;
   offered = refl;
   counts = counted_is (tallied l i r g o (l.offered + 1)) ∙ e ∙ ap (λ n. n + more) (sym (counted_is l));
-  within = λ w. record { from-a = w.from_a; from-b = w.from_b };
+  within = λ w. record { from_a = w.from_a; from_b = w.from_b };
 }
 
 -- one count is one more where the verdict is one of the four

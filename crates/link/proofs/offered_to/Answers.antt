@@ -8,7 +8,7 @@ use Rattle.link.proofs.offered_to.Goals as goal
 pub returns-in_default : goal.returns-in_default
 returns-in_default c =
     let d = c.from_bytes-decoded in
-    rw (← d.ensures) (rw c.counted_as.ensures (sym (offered-refused _ d.result (told-refused d.result.answer c.in_default.keys2))))
+    rw (← d.ensures) (rw c.counted_as.ensures (sym (offered-refused _ d.result (told-refused d.result.answer c.in_default.not-Accepted))))
 
 pub returns : goal.returns
 returns c =

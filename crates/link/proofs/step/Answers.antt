@@ -9,7 +9,7 @@ use borrow.Author.Rules.{rules}
 use Rattle.link.proofs.step.Goals as goal
 
 pub returns-in_default : goal.returns-in_default
-returns-in_default c = sym (still _ _ _ (told_taken c.refusal-answer.result c.in_default.keys2)) ∙ step_by_lem _ _ _ c.refusal-answer.ensures
+returns-in_default c = sym (still _ _ _ (told_taken c.refusal-answer.result c.in_default.not-Offered)) ∙ step_by_lem _ _ _ c.refusal-answer.ensures
 
 pub offered_to-requires : goal.offered_to-requires
 offered_to-requires c =
