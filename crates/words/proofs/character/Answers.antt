@@ -1,6 +1,5 @@
 use mathlib.Core.Path.{refl}
 use Rattle.words.specs.Words.{character}
-use borrow.Author.Rules.{rules}
 use Rattle.words.proofs.character.Goals as goal
 
 pub returns-then-is_alphanumeric : goal.returns-then-is_alphanumeric

@@ -1,7 +1,6 @@
 use mathlib.Core.Path.{refl}
 use borrow.Author.Tests.{lt-ltb, le-ltb}
 use Rattle.words.specs.Words.{leading}
-use borrow.Author.Rules.{rules}
 use Rattle.words.proofs.decimal.Goals as goal
 
 pub returns-then-n-lt10 : goal.returns-then-n-lt10

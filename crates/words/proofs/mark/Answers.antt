@@ -1,5 +1,4 @@
 use mathlib.Core.Path.{refl}
-use borrow.Author.Rules.{rules}
 use Rattle.words.proofs.mark.Goals as goal
 
 pub returns-in-Command : goal.returns-in-Command

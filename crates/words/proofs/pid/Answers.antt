@@ -1,5 +1,4 @@
 use mathlib.Core.Path.{refl}
-use borrow.Author.Rules.{rules}
 use Rattle.words.proofs.pid.Goals as goal
 
 pub returns-then-has_pid : goal.returns-then-has_pid

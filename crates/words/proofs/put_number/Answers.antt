@@ -1,16 +1,15 @@
 -- Where all three parts fit, each is put where the one before it ends.
-use Prim.Native.Nat.{◌+◌, ◌≤◌, ◌<◌}
+use Prim.Native.Nat.{ℕ, ◌+◌, ◌≤◌, ◌<◌}
 use mathlib.Core.Path.{◌≡◌, refl, sym, ap, ◌∙◌}
 use mathlib.Core.Bool.{true, false}
 use mathlib.Core.List.{◌++◌}
 use native.Mathlib.Omega.{arith}
-use borrow.Author.Rules.{rules}
 use borrow.Author.Tests.{ltb-true, ltb-false}
-use lib.ListN.{length, take, length-append}
+use lib.ListN.{length, length-append}
 use lib.Seq.{length-take-le}
 use Rattle.octets.proofs.Splice.{splice_out}
 use Rattle.words.specs.declared.Word.{Word}
-use Rattle.words.specs.Words.{decimal, text_in}
+use Rattle.words.specs.Words.{decimal, word_of, text_in}
 use Rattle.words.proofs.Laws.{decimal-short, word_is}
 use Rattle.words.proofs.Put.{behind_in, behind_out, put_three}
 use Rattle.words.proofs.put_number.Goals as goal
@@ -20,8 +19,8 @@ use Rattle.words.proofs.put_number.Goals.{After-decimal-word, After-lack_room}
 shown : (c : After-decimal-word) → let w = c.decimal-word.result in (w.length ≤ 8) × (text_in w ≡ decimal c.args.n)
 shown c = word_is _ _ c.decimal-word.ensures (omega (arith, decimal-short c.args.n))
 
-long : (c : After-decimal-word) → c.decimal-word.result.length ≡ length (decimal c.args.n)
-long c = ap (λ (w : Word). w.length) c.decimal-word.ensures
+long : (w : Word) (n : ℕ) → w ≡ word_of (decimal n) → w.length ≡ length (decimal n)
+long w n e = ap (λ (v : Word). v.length) e
 
 within : (c : After-decimal-word) → c.decimal-word.result.length ≤ length c.decimal-word.result.letters
 within c =
@@ -34,7 +33,7 @@ wanted : (c : After-lack_room) →
     g.at + length (g.key.now ++ (decimal g.n ++ g.end.now)) ≡ g.at + (length g.key.now + (c.decimal-word.result.length + length g.end.now))
 wanted c =
     let g = c.args in
-    omega (arith, length-append g.key.now (decimal g.n ++ g.end.now), length-append (decimal g.n) g.end.now, long c)
+    omega (arith, length-append g.key.now (decimal g.n ++ g.end.now), length-append (decimal g.n) g.end.now, long _ _ c.decimal-word.ensures)
 
 fits : (c : After-lack_room) → c.lack_room.result ≡ false →
     let g = c.args in
@@ -80,6 +79,6 @@ returns c =
     let f = fits (goal.at.returns c).After-lack_room c.if-lack_room.false in
     let put2 = c.put-2 in
     let put = c.put in
-    let n = long (goal.at.returns c).After-decimal-word in
+    let n = long _ _ c.decimal-word.ensures in
     let all = put_three g.out.now g.at g.key.now (decimal g.n) g.end.now f (put.ensures, refl) (rw (shown (goal.at.returns c).After-decimal-word).1 at put2.ensures, refl) (rw n at c.put-3.ensures, refl) in
     record { out_after = all.0; value = rw n all.1 ∙ sym (behind_in _ _ _ f) }

@@ -1,5 +1,4 @@
 use mathlib.Core.Path.{refl}
-use borrow.Author.Rules.{rules}
 use Rattle.words.proofs.reason.Goals as goal
 
 pub returns-in-None : goal.returns-in-None
