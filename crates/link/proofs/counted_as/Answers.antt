@@ -2,7 +2,6 @@
 use mathlib.Core.Path.{refl, ◌∙◌}
 use native.Mathlib.Omega.{arith}
 use Rattle.link_record.proofs.Laws.{counted_is}
-use borrow.Author.Rules.{rules}
 use Rattle.link.proofs.counted_as.Goals as goal
 
 pub overflow_add-in_order : goal.overflow_add-in_order

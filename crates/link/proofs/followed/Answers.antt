@@ -1,7 +1,6 @@
 -- Each sender by its own way.
 use mathlib.Core.Path.{sym, ◌∙◌}
 use Rattle.link.proofs.Laws.{followed_by_lem}
-use borrow.Author.Rules.{rules}
 use Rattle.link.proofs.followed.Goals as goal
 
 pub returns-in-A : goal.returns-in-A

@@ -1,7 +1,6 @@
 -- Hearing keeps the counts, so that one more fits.
 use mathlib.Core.Path.{refl, ◌∙◌}
 use Rattle.link_frame.proofs.Laws.{heard_kept}
-use borrow.Author.Rules.{rules}
 use Rattle.link.proofs.heard_and_counted.Goals as goal
 
 pub counted_as-requires : goal.counted_as-requires

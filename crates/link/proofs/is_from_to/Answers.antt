@@ -1,7 +1,5 @@
 -- Both ends, one after the other.
 use mathlib.Core.Path.{refl, sym, ◌∙◌}
-use borrow.Author.Tests.{not-true, not-false}
-use borrow.Author.Rules.{rules}
 use Rattle.link.proofs.is_from_to.Goals as goal
 
 pub returns-then-not-same_station : goal.returns-then-not-same_station

@@ -2,7 +2,6 @@
 use mathlib.Core.Path.{refl, sym}
 use Rattle.decode.proofs.Read.{told-refused}
 use Rattle.link.proofs.Laws.{offered_frame, offered-refused}
-use borrow.Author.Rules.{rules}
 use Rattle.link.proofs.offered_to.Goals as goal
 
 pub returns-in_default : goal.returns-in_default

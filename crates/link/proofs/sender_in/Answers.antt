@@ -1,7 +1,6 @@
 -- From the one, else from the other, else from neither.
 use mathlib.Core.Path.{sym, ◌∙◌}
 use Rattle.link.proofs.Laws.{sender_a, sender_b, sender_neither}
-use borrow.Author.Rules.{rules}
 use Rattle.link.proofs.sender_in.Goals as goal
 
 pub returns-then-is_from_to : goal.returns-then-is_from_to

@@ -2,7 +2,6 @@
 use mathlib.Core.Path.{refl, sym, ◌∙◌}
 use Rattle.decode.proofs.Read.{told-refused}
 use Rattle.link.proofs.Laws.{sent_by, sent_by_neither}
-use borrow.Author.Rules.{rules}
 use Rattle.link.proofs.sender_of.Goals as goal
 
 pub returns-in_default : goal.returns-in_default

@@ -5,7 +5,6 @@ use native.Mathlib.Omega.{arith}
 use Rattle.link_record.specs.Record.{refusal}
 use Rattle.link_record.proofs.Laws.{takes, taking, sound}
 use Rattle.link.proofs.Laws.{step_by_lem, told_taken, still}
-use borrow.Author.Rules.{rules}
 use Rattle.link.proofs.step.Goals as goal
 
 pub returns-in_default : goal.returns-in_default
