@@ -1,7 +1,6 @@
 -- The octet that stands there, or the space that stands past the end.
 use mathlib.Core.Path.{sym}
 use native.Mathlib.Omega.{arith}
-use borrow.Author.Rules.{rules}
 use lib.ListN.{get_or-eq_default}
 use Rattle.octets.proofs.Place.{get_d_within}
 use Rattle.relay.proofs.character_at.Goals as goal

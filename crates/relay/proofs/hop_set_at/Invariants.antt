@@ -1,13 +1,9 @@
 -- From place i up the set is that of the marks there, lowest first.
-use Prim.Native.Nat.{◌+◌, ◌-◌, ◌*◌, ◌/◌, ◌≤◌, ◌<◌}
-use mathlib.Core.Path.{◌≡◌, sym, ◌∙◌}
-use native.Mathlib.Omega.{arith}
-use borrow.Author.Rules.{rules}
-use lib.ListN.{get_or, drop}
+use Prim.Native.Nat.{◌≤◌}
+use mathlib.Core.Path.{◌≡◌}
+use lib.ListN.{drop}
 use Rattle.decode.specs.Read.{route_at}
 use Rattle.hops.specs.Hops.{marks, set_of}
-use Rattle.hops.proofs.Laws.{set_turn, set_past}
-use Rattle.relay.proofs.Laws.{mark_read}
 use Rattle.relay.proofs.hop_set_at.Given as goal
 
 abbrev pub invariant-loop-i : goal.invariant-loop-i

@@ -2,7 +2,6 @@
 use mathlib.Core.Path.{refl, ◌∙◌}
 use Rattle.octets.proofs.Place.{seven_at}
 use Rattle.grammar.proofs.Marks.{parsed_is}
-use borrow.Author.Rules.{rules}
 use Rattle.relay.proofs.is_ours.Goals as goal
 
 pub returns : goal.returns

@@ -1,7 +1,6 @@
 -- Each refusal by its own test; of an accepted frame the due place decides.
 use mathlib.Core.Path.{◌≡◌, refl, ap, sym, ◌∙◌}
 use mathlib.Core.Bool.{true}
-use borrow.Author.Tests.{not-true, not-false}
 use Rattle.control.specs.declared.Mode.TheVariants.{Short}
 use Rattle.address.specs.Address.{encodable}
 use Rattle.decode.specs.Answer.{is_accepted}
@@ -10,12 +9,11 @@ use Rattle.decode.specs.declared.Outline.{Outline}
 use Rattle.decode.proofs.Read.{told-refused}
 use Rattle.relay.specs.declared.RelayAnswer.TheVariants.{Refused}
 use Rattle.relay.proofs.Laws.{relay_stranger, relay-refused, relay-accepted, relayed_by}
-use borrow.Author.Rules.{rules}
 use Rattle.relay.proofs.relay.Goals as goal
 use Rattle.relay.proofs.relay.Goals.{Else-not-is_encodable, In-Accepted}
 
 able : (c : Else-not-is_encodable) → encodable c.args.own ≡ true
-able c = sym c.is_encodable.ensures ∙ not-false _ c.if-not-is_encodable.false
+able c = sym c.is_encodable.ensures ∙ c.if-not-is_encodable.false
 
 accepted : (c : In-Accepted) → is_accepted (decode Short c.args.bytes.now).answer ≡ true
 accepted c = rw (← ap (λ (o : Outline). o.answer) c.outline_of-outline.ensures) (rw c.in-Accepted.is refl)
@@ -23,7 +21,7 @@ accepted c = rw (← ap (λ (o : Outline). o.answer) c.outline_of-outline.ensure
 pub returns-then-not-is_encodable : goal.returns-then-not-is_encodable
 returns-then-not-is_encodable c =
     let a = c.args in
-    let e = relay_stranger a.own a.bytes.now (sym c.is_encodable.ensures ∙ not-true _ c.if-not-is_encodable.true) in
+    let e = relay_stranger a.own a.bytes.now (sym c.is_encodable.ensures ∙ c.if-not-is_encodable.true) in
     record { value = sym e; bytes_after = sym (relayed_by a.own a.bytes.now _ e) }
 
 pub returns-in_default : goal.returns-in_default
@@ -31,7 +29,7 @@ returns-in_default c =
     let f = c.outline_of-outline in
     let a = c.args in
     let same = ap (λ (o : Outline). o.answer) f.ensures in
-    let e = relay-refused a.own a.bytes.now (able (goal.at.returns-in_default c).Else-not-is_encodable) (rw (← same) (told-refused f.result.answer c.in_default.keys2)) in
+    let e = relay-refused a.own a.bytes.now (able (goal.at.returns-in_default c).Else-not-is_encodable) (rw (← same) (told-refused f.result.answer c.in_default.not-Accepted)) in
     record { value = ap Refused same ∙ sym e; bytes_after = sym (relayed_by a.own a.bytes.now _ e) }
 
 pub relay_due-requires : goal.relay_due-requires

@@ -1,11 +1,11 @@
 -- The octet or-ed with 80 hex is the octet with its mark.
 use mathlib.Core.Path.{refl}
+use native.Mathlib.Omega.{arith}
 use Rattle.relay.proofs.Laws.{or_mark_lem}
 use lib.ListN.{get_or}
-use borrow.Author.Rules.{rules}
 use Rattle.relay.proofs.set_mark.Goals as goal
 
 pub returns : goal.returns
 returns c =
     let a = c.args in
-    rw (or_mark_lem (get_or a.bytes.now a.last 0) (c.slice_known-1.given a.last).fits) refl
+    rw (or_mark_lem (get_or a.bytes.now a.last 0) (omega arith)) refl

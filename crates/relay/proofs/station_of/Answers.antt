@@ -1,6 +1,5 @@
 -- The six characters, each by its place.
 use Rattle.relay.specs.Relay.{station_of}
-use borrow.Author.Rules.{rules}
 use Rattle.relay.proofs.station_of.Goals as goal
 
 pub returns : goal.returns
