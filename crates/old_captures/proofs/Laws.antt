@@ -1,11 +1,9 @@
 -- Old captures are read as they were before leading nulls were refused.
 use Prim.Native.Nat.{ℕ, ◌+◌, ◌-◌, ◌≤◌}
 use mathlib.Core.Path.{◌≡◌, refl, sym, ◌∙◌}
-use mathlib.Core.List.{List, [], ◌∷◌}
+use mathlib.Core.List.{List}
 use native.Mathlib.Omega.{arith}
 use borrow.Author.Tests.{eq-eqb, ne_eqb, eqb-true, eqb-false}
-use types.Run.{OneOf, miss}
-use denote.Enum.Declared.{tag_of}
 use lib.Dec.{eqb}
 use lib.ListN.{length, length-drop, drop}
 use Rattle.octets.specs.Octet.{bit}
@@ -17,7 +15,6 @@ use Rattle.decode.specs.Read.{nonzero, start_of, end_of, decode}
 use Rattle.decode.specs.declared.Decoded.{Decoded}
 use Rattle.decode.specs.declared.DecodeAnswer.{DecodeAnswer}
 use Rattle.decode.specs.declared.DecodeAnswer.TheVariants as read
-use Rattle.decode.specs.contracts.DecodeAnswer.{the_type}
 use Rattle.decode.proofs.Read.{start_le_end}
 use Rattle.grammar.specs.Moved.{moved_answer, moved_info}
 use Rattle.grammar.proofs.Moved.{decode_at_start, ten-past, never_ten, moved-number, refused-drop, field-drop, report_inside}
@@ -98,13 +95,13 @@ info_inside mode s =
     by (is_accepted (decode mode t).answer) (λ e. omega (arith, (inside mode t e).info)) (λ e. omega (arith, (refused_parts mode t e).1))
 
 -- an answer with neither start and end nor a length stays
-pub told_placeless : (k len : ℕ) (a : DecodeAnswer) → OneOf (0 ∷ 1 ∷ 2 ∷ 4 ∷ 5 ∷ 6 ∷ 7 ∷ 8 ∷ 9 ∷ 10 ∷ 11 ∷ []) (tag_of the_type a)
-    → OneOf (0 ∷ 1 ∷ 2 ∷ 3 ∷ 5 ∷ 6 ∷ 7 ∷ 8 ∷ 9 ∷ 10 ∷ 11 ∷ []) (tag_of the_type a) → a ≡ moved_answer k len a
+pub told_placeless : (k len : ℕ) (a : DecodeAnswer) → ((start end : ℕ) → a ≡ read.AddressFieldTooShort start end → ⊥) → ((n : ℕ) → a ≡ read.FrameTooShort n → ⊥)
+    → a ≡ moved_answer k len a
 told_placeless k len read.Accepted h g = refl
 told_placeless k len read.OnlyNullBytes h g = refl
 told_placeless k len read.NoEndToAddressField h g = refl
-told_placeless k len (read.AddressFieldTooShort start end) h g = absurd (miss (0 ∷ 1 ∷ 2 ∷ 4 ∷ 5 ∷ 6 ∷ 7 ∷ 8 ∷ 9 ∷ 10 ∷ 11 ∷ []) 3 tt h)
-told_placeless k len (read.FrameTooShort rest) h g = absurd (miss (0 ∷ 1 ∷ 2 ∷ 3 ∷ 5 ∷ 6 ∷ 7 ∷ 8 ∷ 9 ∷ 10 ∷ 11 ∷ []) 4 tt g)
+told_placeless k len (read.AddressFieldTooShort start end) h g = absurd (h start end refl)
+told_placeless k len (read.FrameTooShort rest) h g = absurd (g rest refl)
 told_placeless k len read.MissingPidField h g = refl
 told_placeless k len read.UnrecognisedUFieldType h g = refl
 told_placeless k len read.WrongSizeFrmrInfo h g = refl

@@ -8,10 +8,10 @@ use Rattle.decode.proofs.Read.{start-masked}
 use Rattle.old_captures.proofs.Laws.{places_inside, old_answer}
 use borrow.Author.Rules.{rules}
 use Rattle.old_captures.proofs.answer_of.Goals as goal
-use Rattle.old_captures.proofs.answer_of.Goals.{After-find-nulls, After-outline_of-outline}
+use Rattle.old_captures.proofs.answer_of.Goals.{After-outline_of-outline}
 
-nulls : (c : After-find-nulls) → c.find-nulls.result ≡ start_of c.args.capture.now
-nulls c = c.find-nulls.ensures.value ∙ start-masked _ (λ k. (c.shared_slice_known-1.given k).fits)
+nulls : (c : After-outline_of-outline) → c.find-nulls.result ≡ start_of c.args.capture.now
+nulls c = c.find-nulls.ensures.value ∙ start-masked _ (λ k. search rules)
 
 answered : (c : After-outline_of-outline) →
     let a = c.args in
@@ -19,7 +19,7 @@ answered : (c : After-outline_of-outline) →
 answered c = ap (λ (o : Outline). o.answer) c.outline_of-outline.ensures ∙ rw (part_from, nulls c) refl
 
 pub moved_answer-requires : goal.moved_answer-requires
-moved_answer-requires c = rw (answered (goal.at.moved_answer-requires c).After-outline_of-outline, nulls (goal.at.moved_answer-requires c).After-find-nulls) (places_inside _ _)
+moved_answer-requires c = rw (answered (goal.at.moved_answer-requires c).After-outline_of-outline, nulls (goal.at.moved_answer-requires c).After-outline_of-outline) (places_inside _ _)
 
 pub returns : goal.returns
-returns c = c.moved_answer.ensures ∙ rw (answered (goal.at.returns c).After-outline_of-outline, nulls (goal.at.returns c).After-find-nulls) (old_answer _ _)
+returns c = c.moved_answer.ensures ∙ rw (answered (goal.at.returns c).After-outline_of-outline, nulls (goal.at.returns c).After-outline_of-outline) (old_answer _ _)

@@ -8,10 +8,10 @@ use Rattle.decode.proofs.Read.{start-masked}
 use Rattle.old_captures.proofs.Laws.{places_inside, info_inside, old-whole}
 use borrow.Author.Rules.{rules}
 use Rattle.old_captures.proofs.from_bytes.Goals as goal
-use Rattle.old_captures.proofs.from_bytes.Goals.{After-find-nulls, After-from_bytes-decoded}
+use Rattle.old_captures.proofs.from_bytes.Goals.{After-from_bytes-decoded}
 
-nulls : (c : After-find-nulls) → c.find-nulls.result ≡ start_of c.args.capture.now
-nulls c = c.find-nulls.ensures.value ∙ start-masked _ (λ k. (c.shared_slice_known-1.given k).fits)
+nulls : (c : After-from_bytes-decoded) → c.find-nulls.result ≡ start_of c.args.capture.now
+nulls c = c.find-nulls.ensures.value ∙ start-masked _ (λ k. search rules)
 
 decoded : (c : After-from_bytes-decoded) →
     let a = c.args in
@@ -19,10 +19,10 @@ decoded : (c : After-from_bytes-decoded) →
 decoded c = c.from_bytes-decoded.ensures ∙ rw (part_from, nulls c) refl
 
 pub moved_answer-moved-requires : goal.moved_answer-moved-requires
-moved_answer-moved-requires c = rw (decoded (goal.at.moved_answer-moved-requires c).After-from_bytes-decoded, nulls (goal.at.moved_answer-moved-requires c).After-find-nulls) (places_inside _ _)
+moved_answer-moved-requires c = rw (decoded (goal.at.moved_answer-moved-requires c).After-from_bytes-decoded, nulls (goal.at.moved_answer-moved-requires c).After-from_bytes-decoded) (places_inside _ _)
 
 pub moved_info-info_start-requires : goal.moved_info-info_start-requires
-moved_info-info_start-requires c = rw (decoded (goal.at.moved_info-info_start-requires c).After-from_bytes-decoded, nulls (goal.at.moved_info-info_start-requires c).After-find-nulls) (omega (arith, info_inside c.args.mode c.args.capture.now))
+moved_info-info_start-requires c = rw (decoded (goal.at.moved_info-info_start-requires c).After-from_bytes-decoded, nulls (goal.at.moved_info-info_start-requires c).After-from_bytes-decoded) (omega (arith, info_inside c.args.mode c.args.capture.now))
 
 pub returns : goal.returns
-returns c = rw (c.moved_answer-moved.ensures, c.moved_info-info_start.ensures, decoded (goal.at.returns c).After-from_bytes-decoded, nulls (goal.at.returns c).After-find-nulls) (old-whole _ _)
+returns c = rw (c.moved_answer-moved.ensures, c.moved_info-info_start.ensures, decoded (goal.at.returns c).After-from_bytes-decoded, nulls (goal.at.returns c).After-from_bytes-decoded) (old-whole _ _)

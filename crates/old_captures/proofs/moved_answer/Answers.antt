@@ -4,11 +4,10 @@ use native.Mathlib.Omega.{arith}
 use Rattle.decode.specs.Answer.{report_of}
 use Rattle.decode.specs.declared.DecodeAnswer.{DecodeAnswer}
 use Rattle.old_captures.proofs.Laws.{told_placeless}
-use borrow.Author.Rules.{rules}
 use Rattle.old_captures.proofs.moved_answer.Goals as goal
 
 pub returns-in_default-answer : goal.returns-in_default-answer
-returns-in_default-answer c = let a = c.args in told_placeless a.nulls a.len a.answer c.in_default.keys2 c.in_default-answer.keys2
+returns-in_default-answer c = let a = c.args in told_placeless a.nulls a.len a.answer c.in_default.not-AddressFieldTooShort c.in_default-answer.not-FrameTooShort
 
 pub returns-in_default : goal.returns-in_default
 returns-in_default c = rw c.in-FrameTooShort.is refl

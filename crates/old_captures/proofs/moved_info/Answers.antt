@@ -1,6 +1,5 @@
 -- By the one test.
 use borrow.Author.Tests.{eq-eqb, ne_eqb}
-use borrow.Author.Rules.{rules}
 use Rattle.old_captures.proofs.moved_info.Goals as goal
 
 pub returns-then-at-eq0 : goal.returns-then-at-eq0
