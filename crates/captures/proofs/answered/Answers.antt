@@ -32,7 +32,7 @@ returns c =
     let a = c.args in
     let part : List ℕ = part_of a.input.now a.capture in
     let octets : Octets part =
-    octets-take (drop a.capture.start a.input.now) a.capture.length (octets-drop a.input.now a.capture.start (λ k. (c.shared_slice_known-1.given k).fits)) in
+    octets-take (drop a.capture.start a.input.now) a.capture.length (octets-drop a.input.now a.capture.start (λ k. search rules)) in
     let long : a.capture.start + a.capture.length - a.capture.start ≡ a.capture.length = omega arith in
     let is : take (a.capture.start + a.capture.length - a.capture.start) (drop a.capture.start a.input.now) ≡ part =
     ap (λ (n : ℕ). take n (drop a.capture.start a.input.now)) long in

@@ -23,7 +23,7 @@ use Rattle.captures.proofs.kind_by.Goals as goal
 use Rattle.captures.proofs.kind_by.Goals.{After-parse_content-read, After-shared_slice_known-1, After-struct_known-1}
 
 octets : (c : After-shared_slice_known-1) → Octets c.args.part.now
-octets c k = (c.shared_slice_known-1.given k).fits
+octets c k = search rules
 
 accepted : (c : After-struct_known-1) →
     let a = c.args in

@@ -13,4 +13,4 @@ flag true e = ((λ z. e.0 refl, λ p. refl), λ n. absurd (n (e.0 refl)))
 flag false e = ((λ z. absurd (omega (arith, z)), λ p. absurd (false≢true (e.1 p))), λ n. refl)
 
 pub returns : goal.returns
-returns c = record { variant = rw c.ax25_canonical.ensures (flag _ (one_spelling _ _ (λ k. (c.shared_slice_known-1.given k).fits)).exact); value = rw c.ax25_canonical.ensures (flag _ (one_spelling _ _ (λ k. (c.shared_slice_known-1.given k).fits)).exact) }
+returns c = record { variant = rw c.ax25_canonical.ensures (flag _ (one_spelling _ _ (λ k. search rules)).exact); value = rw c.ax25_canonical.ensures (flag _ (one_spelling _ _ (λ k. search rules)).exact) }

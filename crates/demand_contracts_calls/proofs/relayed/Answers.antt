@@ -13,18 +13,18 @@ returns c =
     record {
       first_row = rw (r.0, r.1) (
         (relaying_as call a.ssid s _).0 refl,
-        ((λ n. refused_relay_as call a.ssid s n), ((λ z. relayed_as_is call a.ssid s z (λ j. (c.slice_known-1.given j).fits)), refl)),
+        ((λ n. refused_relay_as call a.ssid s n), ((λ z. relayed_as_is call a.ssid s z (λ j. search rules)), refl)),
       );
       frame_unchanged = rw (r.0, r.1) (
         (relaying_as call a.ssid s _).0 refl,
-        ((λ n. refused_relay_as call a.ssid s n), ((λ z. relayed_as_is call a.ssid s z (λ j. (c.slice_known-1.given j).fits)), refl)),
+        ((λ n. refused_relay_as call a.ssid s n), ((λ z. relayed_as_is call a.ssid s z (λ j. search rules)), refl)),
       );
       relayed = rw (r.0, r.1) (
         (relaying_as call a.ssid s _).0 refl,
-        ((λ n. refused_relay_as call a.ssid s n), ((λ z. relayed_as_is call a.ssid s z (λ j. (c.slice_known-1.given j).fits)), refl)),
+        ((λ n. refused_relay_as call a.ssid s n), ((λ z. relayed_as_is call a.ssid s z (λ j. search rules)), refl)),
       );
       frame_after = rw (r.0, r.1) (
         (relaying_as call a.ssid s _).0 refl,
-        ((λ n. refused_relay_as call a.ssid s n), ((λ z. relayed_as_is call a.ssid s z (λ j. (c.slice_known-1.given j).fits)), refl)),
+        ((λ n. refused_relay_as call a.ssid s n), ((λ z. relayed_as_is call a.ssid s z (λ j. search rules)), refl)),
       );
     }

@@ -23,7 +23,7 @@ returns c =
         λ e h. let x = respelled-short Short s out e h in (w.ensures.0 ∙ number x.0, w.ensures.1 ∙ x.1),
         (
           λ e h. let x = respelled_into Short s out e h in (w.ensures.0 ∙ number x.0, w.ensures.1 ∙ x.1),
-          λ e. (one_spelling Short s (λ j. (c.shared_slice_known-1.given j).fits)).respelled e,
+          λ e. (one_spelling Short s (λ j. search rules)).respelled e,
         ),
       ),
     )

@@ -13,7 +13,7 @@ pub returns : goal.returns
 returns c =
     let a = c.args in
     let e = c.ax25_reason.ensures in
-    let o : Octets a.input.now = λ k. (c.shared_slice_known-1.given k).fits in
+    let o : Octets a.input.now = λ k. search rules in
     let t : Told (mode_of a.mode) a.input.now = told _ _ o in
     let exact = (one_spelling (mode_of a.mode) a.input.now o).exact in (
       ((λ z. exact.0 (t.none.0 (sym e.0 ∙ z))), (λ w. e.0 ∙ t.none.1 (exact.1 w))),

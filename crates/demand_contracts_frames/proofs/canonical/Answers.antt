@@ -4,4 +4,4 @@ use borrow.Author.Rules.{rules}
 use Rattle.demand_contracts_frames.proofs.canonical.Goals as goal
 
 pub returns : goal.returns
-returns c = rw c.is_canonical.ensures (one_spelling _ _ (λ k. (c.shared_slice_known-1.given k).fits)).exact
+returns c = rw c.is_canonical.ensures (one_spelling _ _ (λ k. search rules)).exact

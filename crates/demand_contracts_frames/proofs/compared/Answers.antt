@@ -11,4 +11,4 @@ returns c =
     let check-other = c.is_canonical-2.ensures in
     let read-other = c.from_bytes-2.ensures in
 record { nothing_unseen = rw (read, check-other, read-other)
-          (λ yes. nothing-unseen _ _ _ (λ j. (c.shared_slice_known-1.given j).fits) (λ j. (c.shared_slice_known-2-1.given j).fits) (sym check ∙ yes)); canonical_value = (check, read, check-other, read-other) }
+          (λ yes. nothing-unseen _ _ _ (λ j. search rules) (λ j. search rules) (sym check ∙ yes)); canonical_value = (check, read, check-other, read-other) }

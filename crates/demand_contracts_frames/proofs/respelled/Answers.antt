@@ -23,7 +23,7 @@ returns c =
         λ e h. let x = respelled-short m s out e h in given (w.ensures.0 ∙ x.0) (w.ensures.1 ∙ x.1),
         (
           λ e h. let x = respelled_into m s out e h in given (w.ensures.0 ∙ x.0) (w.ensures.1 ∙ x.1),
-          λ e. (one_spelling m s (λ j. (c.shared_slice_known-1.given j).fits)).respelled e,
+          λ e. (one_spelling m s (λ j. search rules)).respelled e,
         ),
       ),
     )

@@ -17,7 +17,7 @@ returns c =
         (
           (λ n. let f = refused_kiss_read s (length out) n in (f.0, f.1, f.2 out)),
           (
-            (λ z. let f = accepted_kiss_read s out (λ j. (c.shared_slice_known-1.given j).fits) z in
+            (λ z. let f = accepted_kiss_read s out (λ j. search rules) z in
                 let d = data_left s out z in
                 (f.0, rw d f.1, rw d f.2)),
             (refl, refl, refl),
@@ -29,7 +29,7 @@ returns c =
         (
           (λ n. let f = refused_kiss_read s (length out) n in (f.0, f.1, f.2 out)),
           (
-            (λ z. let f = accepted_kiss_read s out (λ j. (c.shared_slice_known-1.given j).fits) z in
+            (λ z. let f = accepted_kiss_read s out (λ j. search rules) z in
                 let d = data_left s out z in
                 (f.0, rw d f.1, rw d f.2)),
             (refl, refl, refl),
@@ -41,7 +41,7 @@ returns c =
         (
           (λ n. let f = refused_kiss_read s (length out) n in (f.0, f.1, f.2 out)),
           (
-            (λ z. let f = accepted_kiss_read s out (λ j. (c.shared_slice_known-1.given j).fits) z in
+            (λ z. let f = accepted_kiss_read s out (λ j. search rules) z in
                 let d = data_left s out z in
                 (f.0, rw d f.1, rw d f.2)),
             (refl, refl, refl),
@@ -53,7 +53,7 @@ returns c =
         (
           (λ n. let f = refused_kiss_read s (length out) n in (f.0, f.1, f.2 out)),
           (
-            (λ z. let f = accepted_kiss_read s out (λ j. (c.shared_slice_known-1.given j).fits) z in
+            (λ z. let f = accepted_kiss_read s out (λ j. search rules) z in
                 let d = data_left s out z in
                 (f.0, rw d f.1, rw d f.2)),
             (refl, refl, refl),

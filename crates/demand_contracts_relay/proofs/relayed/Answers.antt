@@ -11,13 +11,13 @@ returns c =
     let s = a.frame.now in
     record {
       first_row = rw (r.0, r.1)
-          ((relaying a.own s _).0 refl, ((λ n. refused_relay a.own s n), ((λ z. relayed_is a.own s z (λ j. (c.slice_known-1.given j).fits)), (refl, refl))));
+          ((relaying a.own s _).0 refl, ((λ n. refused_relay a.own s n), ((λ z. relayed_is a.own s z (λ j. search rules)), (refl, refl))));
       frame_unchanged = rw (r.0, r.1)
-          ((relaying a.own s _).0 refl, ((λ n. refused_relay a.own s n), ((λ z. relayed_is a.own s z (λ j. (c.slice_known-1.given j).fits)), (refl, refl))));
+          ((relaying a.own s _).0 refl, ((λ n. refused_relay a.own s n), ((λ z. relayed_is a.own s z (λ j. search rules)), (refl, refl))));
       relayed = rw (r.0, r.1)
-          ((relaying a.own s _).0 refl, ((λ n. refused_relay a.own s n), ((λ z. relayed_is a.own s z (λ j. (c.slice_known-1.given j).fits)), (refl, refl))));
+          ((relaying a.own s _).0 refl, ((λ n. refused_relay a.own s n), ((λ z. relayed_is a.own s z (λ j. search rules)), (refl, refl))));
       value = rw (r.0, r.1)
-          ((relaying a.own s _).0 refl, ((λ n. refused_relay a.own s n), ((λ z. relayed_is a.own s z (λ j. (c.slice_known-1.given j).fits)), (refl, refl))));
+          ((relaying a.own s _).0 refl, ((λ n. refused_relay a.own s n), ((λ z. relayed_is a.own s z (λ j. search rules)), (refl, refl))));
       frame_after = rw (r.0, r.1)
-          ((relaying a.own s _).0 refl, ((λ n. refused_relay a.own s n), ((λ z. relayed_is a.own s z (λ j. (c.slice_known-1.given j).fits)), (refl, refl))));
+          ((relaying a.own s _).0 refl, ((λ n. refused_relay a.own s n), ((λ z. relayed_is a.own s z (λ j. search rules)), (refl, refl))));
     }

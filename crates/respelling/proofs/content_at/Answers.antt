@@ -34,7 +34,7 @@ inside c = omega (arith, c.requires.1, (route _ _ c.requires.0).end_in)
 -- what parsing answers
 answered : (c : After-parse_content-answer) → c.parse_content-answer.result ≡ Accepted (decode c.args.mode c.args.bytes.now).frame.content
 answered c =
-    let p = parts _ _ (λ n. (c.shared_slice_known-1.given n).fits) c.requires.0 in
+    let p = parts _ _ (λ n. search rules) c.requires.0 in
     c.parse_content-answer.ensures ∙ rw (part_from, c.requires.1) p.content
 
 pub slice_bounds-parse_content-count : goal.slice_bounds-parse_content-count

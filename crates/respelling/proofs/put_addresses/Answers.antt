@@ -12,7 +12,7 @@ use Rattle.respelling.proofs.put_addresses.Goals as goal
 use Rattle.respelling.proofs.put_addresses.Goals.{After-shared_slice_known-1}
 
 octets : (c : After-shared_slice_known-1) → Octets c.args.bytes.now
-octets c k = (c.shared_slice_known-1.given k).fits
+octets c k = search rules
 
 -- the groups stand in the input
 inside : (c : After-shared_slice_known-1) → 14 + 7 * c.args.count ≤ length c.args.bytes.now

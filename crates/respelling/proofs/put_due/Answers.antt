@@ -23,7 +23,7 @@ use Rattle.respelling.proofs.put_due.Goals as goal
 use Rattle.respelling.proofs.put_due.Goals.{After-encode-arg-1, After-front_len, After-shared_slice_known-1}
 
 octets : (c : After-shared_slice_known-1) → Octets c.args.bytes.now
-octets c k = (c.shared_slice_known-1.given k).fits
+octets c k = search rules
 
 -- what writing takes
 taken : (c : After-shared_slice_known-1) →

@@ -30,7 +30,7 @@ within : (c : In-Accepted) → Route c.args.bytes.now (decode c.args.mode c.args
 within c = route _ _ (accepted c)
 
 octets : (c : In-Accepted) → Octets c.args.bytes.now
-octets c k = (c.shared_slice_known-1.given k).fits
+octets c k = search rules
 
 told : (c : In-Accepted) → c.outline_of-outline.result ≡ outline_of c.args.mode c.args.bytes.now
 told c = c.outline_of-outline.ensures
