@@ -19,23 +19,21 @@ accepted d c r e = rw e refl
 pub put_refusal-requires : goal.put_refusal-requires
 put_refusal-requires c =
     let g = c.args in
-    rw (refused g.decoded g.canonical g.reason (told-refused g.decoded.answer c.in_default.keys2)) at c.requires.1
+    rw (refused g.decoded g.canonical g.reason (told-refused g.decoded.answer c.in_default.not-Accepted)) at c.requires.1
 
 pub returns-in_default : goal.returns-in_default
 returns-in_default c =
     let match = c.in_default in
     let g = c.args in
-    rw (refused g.decoded g.canonical g.reason (told-refused g.decoded.answer match.keys2)) c.put_refusal.ensures
+    rw (refused g.decoded g.canonical g.reason (told-refused g.decoded.answer match.not-Accepted)) c.put_refusal.ensures
 
 pub put_frame-requires : goal.put_frame-requires
 put_frame-requires c =
     let g = c.args in
     let p = c.requires in
-    let enum_told = c.enum_told-1 in
-    (p.0 (rw enum_told.given.1 refl), rw (accepted g.decoded g.canonical g.reason (rw enum_told.given.1 refl)) at p.1)
+    (p.0 (rw c.in-Accepted.is refl), rw (accepted g.decoded g.canonical g.reason (rw c.in-Accepted.is refl)) at p.1)
 
 pub returns : goal.returns
 returns c =
-    let enum_told = c.enum_told-1 in
     let g = c.args in
-    rw (accepted g.decoded g.canonical g.reason (rw enum_told.given.1 refl)) c.put_frame.ensures
+    rw (accepted g.decoded g.canonical g.reason (rw c.in-Accepted.is refl)) c.put_frame.ensures

@@ -8,18 +8,18 @@ pub put_number_line-next-requires : goal.put_number_line-next-requires
 put_number_line-next-requires c =
     let p = c.requires in
     let g = c.args in
-    let answer = c.answer-1 in
-    fits-first g.out.now g.at (line "start=" (decimal answer.given.0.0)) (line "end=" (decimal answer.given.0.1.0))
-    (rw answer.given.1 at (p))
+    let answer = c.in-AddressFieldTooShort in
+    fits-first g.out.now g.at (line "start=" (decimal answer.start)) (line "end=" (decimal answer.end))
+    (rw answer.is at (p))
 
 pub put_number_line-requires : goal.put_number_line-requires
 put_number_line-requires c =
     let put-number-line = c.put_number_line-next in
     let p = c.requires in
     let g = c.args in
-    let answer = c.answer-1 in
-    fits_next g.out.now g.at (line "start=" (decimal answer.given.0.0)) (line "end=" (decimal answer.given.0.1.0))
-    (rw answer.given.1 at (p)) put-number-line.ensures
+    let answer = c.in-AddressFieldTooShort in
+    fits_next g.out.now g.at (line "start=" (decimal answer.start)) (line "end=" (decimal answer.end))
+    (rw answer.is at (p)) put-number-line.ensures
 
 pub put_number_line-requires-in-FrameTooShort : goal.put_number_line-requires-in-FrameTooShort
 put_number_line-requires-in-FrameTooShort c = rw c.in-FrameTooShort.is at c.requires
@@ -38,9 +38,9 @@ returns-in-AddressFieldTooShort c =
     let put-number-line = c.put_number_line-next in
     let p = c.requires in
     let g = c.args in
-    let answer = c.answer-1 in
-    rw answer.given.1
-    (put_then g.out.now g.at (line "start=" (decimal answer.given.0.0)) (line "end=" (decimal answer.given.0.1.0)) (rw answer.given.1 at (p)) put-number-line.ensures c.put_number_line.ensures)
+    let answer = c.in-AddressFieldTooShort in
+    rw answer.is
+    (put_then g.out.now g.at (line "start=" (decimal answer.start)) (line "end=" (decimal answer.end)) (rw answer.is at (p)) put-number-line.ensures c.put_number_line.ensures)
 
 pub returns-in-FrameTooShort : goal.returns-in-FrameTooShort
 returns-in-FrameTooShort c = rw c.in-FrameTooShort.is c.put_number_line-in-FrameTooShort.ensures

@@ -20,7 +20,7 @@ shown c =
     (part_from (four_digits _) (leading _))
 
 pub put-requires : goal.put-requires
-put-requires c = rw (shown (goal.at.put-requires c).After-digit-4) c.requires
+put-requires c = rw (shown (goal.at.put-requires c).After-leading-zeros) c.requires
 
 pub returns : goal.returns
-returns c = rw (← shown (goal.at.returns c).After-digit-4) c.put.ensures
+returns c = rw (← shown (goal.at.returns c).After-leading-zeros) c.put.ensures

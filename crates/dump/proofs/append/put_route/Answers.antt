@@ -21,7 +21,7 @@ put_if-next-requires c =
     let g = c.args in
     let l = c.loop-i in
     rw (comma_if (eqb l.i 0) (ascii ","))
-    (fits_two g.out.now g.at (route_text g.t3 l.i) (comma l.i) (entry_text (repeater_at g.t3 l.i)) (route_fit g.out.now g.at g.t3 l.i g.count t.true p.1) l.invariant.1)
+    (fits_two g.out.now g.at (route_text g.route l.i) (comma l.i) (entry_text (repeater_at g.route l.i)) (route_fit g.out.now g.at g.route l.i g.count t.true p.1) l.invariant.1)
 
 pub put_entry-next-requires : goal.put_entry-next-requires
 put_entry-next-requires c =
@@ -30,8 +30,8 @@ put_entry-next-requires c =
     let p = c.requires in
     let g = c.args in
     let l = c.loop-i in
-    fits_three g.out.now g.at (route_text g.t3 l.i) (comma l.i) (entry_text (repeater_at g.t3 l.i))
-    (route_fit g.out.now g.at g.t3 l.i g.count t.true p.1) l.invariant.1
+    fits_three g.out.now g.at (route_text g.route l.i) (comma l.i) (entry_text (repeater_at g.route l.i))
+    (route_fit g.out.now g.at g.route l.i g.count t.true p.1) l.invariant.1
     (rw (comma_if (eqb l.i 0) (ascii ",")) at put_if.ensures)
 
 pub loop-i-preserved : goal.loop-i-preserved
@@ -41,7 +41,7 @@ loop-i-preserved c =
     let p = c.requires in
     let g = c.args in
     let l = c.loop-i in
-    (search rules, rw (route_next g.t3 l.i) (put_three g.out.now g.at (route_text g.t3 l.i) (comma l.i) (entry_text (repeater_at g.t3 l.i)) (route_fit g.out.now g.at g.t3 l.i g.count t.true p.1) l.invariant.1 (rw (comma_if (eqb l.i 0) (ascii ",")) at put_if.ensures) c.put_entry-next.ensures))
+    (search rules, rw (route_next g.route l.i) (put_three g.out.now g.at (route_text g.route l.i) (comma l.i) (entry_text (repeater_at g.route l.i)) (route_fit g.out.now g.at g.route l.i g.count t.true p.1) l.invariant.1 (rw (comma_if (eqb l.i 0) (ascii ",")) at put_if.ensures) c.put_entry-next.ensures))
 
 pub shape_of-out : goal.shape_of-out
 shape_of-out c = rw c.loop-i.invariant.1.0 (splice-length _ _ _)
