@@ -4,6 +4,7 @@ use native.Mathlib.Omega.{arith}
 use mathlib.Core.List.{List}
 use borrow.Author.Tests.{lt-ltb, le-ltb}
 use lib.ListN.{length}
+use Rattle.octets.specs.Octet.{Octets}
 use Rattle.control.specs.declared.Mode.TheVariants.{Short}
 use Rattle.decode.specs.Read.{decode}
 use Rattle.grammar.proofs.Plain.{inside}
@@ -28,23 +29,16 @@ put_number_line-requires c = omega (arith, fifty-short, c.requires)
 
 pub returns-then-input-gt4096 : goal.returns-then-input-gt4096
 returns-then-input-gt4096 c =
-    let if1 = c.if-input-gt4096 in
-    let g = c.args in
-    rw (over g.input.now if1.true) c.put_number_line.ensures
+    rw (over c.args.input.now c.if-input-gt4096.true) c.put_number_line.ensures
 
 pub put_decoded-requires : goal.put_decoded-requires
 put_decoded-requires c =
-    let shared-slice-known = c.shared_slice_known-1 in
-    let p = c.requires in
-    let g = c.args in
-    let short = decoded-short g.input.now (λ k. (shared-slice-known.given k).fits) c.is_canonical-canonical.result c.reason_of-reason.result in
-    rw c.from_bytes-decoded.ensures ((λ e. (inside Short g.input.now e).few), omega (arith, short, p))
+    let s = c.args.input.now in
+    let octets : Octets s = search rules in
+    let short = decoded-short s octets c.is_canonical-canonical.result c.reason_of-reason.result in
+    rw c.from_bytes-decoded.ensures ((λ e. (inside Short s e).few), omega (arith, short, c.requires))
 
 pub returns : goal.returns
 returns c =
-    let reason-of = c.reason_of-reason in
-    let is-canonical = c.is_canonical-canonical in
-    let from_bytes = c.from_bytes-decoded in
-    let if1 = c.if-input-gt4096 in
     let g = c.args in
-    rw (within g.input.now if1.false, ← from_bytes.ensures, ← is-canonical.ensures, ← reason-of.ensures) c.put_decoded.ensures
+    rw (within g.input.now c.if-input-gt4096.false, ← c.from_bytes-decoded.ensures, ← c.is_canonical-canonical.ensures, ← c.reason_of-reason.ensures) c.put_decoded.ensures
