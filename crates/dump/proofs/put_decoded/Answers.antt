@@ -5,7 +5,6 @@ use Rattle.decode.specs.declared.Decoded.{Decoded}
 use Rattle.decode.proofs.Read.{told-refused}
 use Rattle.reason.specs.declared.Reason.{Reason}
 use Rattle.dump.specs.Dump.{frame_text, refusal_text, decoded_text}
-use borrow.Author.Rules.{rules}
 use Rattle.dump.proofs.put_decoded.Goals as goal
 
 refused : (d : Decoded) (c : Bool) (r : Reason) → is_accepted d.answer ≡ false → decoded_text d c r ≡ refusal_text d.answer

@@ -1,7 +1,6 @@
 use Rattle.dump.specs.Text.{decimal}
 use Rattle.dump.specs.Dump.{line}
 use Rattle.dump.proofs.Laws.{fits-first, fits_next, put_then, put_none}
-use borrow.Author.Rules.{rules}
 use Rattle.dump.proofs.put_details.Goals as goal
 
 pub put_number_line-next-requires : goal.put_number_line-next-requires

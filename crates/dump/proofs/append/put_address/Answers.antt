@@ -3,7 +3,6 @@ use Rattle.printing.specs.Print.{trimmed}
 use Rattle.printing.proofs.Laws.{used_le, trimmed-length}
 use Rattle.dump.specs.Text.{characters, ssid_text}
 use Rattle.dump.proofs.Laws.{fits-first, fits_next, put_then, address_text_lem}
-use borrow.Author.Rules.{rules}
 use Rattle.dump.proofs.append.put_address.Goals as goal
 
 pub slice_bounds-callsign-end : goal.slice_bounds-callsign-end

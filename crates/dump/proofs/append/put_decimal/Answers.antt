@@ -4,7 +4,6 @@ use mathlib.Core.List.{[], ◌∷◌}
 use lib.ListN.{take, drop}
 use Rattle.octets.proofs.Splice.{part_from}
 use Rattle.dump.specs.Text.{four_digits, leading, decimal}
-use borrow.Author.Rules.{rules}
 use Rattle.dump.proofs.append.put_decimal.Goals as goal
 use Rattle.dump.proofs.append.put_decimal.Goals.{After-leading-zeros}
 

@@ -3,7 +3,6 @@ use mathlib.Core.List.{[]}
 use Rattle.words.specs.Ascii.{ascii}
 use Rattle.dump.specs.Text.{address_text}
 use Rattle.dump.proofs.Laws.{fits-first, fits_next, put_then, entry_text_lem}
-use borrow.Author.Rules.{rules}
 use Rattle.dump.proofs.append.put_entry.Goals as goal
 
 pub put_address-next-requires : goal.put_address-next-requires

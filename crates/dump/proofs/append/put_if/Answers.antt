@@ -1,5 +1,4 @@
 use Rattle.dump.proofs.Laws.{put_none}
-use borrow.Author.Rules.{rules}
 use Rattle.dump.proofs.append.put_if.Goals as goal
 
 pub put-requires : goal.put-requires

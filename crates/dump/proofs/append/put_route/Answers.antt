@@ -1,11 +1,10 @@
 use mathlib.Core.Path.{◌≡◌}
 use native.Mathlib.Omega.{arith}
-use Prim.Native.Nat.{◌-◌, ◌≤◌}
 use lib.Dec.{eqb}
 use Rattle.octets.proofs.Splice.{splice-length}
 use Rattle.frame.specs.Spell.{repeater_at}
 use Rattle.words.specs.Ascii.{ascii}
-use Rattle.dump.specs.Text.{entry_text, route_text, Put}
+use Rattle.dump.specs.Text.{entry_text, route_text}
 use Rattle.dump.proofs.Laws.{put_none, fits_two, fits_three, put_three, comma, comma_if, route_next, route_fit}
 use borrow.Author.Rules.{rules}
 use Rattle.dump.proofs.append.put_route.Goals as goal

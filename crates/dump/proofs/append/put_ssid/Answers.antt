@@ -1,7 +1,6 @@
 use Rattle.words.specs.Ascii.{ascii}
 use Rattle.dump.specs.Text.{decimal}
 use Rattle.dump.proofs.Laws.{put_none, fits-first, fits_next, put_then, ssid_none, ssid_some}
-use borrow.Author.Rules.{rules}
 use Rattle.dump.proofs.append.put_ssid.Goals as goal
 
 pub returns-then-ssid-eq0 : goal.returns-then-ssid-eq0

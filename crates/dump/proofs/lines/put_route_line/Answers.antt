@@ -1,7 +1,6 @@
 use Rattle.words.specs.Ascii.{ascii}
 use Rattle.dump.proofs.Laws.{fits_one, fits_two, fits_three, put_three}
 use Rattle.dump.specs.Text.{route_text}
-use borrow.Author.Rules.{rules}
 use Rattle.dump.proofs.lines.put_route_line.Goals as goal
 
 pub put-next-requires : goal.put-next-requires
