@@ -5,17 +5,8 @@ use borrow.Author.Rules.{rules}
 use Rattle.probe.proofs.probe_content.Goals as goal
 
 pub returns-then-flat-lt-CONTENT : goal.returns-then-flat-lt-CONTENT
-returns-then-flat-lt-CONTENT c = record { value = rw (lt-ltb _ _ c.if-flat-lt-CONTENT.true) (refl, refl); flat_after = rw (lt-ltb _ _ c.if-flat-lt-CONTENT.true) (refl, refl) }
+returns-then-flat-lt-CONTENT c = record { value = rw (lt-ltb _ _ c.if-flat-lt-CONTENT.true) refl; flat_after = rw (lt-ltb _ _ c.if-flat-lt-CONTENT.true) refl }
 
 pub returns : goal.returns
 returns c =
-    record {
-      value = rw (le-ltb _ _ c.if-flat-lt-CONTENT.false) (
-        rw (c.number.ensures, c.parse_content-answer.ensures, c.of_number.ensures) refl,
-        c.put_read.ensures ∙ rw (c.parse_content-answer.ensures, c.of_number.ensures) refl,
-      );
-      flat_after = rw (le-ltb _ _ c.if-flat-lt-CONTENT.false) (
-        rw (c.number.ensures, c.parse_content-answer.ensures, c.of_number.ensures) refl,
-        c.put_read.ensures ∙ rw (c.parse_content-answer.ensures, c.of_number.ensures) refl,
-      );
-    }
+    record { value = rw (le-ltb _ _ c.if-flat-lt-CONTENT.false) (rw (c.number.ensures, c.parse_content-answer.ensures, c.of_number.ensures) refl); flat_after = rw (le-ltb _ _ c.if-flat-lt-CONTENT.false) (c.put_read.ensures ∙ rw (c.parse_content-answer.ensures, c.of_number.ensures) refl) }

@@ -7,31 +7,9 @@ use borrow.Author.Rules.{rules}
 use Rattle.probe.proofs.probe_content_encode.Goals as goal
 
 pub returns-then-len-lt1 : goal.returns-then-len-lt1
-returns-then-len-lt1 c = record { value = rw (lt-ltb _ _ c.if-len-lt1.true) (refl, (refl, refl)); out_after = rw (lt-ltb _ _ c.if-len-lt1.true) (refl, (refl, refl)); len_after = rw (lt-ltb _ _ c.if-len-lt1.true) (refl, (refl, refl)) }
+returns-then-len-lt1 c = record { value = rw (lt-ltb _ _ c.if-len-lt1.true) refl; out_after = rw (lt-ltb _ _ c.if-len-lt1.true) refl; len_after = rw (lt-ltb _ _ c.if-len-lt1.true) refl }
 
 pub returns : goal.returns
 returns c =
     let a = c.args in
-    record {
-      value = rw (le-ltb _ _ c.if-len-lt1.false) (
-        rw (c.number.ensures, c.encode-written.ensures.value, c.of_number.ensures, c.content_from-given.ensures) refl,
-        (
-          c.encode-written.ensures.out_after ∙ rw (c.of_number.ensures, c.content_from-given.ensures) refl,
-          rw (c.encode-written.ensures.value, c.of_number.ensures, c.content_from-given.ensures) (sym (splice_one a.len.now 0 _ (omega arith))),
-        ),
-      );
-      out_after = rw (le-ltb _ _ c.if-len-lt1.false) (
-        rw (c.number.ensures, c.encode-written.ensures.value, c.of_number.ensures, c.content_from-given.ensures) refl,
-        (
-          c.encode-written.ensures.out_after ∙ rw (c.of_number.ensures, c.content_from-given.ensures) refl,
-          rw (c.encode-written.ensures.value, c.of_number.ensures, c.content_from-given.ensures) (sym (splice_one a.len.now 0 _ (omega arith))),
-        ),
-      );
-      len_after = rw (le-ltb _ _ c.if-len-lt1.false) (
-        rw (c.number.ensures, c.encode-written.ensures.value, c.of_number.ensures, c.content_from-given.ensures) refl,
-        (
-          c.encode-written.ensures.out_after ∙ rw (c.of_number.ensures, c.content_from-given.ensures) refl,
-          rw (c.encode-written.ensures.value, c.of_number.ensures, c.content_from-given.ensures) (sym (splice_one a.len.now 0 _ (omega arith))),
-        ),
-      );
-    }
+    record { value = rw (le-ltb _ _ c.if-len-lt1.false) (rw (c.number.ensures, c.encode-written.ensures.value, c.of_number.ensures, c.content_from-given.ensures) refl); out_after = rw (le-ltb _ _ c.if-len-lt1.false) (c.encode-written.ensures.out_after ∙ rw (c.of_number.ensures, c.content_from-given.ensures) refl); len_after = rw (le-ltb _ _ c.if-len-lt1.false) (rw (c.encode-written.ensures.value, c.of_number.ensures, c.content_from-given.ensures) (sym (splice_one a.len.now 0 _ (omega arith)))) }

@@ -3,4 +3,4 @@ use borrow.Author.Rules.{rules}
 use Rattle.probe.proofs.probe_decode_old.Goals as goal
 
 pub returns : goal.returns
-returns c = record { value = rw (← c.of_number.ensures, ← c.from_bytes.ensures) c.put_decoded.ensures; flat_after = rw (← c.of_number.ensures, ← c.from_bytes.ensures) c.put_decoded.ensures; places_after = rw (← c.of_number.ensures, ← c.from_bytes.ensures) c.put_decoded.ensures }
+returns c = record { value = rw (← c.of_number.ensures, ← c.from_bytes.ensures) c.put_decoded.ensures.value; flat_after = rw (← c.of_number.ensures, ← c.from_bytes.ensures) c.put_decoded.ensures.flat_after; places_after = rw (← c.of_number.ensures, ← c.from_bytes.ensures) c.put_decoded.ensures.places_after }

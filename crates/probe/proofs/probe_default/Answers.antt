@@ -5,7 +5,7 @@ use borrow.Author.Rules.{rules}
 use Rattle.probe.proofs.probe_default.Goals as goal
 
 pub returns-then-flat-lt-FRAME : goal.returns-then-flat-lt-FRAME
-returns-then-flat-lt-FRAME c = record { value = rw (lt-ltb _ _ c.if-flat-lt-FRAME.true) (refl, refl); flat_after = rw (lt-ltb _ _ c.if-flat-lt-FRAME.true) (refl, refl) }
+returns-then-flat-lt-FRAME c = record { value = rw (lt-ltb _ _ c.if-flat-lt-FRAME.true) refl; flat_after = rw (lt-ltb _ _ c.if-flat-lt-FRAME.true) refl }
 
 pub returns : goal.returns
-returns c = record { value = rw (le-ltb _ _ c.if-flat-lt-FRAME.false) (refl, c.put_frame.ensures ∙ rw c.default-frame.ensures refl); flat_after = rw (le-ltb _ _ c.if-flat-lt-FRAME.false) (refl, c.put_frame.ensures ∙ rw c.default-frame.ensures refl) }
+returns c = record { value = rw (le-ltb _ _ c.if-flat-lt-FRAME.false) refl; flat_after = rw (le-ltb _ _ c.if-flat-lt-FRAME.false) (c.put_frame.ensures ∙ rw c.default-frame.ensures refl) }

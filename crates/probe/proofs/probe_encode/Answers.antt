@@ -7,31 +7,9 @@ use borrow.Author.Rules.{rules}
 use Rattle.probe.proofs.probe_encode.Goals as goal
 
 pub returns-then-len-lt1 : goal.returns-then-len-lt1
-returns-then-len-lt1 c = record { value = rw (lt-ltb _ _ c.if-len-lt1.true) (refl, (refl, refl)); out_after = rw (lt-ltb _ _ c.if-len-lt1.true) (refl, (refl, refl)); len_after = rw (lt-ltb _ _ c.if-len-lt1.true) (refl, (refl, refl)) }
+returns-then-len-lt1 c = record { value = rw (lt-ltb _ _ c.if-len-lt1.true) refl; out_after = rw (lt-ltb _ _ c.if-len-lt1.true) refl; len_after = rw (lt-ltb _ _ c.if-len-lt1.true) refl }
 
 pub returns : goal.returns
 returns c =
     let a = c.args in
-    record {
-      value = rw (le-ltb _ _ c.if-len-lt1.false) (
-        rw (c.number.ensures, c.to_bytes-written.ensures.value, c.of_number.ensures, c.frame_from-frame.ensures) refl,
-        (
-          c.to_bytes-written.ensures.out_after ∙ rw (c.of_number.ensures, c.frame_from-frame.ensures) refl,
-          rw (c.to_bytes-written.ensures.value, c.of_number.ensures, c.frame_from-frame.ensures) (sym (splice_one a.len.now 0 _ (omega arith))),
-        ),
-      );
-      out_after = rw (le-ltb _ _ c.if-len-lt1.false) (
-        rw (c.number.ensures, c.to_bytes-written.ensures.value, c.of_number.ensures, c.frame_from-frame.ensures) refl,
-        (
-          c.to_bytes-written.ensures.out_after ∙ rw (c.of_number.ensures, c.frame_from-frame.ensures) refl,
-          rw (c.to_bytes-written.ensures.value, c.of_number.ensures, c.frame_from-frame.ensures) (sym (splice_one a.len.now 0 _ (omega arith))),
-        ),
-      );
-      len_after = rw (le-ltb _ _ c.if-len-lt1.false) (
-        rw (c.number.ensures, c.to_bytes-written.ensures.value, c.of_number.ensures, c.frame_from-frame.ensures) refl,
-        (
-          c.to_bytes-written.ensures.out_after ∙ rw (c.of_number.ensures, c.frame_from-frame.ensures) refl,
-          rw (c.to_bytes-written.ensures.value, c.of_number.ensures, c.frame_from-frame.ensures) (sym (splice_one a.len.now 0 _ (omega arith))),
-        ),
-      );
-    }
+    record { value = rw (le-ltb _ _ c.if-len-lt1.false) (rw (c.number.ensures, c.to_bytes-written.ensures.value, c.of_number.ensures, c.frame_from-frame.ensures) refl); out_after = rw (le-ltb _ _ c.if-len-lt1.false) (c.to_bytes-written.ensures.out_after ∙ rw (c.of_number.ensures, c.frame_from-frame.ensures) refl); len_after = rw (le-ltb _ _ c.if-len-lt1.false) (rw (c.to_bytes-written.ensures.value, c.of_number.ensures, c.frame_from-frame.ensures) (sym (splice_one a.len.now 0 _ (omega arith)))) }

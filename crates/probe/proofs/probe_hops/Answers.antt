@@ -10,7 +10,7 @@ use Rattle.probe.specs.Calls.{hops_of}
 use Rattle.probe.proofs.probe_hops.Goals as goal
 
 pub returns-then-numbers-lt-HOPS : goal.returns-then-numbers-lt-HOPS
-returns-then-numbers-lt-HOPS c = record { value = rw (lt-ltb _ _ c.if-numbers-lt-HOPS.true) (refl, refl); numbers_after = rw (lt-ltb _ _ c.if-numbers-lt-HOPS.true) (refl, refl) }
+returns-then-numbers-lt-HOPS c = record { value = rw (lt-ltb _ _ c.if-numbers-lt-HOPS.true) refl; numbers_after = rw (lt-ltb _ _ c.if-numbers-lt-HOPS.true) refl }
 
 pub bounds-numbers-1 : goal.bounds-numbers-1
 bounds-numbers-1 c = simp length-set (omega arith)
@@ -22,14 +22,7 @@ pub returns : goal.returns
 returns c =
     let a = c.args in
     record {
-      value = rw (le-ltb _ _ c.if-numbers-lt-HOPS.false) (
-        refl,
-        rw (c.due_place-due.ensures, c.hops_used-used.ensures, c.hop_set-set.ensures, c.frame_from-frame.ensures)
-            (splice-stores (hops_of (frame_from a.flat.now)) a.numbers.now 0 (omega arith)),
-      );
-      numbers_after = rw (le-ltb _ _ c.if-numbers-lt-HOPS.false) (
-        refl,
-        rw (c.due_place-due.ensures, c.hops_used-used.ensures, c.hop_set-set.ensures, c.frame_from-frame.ensures)
-            (splice-stores (hops_of (frame_from a.flat.now)) a.numbers.now 0 (omega arith)),
-      );
+      value = rw (le-ltb _ _ c.if-numbers-lt-HOPS.false) refl;
+      numbers_after = rw (le-ltb _ _ c.if-numbers-lt-HOPS.false) (rw (c.due_place-due.ensures, c.hops_used-used.ensures, c.hop_set-set.ensures, c.frame_from-frame.ensures)
+          (splice-stores (hops_of (frame_from a.flat.now)) a.numbers.now 0 (omega arith)));
     }

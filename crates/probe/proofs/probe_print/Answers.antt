@@ -7,31 +7,9 @@ use Rattle.octets.proofs.Splice.{splice_one}
 use Rattle.probe.proofs.probe_print.Goals as goal
 
 pub returns-then-len-lt1 : goal.returns-then-len-lt1
-returns-then-len-lt1 c = record { value = rw (lt-ltb _ _ c.if-len-lt1.true) (refl, (refl, refl)); out_after = rw (lt-ltb _ _ c.if-len-lt1.true) (refl, (refl, refl)); len_after = rw (lt-ltb _ _ c.if-len-lt1.true) (refl, (refl, refl)) }
+returns-then-len-lt1 c = record { value = rw (lt-ltb _ _ c.if-len-lt1.true) refl; out_after = rw (lt-ltb _ _ c.if-len-lt1.true) refl; len_after = rw (lt-ltb _ _ c.if-len-lt1.true) refl }
 
 pub returns : goal.returns
 returns c =
     let a = c.args in
-    record {
-      value = rw (le-ltb _ _ c.if-len-lt1.false) (
-        rw (c.number.ensures, c.print-printed.ensures.value, c.address_from-address.ensures) refl,
-        (
-          c.print-printed.ensures.out_after ∙ rw c.address_from-address.ensures refl,
-          rw (c.print-printed.ensures.value, c.address_from-address.ensures) (sym (splice_one a.len.now 0 _ (omega arith))),
-        ),
-      );
-      out_after = rw (le-ltb _ _ c.if-len-lt1.false) (
-        rw (c.number.ensures, c.print-printed.ensures.value, c.address_from-address.ensures) refl,
-        (
-          c.print-printed.ensures.out_after ∙ rw c.address_from-address.ensures refl,
-          rw (c.print-printed.ensures.value, c.address_from-address.ensures) (sym (splice_one a.len.now 0 _ (omega arith))),
-        ),
-      );
-      len_after = rw (le-ltb _ _ c.if-len-lt1.false) (
-        rw (c.number.ensures, c.print-printed.ensures.value, c.address_from-address.ensures) refl,
-        (
-          c.print-printed.ensures.out_after ∙ rw c.address_from-address.ensures refl,
-          rw (c.print-printed.ensures.value, c.address_from-address.ensures) (sym (splice_one a.len.now 0 _ (omega arith))),
-        ),
-      );
-    }
+    record { value = rw (le-ltb _ _ c.if-len-lt1.false) (rw (c.number.ensures, c.print-printed.ensures.value, c.address_from-address.ensures) refl); out_after = rw (le-ltb _ _ c.if-len-lt1.false) (c.print-printed.ensures.out_after ∙ rw c.address_from-address.ensures refl); len_after = rw (le-ltb _ _ c.if-len-lt1.false) (rw (c.print-printed.ensures.value, c.address_from-address.ensures) (sym (splice_one a.len.now 0 _ (omega arith)))) }

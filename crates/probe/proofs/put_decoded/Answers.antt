@@ -7,43 +7,17 @@ use lib.ListN.{length}
 use Rattle.probe.proofs.put_decoded.Goals as goal
 
 pub returns-then-flat-lt-FRAME : goal.returns-then-flat-lt-FRAME
-returns-then-flat-lt-FRAME c = record { value = rw (lt-ltb _ _ c.if-flat-lt-FRAME.true) (refl, (refl, refl)); flat_after = rw (lt-ltb _ _ c.if-flat-lt-FRAME.true) (refl, (refl, refl)); places_after = rw (lt-ltb _ _ c.if-flat-lt-FRAME.true) (refl, (refl, refl)) }
+returns-then-flat-lt-FRAME c = record { value = rw (lt-ltb _ _ c.if-flat-lt-FRAME.true) refl; flat_after = rw (lt-ltb _ _ c.if-flat-lt-FRAME.true) refl; places_after = rw (lt-ltb _ _ c.if-flat-lt-FRAME.true) refl }
 
 pub returns-then-places-lt-PLACES : goal.returns-then-places-lt-PLACES
 returns-then-places-lt-PLACES c =
     let a = c.args in
-    record { value = rw (le-ltb _ _ c.if-flat-lt-FRAME.false, lt-ltb (length a.places.now) 5 (omega arith)) (refl, (refl, refl)); flat_after = rw (le-ltb _ _ c.if-flat-lt-FRAME.false, lt-ltb (length a.places.now) 5 (omega arith)) (refl, (refl, refl)); places_after = rw (le-ltb _ _ c.if-flat-lt-FRAME.false, lt-ltb (length a.places.now) 5 (omega arith)) (refl, (refl, refl)) }
+    record { value = rw (le-ltb _ _ c.if-flat-lt-FRAME.false, lt-ltb (length a.places.now) 5 (omega arith)) refl; flat_after = rw (le-ltb _ _ c.if-flat-lt-FRAME.false, lt-ltb (length a.places.now) 5 (omega arith)) refl; places_after = rw (le-ltb _ _ c.if-flat-lt-FRAME.false, lt-ltb (length a.places.now) 5 (omega arith)) refl }
 
 pub returns-then-number-ne-ACCEPTED : goal.returns-then-number-ne-ACCEPTED
 returns-then-number-ne-ACCEPTED c =
-    record {
-      value = rw (le-ltb _ _ c.if-flat-lt-FRAME.false, le-ltb _ _ c.if-places-lt-PLACES.false) (
-        rw c.number-number.ensures refl,
-        (rw (← c.number-number.ensures, ne_eqb _ _ c.if-number-ne-ACCEPTED.true) refl, c.put_places.ensures),
-      );
-      flat_after = rw (le-ltb _ _ c.if-flat-lt-FRAME.false, le-ltb _ _ c.if-places-lt-PLACES.false) (
-        rw c.number-number.ensures refl,
-        (rw (← c.number-number.ensures, ne_eqb _ _ c.if-number-ne-ACCEPTED.true) refl, c.put_places.ensures),
-      );
-      places_after = rw (le-ltb _ _ c.if-flat-lt-FRAME.false, le-ltb _ _ c.if-places-lt-PLACES.false) (
-        rw c.number-number.ensures refl,
-        (rw (← c.number-number.ensures, ne_eqb _ _ c.if-number-ne-ACCEPTED.true) refl, c.put_places.ensures),
-      );
-    }
+    record { value = rw (le-ltb _ _ c.if-flat-lt-FRAME.false, le-ltb _ _ c.if-places-lt-PLACES.false) (rw c.number-number.ensures refl); flat_after = rw (le-ltb _ _ c.if-flat-lt-FRAME.false, le-ltb _ _ c.if-places-lt-PLACES.false) (rw (← c.number-number.ensures, ne_eqb _ _ c.if-number-ne-ACCEPTED.true) refl); places_after = rw (le-ltb _ _ c.if-flat-lt-FRAME.false, le-ltb _ _ c.if-places-lt-PLACES.false) (c.put_places.ensures) }
 
 pub returns : goal.returns
 returns c =
-    record {
-      value = rw (le-ltb _ _ c.if-flat-lt-FRAME.false, le-ltb _ _ c.if-places-lt-PLACES.false) (
-        rw c.number-number.ensures refl,
-        (rw (← c.number-number.ensures, eq-eqb _ _ c.if-number-ne-ACCEPTED.false) c.put_frame.ensures, c.put_places.ensures),
-      );
-      flat_after = rw (le-ltb _ _ c.if-flat-lt-FRAME.false, le-ltb _ _ c.if-places-lt-PLACES.false) (
-        rw c.number-number.ensures refl,
-        (rw (← c.number-number.ensures, eq-eqb _ _ c.if-number-ne-ACCEPTED.false) c.put_frame.ensures, c.put_places.ensures),
-      );
-      places_after = rw (le-ltb _ _ c.if-flat-lt-FRAME.false, le-ltb _ _ c.if-places-lt-PLACES.false) (
-        rw c.number-number.ensures refl,
-        (rw (← c.number-number.ensures, eq-eqb _ _ c.if-number-ne-ACCEPTED.false) c.put_frame.ensures, c.put_places.ensures),
-      );
-    }
+    record { value = rw (le-ltb _ _ c.if-flat-lt-FRAME.false, le-ltb _ _ c.if-places-lt-PLACES.false) (rw c.number-number.ensures refl); flat_after = rw (le-ltb _ _ c.if-flat-lt-FRAME.false, le-ltb _ _ c.if-places-lt-PLACES.false) (rw (← c.number-number.ensures, eq-eqb _ _ c.if-number-ne-ACCEPTED.false) c.put_frame.ensures); places_after = rw (le-ltb _ _ c.if-flat-lt-FRAME.false, le-ltb _ _ c.if-places-lt-PLACES.false) (c.put_places.ensures) }
