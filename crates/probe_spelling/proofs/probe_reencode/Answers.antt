@@ -7,7 +7,9 @@ use Rattle.probe_spelling.proofs.probe_reencode.Goals as goal
 pub returns : goal.returns
 returns c =
     let n = c.of_number.ensures in
-    let e = c.reencode-done.ensures in (
-      rw (c.number.ensures, e.0, n) refl,
-      (e.1 ∙ rw n refl, ap (λ (r : Reencoded). r.length) e.0 ∙ rw n refl),
-    )
+    let e = c.reencode-done.ensures in
+    record {
+      value = rw (c.number.ensures, e.value, n) refl;
+      output_after = e.out_after ∙ rw n refl;
+      length_after = ap (λ (r : Reencoded). r.length) e.value ∙ rw n refl;
+    }
