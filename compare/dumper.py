@@ -40,14 +40,14 @@ def works(words, trial):
 
 
 def by_the_kit(program):
-    """Run by the kit's C library and, where the machine is none of x86-64, by its emulator, as README says; None without the kit."""
+    """Run by the kit's C library, in whose folder the page stands that `rt doc` names, and, where the machine is none of x86-64, by the host's
+    emulator; None without the kit."""
     try:
         guide = subprocess.run(['rt', 'doc'], stdout=subprocess.PIPE, stderr=subprocess.DEVNULL, check=False).stdout
     except OSError:
         return None
-    tools = os.path.join(os.fsdecode(guide).strip().partition('/docs/')[0], 'on', platform.machine(), 'toolchain')
-    emulator = [] if platform.machine() == 'x86_64' else [os.path.join(tools, 'bin', 'qemu-x86_64')]
-    library = os.path.join(tools, 'lib')
+    emulator = [] if platform.machine() == 'x86_64' else ['qemu-x86_64']
+    library = os.path.join(os.path.dirname(os.fsdecode(guide).strip()), 'toolchain', 'lib')
     return [*emulator, os.path.join(library, 'ld-linux-x86-64.so.2'), '--library-path', library, program]
 
 

@@ -103,7 +103,7 @@ def not_shown(report):
         'Captures show what the port makes of their frames. What it makes of other frames follows from the proofs, not from captures.',
     ]
     if report['host']['machine'] != 'x86_64':
-        sentences.append("The archive is for x86-64: on this host its code ran by the kit's emulator.")
+        sentences.append("The archive is for x86-64: on this host its code ran by an emulator.")
     if report['skipped']:
         left = many(len(report['skipped']), 'check')
         sentences.append(f"{left} could not be made on this host: see 'Not checked on this host'.")

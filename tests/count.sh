@@ -32,7 +32,8 @@ try() { # WHAT COMMAND..
     fi
 }
 
-# Runs a command that ends with such a count of its own, shows what it prints, and adds the count.
+# Runs a command that ends with such a count of its own, shows what it prints, and adds the count. What it printed is left in counted_log,
+# where that is set to the name of a file.
 counted() { # NAME COMMAND..
     name=$1
     shift
@@ -43,6 +44,7 @@ counted() { # NAME COMMAND..
     } | tee "$count_log"
     last=$(tail -n 1 "$count_log")
     status=$(cat "$count_log.status")
+    [ -z "${counted_log-}" ] || cp "$count_log" "$counted_log"
     rm -f "$count_log" "$count_log.status"
     case $last in
     *[0-9]' passed, '[0-9]*' failed')

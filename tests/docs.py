@@ -57,14 +57,18 @@ def defines(path, name):
 def crates():
     """What crates.txt lists, each with what it rests on."""
     lines = [line.split('#')[0] for line in read('crates.txt').split('\n')]
-    return {line.split(':')[0].strip(): line.split(':')[1].split() for line in lines if ':' in line}
+    return {line.split(':')[0].split()[0]: line.split(':')[1].split() for line in lines if ':' in line}
+
+
+# Each archive that only exports the calls of a library, with that library: a crate is not both.
+EXPORTS = {name: name[: -len('_c')] for name in crates() if name.endswith('_c') and name[: -len('_c')] in crates()}
 
 
 def functions():
     """Every function of the libraries: (crate, type or None, name, public, its text from the head to the body)."""
     for path in sorted(glob.glob('crates/*/src/**/*.rt', recursive=True)):
         crate = path.split('/')[1]
-        if os.path.exists(f'crates/{crate}/src/main.rt'):
+        if os.path.exists(f'crates/{crate}/src/main.rt') or crate in EXPORTS:
             continue
         text = re.sub(r'^\s*//.*$', '', read(path), flags=re.M)
         for head in re.finditer(r'^( *)(pub(?:\(crate\))? )?(?:extern "C" )?fn (\w+)(.*?)\{$', text, re.M | re.S):
@@ -82,6 +86,13 @@ GUARANTEES = sections(read('docs/GUARANTEES.md'))
 ADVERSARY = [row for row in rows(GUARANTEES['Every public function, read as an adversary']) if len(row) == 4]
 
 
+def exported(crate):
+    """The functions that a crate marks for C, by name: the text from the head to the body, and the body."""
+    text = re.sub(r'^\s*//.*$', '', read(f'crates/{crate}/src/lib.rt'), flags=re.M)
+    found = re.findall(r'^#\[unsafe\(no_mangle\)\]\npub extern "C" fn (\w+)(.*?)^\{\n(.*?)^\}$', text, re.M | re.S)
+    return {name: (head, body.strip()) for name, head, body in found}
+
+
 def contracts():
     check(
         f'each of the {len(PUBLIC)} public functions has a contract, and none asks anything of its caller',
@@ -92,6 +103,11 @@ def contracts():
         for file in glob.glob(os.path.dirname(path) + '/**/*.rt', recursive=True):
             shown += [f'{file}: {name}' for name in re.findall(r'^ *pub (?:extern "C" )?fn (\w+)', read(file), re.M)]
     check('the functions of the programs are their own', shown)
+    for archive, library in EXPORTS.items():
+        ours, theirs = exported(archive), exported(library)
+        wrong = sorted(name for name in ours | theirs if ours.get(name, (0, 0))[0] != theirs.get(name, (1, 1))[0])
+        wrong += [f'{name} calls another' for name, (_, body) in ours.items() if not re.fullmatch(rf'{library}::{name}\([\w, ]*\)', body)]
+        check(f"the {len(ours)} calls of {archive} are those of {library}, by name, parameters and contract, and call nothing else", wrong if ours else ['there is none'])
 
 
 def adversary():
@@ -184,10 +200,14 @@ def opened():
     found = set()
     for path in glob.glob('crates/*/proofs/**/*.antt', recursive=True):
         crate, text, owner = path.split('/')[1], read(path), {}
-        for use in re.finditer(r'^(?:pub )?use Rattle·(\w+?)(?:·\w+)?\.[\w.·]*?\{([^}]*)\}', text, re.M):
+        for use in re.finditer(r'^(?:pub )?use Rattle\.(\w+)\.(?:specs|proofs)\.[\w.]*?\{([^}]*)\}', text, re.M):
             owner |= {name.strip().split(' as ')[-1]: use[1] for name in use[2].split(',')}
         for names in re.findall(r'^\s*unfolding\s+(.*)$', text, re.M):
-            found |= {(crate, owner[name]) for name in re.split(r'[,\s]+', names) if owner.get(name, crate) not in (crate, 'octets')}
+            found |= {(crate, owner[name]) for name in re.split(r'[,\s]+', names) if owner.get(name, crate) not in (crate, 'octets', 'std')}
+    for path in glob.glob('crates/*/src/**/*.rt', recursive=True):
+        crate = path.split('/')[1]
+        for names in re.findall(r'\bunfolding\(([^)]*)\)', read(path)):
+            found |= {(crate, name) for name in re.findall(r'(\w+)::(?:specs|proofs)::', names) if name not in ('crate', crate, 'octets', 'std')}
     decision = next(line for line in read('docs/DECISIONS.md').split('\n') if line.startswith('29. '))
     said = re.search(r'A proof unfolds (.*?)\. ', decision + ' ')
     listed = set()
@@ -201,7 +221,8 @@ def layers():
     """README's section on the crates: each stands in the table of its kind, and in the drawing none stands below what it rests on."""
     text = sections(read('README.md'))['The crates']
     listed = crates()
-    product = {'loader', 'dumper', 'follow'} | {name for top in ('loader', 'dumper', 'follow') for name in listed[top] if name in listed}
+    tops = ('loader_c', 'dumper', 'follow')
+    product = {*tops} | {name for top in tops for name in listed[top] if name in listed}
     kinds = {table[0][0]: table[1:] for table in tables(text) if table[0][0] in ('product', 'statements', 'test support')}
     shown = {kind: {name for row in table for name in re.findall(r'`(\w+)`', row[0])} for kind, table in kinds.items()}
     every = [name for names in shown.values() for name in names]
@@ -308,8 +329,8 @@ def rules_cited():
 
 
 # The tables of numbers on docs/RULES.md, in their order, and the definitions whose rows they say in words.
-ROWS = (('demands/Numbers', 'decodeTable'), ('demands/Numbers', 'writeTable'), ('demands/Numbers', 'textTable'), ('demands/Numbers', 'printTable'),
-        ('demands/Relay', 'relayRows', 'dueRows'), ('demands_kiss/Kiss', 'kissReadTable'))
+ROWS = (('demands/Numbers', 'decode_table'), ('demands/Numbers', 'write_table'), ('demands/Numbers', 'text_table'), ('demands/Numbers', 'print_table'),
+        ('demands/Relay', 'relay_rows', 'due_rows'), ('demands_kiss/Kiss', 'kiss_read_table'))
 
 
 def rules_ordered():
@@ -335,7 +356,7 @@ def octet_values():
         if bits.strip('`') not in control or int(re.sub('[rsP]', '0', bits).strip('`').replace(' ', ''), 2) != int(octet, 16):
             wrong.append(f'{kind}: {bits}')
     check(f"the {len(said)} kinds there have the definitions' bits and octets", wrong)
-    named = {name.lower(): octet for name, octet in re.findall(r'^octetOf (\w+) = 0x(\w\w)$', pid, re.M)}
+    named = {name.lower(): octet for name, octet in re.findall(r'^octet_of (\w+) = 0x(\w\w)$', pid, re.M)}
     said = {re.sub(r'\W', '', name).lower(): octet for row in shown['octet'] for octet, name in (row[:2], row[2:4])}
     wrong = [f'{name}: {said.get(name)}, not {named.get(name)}' for name in sorted(said | named) if said.get(name) != named.get(name)]
     check(f"and the {len(said)} PIDs there the definitions' octets", wrong)

@@ -52,6 +52,23 @@ tools_unpack() { # DIR: every package of the folder DIR/debs into DIR/tree
         dpkg-deb -x "$deb" "$1/tree" >>"$tools_dir/apt.log" 2>&1 || return 1
     done
     rm -rf "$1/debs" "$tools_dir/apt/cache/archives"
+    tools_without_links "$1/tree"
+}
+
+# Puts in the place of each link what it leads to, and takes away one that leads nowhere or to a folder that it stands in: `rt ci` refuses a
+# checkout in which there is a link, wherever it is. So packages are unpacked outside it, and moved there without links.
+tools_without_links() { # TREE
+    find "$1" -type l | while IFS= read -r link; do
+        [ -L "$link" ] || continue
+        to=$(readlink -f -- "$link")
+        case $(readlink -- "$link") in /*) [ ! -e "$1$(readlink -- "$link")" ] || to=$(readlink -f -- "$1$(readlink -- "$link")") ;; esac
+        rm -f "$link"
+        case ${link%/*}/ in
+        "$to"/*) ;;
+        *) [ ! -e "$to" ] || cp -RL -- "$to" "$link" 2>/dev/null || : ;;
+        esac
+    done
+    find "$1" -type l -exec rm -f {} +
 }
 
 # Unpacks packages, and all that they rest on and the host lacks, into tools/NAME/tree. A compiler looks for its own parts, headers and
@@ -60,8 +77,8 @@ tools_unpack() { # DIR: every package of the folder DIR/debs into DIR/tree
 tools_unpacked() { # NAME PACKAGE..
     into=$tools_dir/$1
     shift
-    rm -rf "$into.part" "$tools_dir/apt/cache/archives"
-    mkdir -p "$into.part/debs" "$into.part/tree" || return 1
+    part=$(mktemp -d) && rm -rf "$into" "$tools_dir/apt/cache/archives"
+    mkdir -p "$part/debs" "$part/tree" || return 1
     case $into in
     *-x86)
         tools_status=$tools_dir/apt/nothing
@@ -71,9 +88,12 @@ tools_unpacked() { # NAME PACKAGE..
     tools_twice tools_apt --download-only --no-install-recommends install "$@"
     got=$?
     tools_status=
-    [ $got -eq 0 ] && cp "$tools_dir"/apt/cache/archives/*.deb "$into.part/debs/" 2>/dev/null || return 1
-    rm -f "$into.part"/debs/libc6_* "$into.part"/debs/libgcc-s1_* "$into.part"/debs/libstdc++6_*
-    tools_unpack "$into.part" && mv "$into.part" "$into"
+    [ $got -eq 0 ] && cp "$tools_dir"/apt/cache/archives/*.deb "$part/debs/" 2>/dev/null || {
+        rm -rf "$part"
+        return 1
+    }
+    rm -f "$part"/debs/libc6_* "$part"/debs/libgcc-s1_* "$part"/debs/libstdc++6_*
+    tools_unpack "$part" && mv "$part" "$into" && chmod 755 "$into"
 }
 
 # Has packages installed or unpacked.
@@ -137,35 +157,46 @@ tools_pinned() {
     return 1
 }
 
-# KIT: the kit's folder. KIT_TOOLS: that of its compiler, its C library and, on aarch64, its emulator.
+# KIT: the kit's folder, in which the page that `rt doc` names stands. KIT_TOOLS: that of its compiler and its C library.
 need_kit() {
     tools_words=$(tools_rattle) || { tools_say "$tools_words"; return 1; }
     KIT=$(rt doc) || return 1
-    KIT=${KIT%/docs/*}
-    KIT_TOOLS=$KIT/on/$tools_machine/toolchain
-    [ -x "$KIT_TOOLS/bin/clang" ] || { tools_say "the kit at $KIT has no compiler for this machine, $tools_machine"; return 1; }
+    KIT=${KIT%/*}
+    KIT_TOOLS=$KIT/toolchain
+    "$KIT_TOOLS/bin/clang" --version >/dev/null 2>&1 || { tools_say "the kit at $KIT has no compiler for this machine, $tools_machine"; return 1; }
 }
 
-# RUN_X86: the command that runs an x86-64 program that is linked statically.
+# RUN_X86: the command that runs an x86-64 program that is linked statically. The kit is for x86-64 alone, and has no emulator.
 need_run() {
     need_kit || return 1
     case $tools_machine in
     x86_64) RUN_X86=env ;;
     *)
-        RUN_X86=$KIT_TOOLS/bin/qemu-x86_64
-        [ -x "$RUN_X86" ] || { tools_say "the kit at $KIT has no emulator for x86-64 programs"; return 1; }
+        RUN_X86=$(command -v qemu-x86_64) || { tools_say "there is no qemu-x86_64 here, and this machine is $tools_machine"; return 1; }
         ;;
     esac
+}
+
+# Has rt prove a crate that is an archive and make it. A copy stays as target/staticlib/libNAME.a: `rt ci` takes rt's own away.
+tools_archive() { # CRATE NAME
+    (cd "$root/crates/$1" && rt lib) || return 1
+    mkdir -p "$root/target/staticlib" && cp "$root/crates/$1/out/lib$1.a" "$root/target/staticlib/lib$2.a"
 }
 
 # Runs a program that is linked to a C library by the kit's own one, as rt runs the programs that it makes. After need_run.
 run_linked() { "$RUN_X86" "$KIT_TOOLS/lib/ld-linux-x86-64.so.2" --library-path "$KIT_TOOLS/lib" "$@"; }
 
-# NM, OBJDUMP, OBJCOPY, READELF, SIZE: LLVM's, which the kit's compiler is too when it is called by their names.
+# NM, OBJDUMP, OBJCOPY, READELF, SIZE: LLVM's, which the kit's compiler is too when it is called by their names. Links would do as well, but
+# `rt ci` refuses a checkout with one.
 need_llvm() {
-    need_kit && tools_folder || return 1
+    need_kit && need_python && tools_folder || return 1
     for tool in nm objdump objcopy readelf size; do
-        ln -sf "$KIT_TOOLS/bin/clang" "$tools_dir/bin/llvm-$tool" || return 1
+        [ ! -L "$tools_dir/bin/llvm-$tool" ] || rm -f "$tools_dir/bin/llvm-$tool"
+        cat >"$tools_dir/bin/llvm-$tool" <<WRAPPER || return 1
+#!/bin/sh
+exec "$PYTHON" -ISc 'import os, sys; os.execv(sys.argv[1], sys.argv[2:])' "$KIT_TOOLS/bin/clang" llvm-$tool "\$@"
+WRAPPER
+        chmod +x "$tools_dir/bin/llvm-$tool" || return 1
     done
     NM=$tools_dir/bin/llvm-nm OBJDUMP=$tools_dir/bin/llvm-objdump OBJCOPY=$tools_dir/bin/llvm-objcopy READELF=$tools_dir/bin/llvm-readelf SIZE=$tools_dir/bin/llvm-size
     "$NM" --version >/dev/null 2>&1 || { tools_say "the kit's compiler is not llvm-nm, llvm-objdump, llvm-objcopy, llvm-readelf and llvm-size too"; return 1; }
@@ -244,9 +275,8 @@ tools_rust_works() { # RUSTC [WORDS..]
 tools_fetch_rust() {
     tools_can_fetch 'rustc with the target x86_64-unknown-linux-gnu' || return 1
     tools_say "unpacking rustc-web and its x86-64 library into $tools_dir/rust (about 400 MB)"
-    into=$tools_dir/rust.part
-    rm -rf "$into" "$tools_dir/rust" "$tools_dir/apt/cache/archives"
-    mkdir -p "$into/debs" "$into/tree"
+    into=$(mktemp -d) && rm -rf "$tools_dir/rust" "$tools_dir/apt/cache/archives"
+    mkdir -p "$into/debs" "$into/tree" || return 1
     tools_apt update >>"$tools_dir/apt.log" 2>&1
     (
         cd "$into/debs" || exit 1
@@ -256,7 +286,8 @@ tools_fetch_rust() {
         [ -n "$library" ] || exit 1
         tools_apt --download-only --no-install-recommends install "$library" >>"$tools_dir/apt.log" 2>&1 || exit 1
         cp "$tools_dir"/apt/cache/archives/*.deb .
-    ) && tools_unpack "$into" && mv "$into" "$tools_dir/rust" && return
+    ) && tools_unpack "$into" && mv "$into" "$tools_dir/rust" && chmod 755 "$tools_dir/rust" && return
+    rm -rf "$into"
     tools_say "missing: rustc with the target x86_64-unknown-linux-gnu; and it could not be fetched ($tools_dir/apt.log says why)"
     return 1
 }

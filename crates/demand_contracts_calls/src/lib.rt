@@ -53,7 +53,7 @@ pub fn canonical(input: &[u8]) -> u32
 
 // Document 02, M-110: 0 exactly when some plain frame spells the input in that mode; a number below 5, and no number and no place beside it,
 // where the input is accepted; else 5, with the number of the first row of the table that holds. Which of the numbers below 5, and which place,
-// is as `whyOf` says.
+// is as `why_of` says.
 pub fn told(input: &[u8], mode: u32, number: &mut u32, place: &mut usize) -> u32
     ensures variant { (result ≡ 0) ↔ Spelled (mode_of mode) input.now }
     ensures upper_bound { is_accepted (decode (mode_of mode) input.now).answer ≡ true → (result < 5) × (number.new ≡ 0) × (place.new ≡ 0) }
