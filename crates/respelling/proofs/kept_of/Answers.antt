@@ -2,7 +2,6 @@
 use mathlib.Core.Path.{◌≡◌, sym, ◌∙◌}
 use mathlib.Core.Bool.{false}
 use Rattle.content.specs.Spell.{has_info}
-use borrow.Author.Rules.{rules}
 use Rattle.respelling.proofs.kept_of.Goals as goal
 
 pub returns : goal.returns

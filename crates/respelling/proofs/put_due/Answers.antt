@@ -4,14 +4,12 @@ use mathlib.Core.List.{List}
 use mathlib.Core.Path.{◌≡◌, refl, ap, ◌∙◌}
 use native.Mathlib.Omega.{arith}
 use lib.ListN.{length}
-use Rattle.octets.specs.Octet.{Octets}
 use Rattle.octets.proofs.Splice.{splice-length}
 use Rattle.content.specs.Spell.{front}
 use Rattle.control.specs.declared.Mode.{Mode}
 use Rattle.content.specs.declared.FrameContent.{FrameContent}
-use Rattle.frame.specs.Write.{Taken}
 use Rattle.frame.proofs.Write.{field_room, content-put}
-use Rattle.decode.specs.Read.{end_of, decode, info_in}
+use Rattle.decode.specs.Read.{end_of, decode}
 use Rattle.decode.specs.declared.Outline.{Outline}
 use Rattle.decode.proofs.Whole.{outline_end}
 use Rattle.grammar.specs.Kept.{kept_of}
@@ -20,16 +18,7 @@ use Rattle.grammar.proofs.Parts.{parts}
 use Rattle.respelling.proofs.Laws.{due-accepted, due_taken}
 use borrow.Author.Rules.{rules}
 use Rattle.respelling.proofs.put_due.Goals as goal
-use Rattle.respelling.proofs.put_due.Goals.{After-encode-arg-1, After-front_len, After-shared_slice_known-1}
-
-octets : (c : After-shared_slice_known-1) → Octets c.args.bytes.now
-octets c k = search rules
-
--- what writing takes
-taken : (c : After-shared_slice_known-1) →
-    let a = c.args in
-    Taken a.mode (decode a.mode a.bytes.now).frame (info_in a.bytes.now (decode a.mode a.bytes.now)) (length a.out.now)
-taken c = let p = c.requires in due_taken _ _ _ (octets c) p.0 p.4
+use Rattle.respelling.proofs.put_due.Goals.{After-front_len}
 
 -- the numbers of the outline, the length of what stands before the info, and how much is kept
 pub record Numbers (m : Mode) (s : List ℕ) (b : Outline) (f n : ℕ) : Type 0 where
@@ -39,8 +28,8 @@ pub record Numbers (m : Mode) (s : List ℕ) (b : Outline) (f n : ℕ) : Type 0 
   pub kept : n ≡ kept_of m (decode m s).frame.content (length s - (end_of s + 1))
 
 numbers : (c : After-front_len) →
-    let c = c.args in
-    Numbers c.mode c.bytes.now c.outline c.front_len.result c.kept
+    let a = c.args in
+    Numbers a.mode a.bytes.now a.outline c.front_len.result a.kept
 numbers c =
     let p = c.requires in
     record {
@@ -56,19 +45,19 @@ bounds : (c : After-front_len) →
     (a.outline.end + 1 + c.front_len.result ≤ a.outline.end + 1 + a.kept) × (a.outline.end + 1 + a.kept ≤ length a.bytes.now)
 bounds c =
     let n = numbers c in
-    let d = parts _ _ (octets c) c.requires.0 in
+    let d = parts _ _ (λ k. search rules) c.requires.0 in
     (omega (arith, n.front, n.kept, d.before), omega (arith, n.end, n.kept, d.kept))
 
 -- what is left of the output starts inside it
-room : (c : After-encode-arg-1) → 14 + 7 * c.args.outline.route_count ≤ length c.put_addresses.new.1.0
+room : (c : After-front_len) → 14 + 7 * c.args.outline.route_count ≤ length c.put_addresses.new.out
 room c =
-    rw (c.put_addresses.ensures, splice-length, (numbers c).count)
-    (field_room _ _ _ c.args.out.now (taken c))
+    let t = due_taken _ _ _ (λ k. search rules) c.requires.0 c.requires.4 in
+    rw (c.put_addresses.ensures, splice-length, (numbers c).count) (field_room _ _ _ c.args.out.now t)
 
 pub put_addresses-requires : goal.put_addresses-requires
 put_addresses-requires c =
     let count = ap (λ (b : Outline). b.route_count) c.requires.1 in
-    (c.requires.0, count, rw count (field_room _ _ _ c.args.out.now (taken (goal.at.put_addresses-requires c).After-shared_slice_known-1)))
+    (c.requires.0, count, rw count (field_room _ _ _ c.args.out.now (due_taken _ _ _ (λ k. search rules) c.requires.0 c.requires.4)))
 
 pub overflow_add-control : goal.overflow_add-control
 overflow_add-control c =
@@ -107,11 +96,11 @@ slice_bounds-encode-end c =
     search rules
 
 pub slice_bounds-encode-count-2 : goal.slice_bounds-encode-count-2
-slice_bounds-encode-count-2 c = room (goal.at.slice_bounds-encode-count-2 c).After-encode-arg-1
+slice_bounds-encode-count-2 c = room (goal.at.slice_bounds-encode-count-2 c).After-front_len
 
 pub slice_bounds-encode-start-2 : goal.slice_bounds-encode-start-2
 slice_bounds-encode-start-2 c =
-    let h = room (goal.at.slice_bounds-encode-start-2 c).After-encode-arg-1 in
+    let h = room (goal.at.slice_bounds-encode-start-2 c).After-front_len in
     search rules
 
 pub returns : goal.returns
@@ -120,9 +109,9 @@ returns c =
     let n = numbers (goal.at.returns c).After-front_len in
     let m : Mode = c.args.mode in
     let s : List ℕ = c.args.bytes.now in
-    let d = parts m s (octets (goal.at.returns c).After-shared_slice_known-1) c.requires.0 in
+    let d = parts m s (λ k. search rules) c.requires.0 in
     let f = c.front_len.result in
     let part : c.args.outline.end + 1 + c.args.kept - (c.args.outline.end + 1 + f) ≡ (decode m s).info_len = omega (arith, n.front, n.kept, d.carried) in
     let from : c.args.outline.end + 1 + f ≡ end_of s + 1 + length (front m (decode m s).frame.content) = omega (arith, n.front, n.end) in
     rw (e, part, from, ← d.info, c.put_addresses.ensures, c.requires.2, n.count, due-accepted m s c.requires.0)
-    (content-put _ _ _ c.args.out.now (taken (goal.at.returns c).After-shared_slice_known-1))
+    (content-put _ _ _ c.args.out.now (due_taken _ _ _ (λ k. search rules) c.requires.0 c.requires.4))

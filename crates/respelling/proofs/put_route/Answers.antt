@@ -1,12 +1,9 @@
-use Prim.Native.Nat.{◌+◌, ◌-◌, ◌≤◌}
+use Prim.Native.Nat.{◌+◌}
 use mathlib.Core.Path.{◌≡◌, sym, ◌∙◌}
 use native.Mathlib.Omega.{arith}
 use lib.Dec.{eqb}
-use Rattle.octets.specs.Splice.{splice}
 use Rattle.octets.proofs.Splice.{splice_none, splice-length}
-use Rattle.frame.specs.Spell.{groups_of}
 use Rattle.frame.proofs.Write.{groups_none, groups-more}
-use Rattle.decode.specs.Read.{route_at}
 use Rattle.respelling.proofs.Laws.{repeater-again}
 use borrow.Author.Rules.{rules}
 use Rattle.respelling.proofs.put_route.Goals as goal

@@ -1,25 +1,27 @@
 -- Nothing of a refused input; of an accepted one the address field and what is kept of the content.
-use Prim.Native.Nat.{ℕ, ◌+◌, ◌*◌}
+use Prim.Native.Nat.{ℕ, ◌+◌, ◌-◌, ◌*◌}
 use mathlib.Core.Path.{◌≡◌, refl, ap, sym, ◌∙◌}
 use mathlib.Core.Bool.{true}
 use native.Mathlib.Omega.{arith}
 use lib.ListN.{length}
 use Rattle.octets.specs.Octet.{Octets}
+use Rattle.content.specs.declared.FrameContent.{FrameContent}
 use Rattle.decode.specs.Answer.{is_accepted}
 use Rattle.decode.specs.Outline.{outline_of}
 use Rattle.decode.specs.Read.{end_of, decode}
 use Rattle.decode.specs.declared.Outline.{Outline}
 use Rattle.decode.proofs.Read.{told-refused}
 use Rattle.decode.proofs.Whole.{outline_end}
+use Rattle.grammar.specs.Kept.{kept_of}
 use Rattle.grammar.proofs.Marks.{Route, route}
 use Rattle.respelling.specs.Reencode.{due}
 use Rattle.respelling.proofs.Laws.{due-refused, due-length, due_fits}
 use borrow.Author.Rules.{rules}
 use Rattle.respelling.proofs.reencoded_length.Goals as goal
-use Rattle.respelling.proofs.reencoded_length.Goals.{After-kept_of, After-outline_of-outline, In-Accepted}
+use Rattle.respelling.proofs.reencoded_length.Goals.{In-Accepted}
 
 -- the outline's answer is decoding's
-answered : (c : After-outline_of-outline) → c.outline_of-outline.result.answer ≡ (decode c.args.mode c.args.bytes.now).answer
+answered : (c : In-Accepted) → c.outline_of-outline.result.answer ≡ (decode c.args.mode c.args.bytes.now).answer
 answered c = ap (λ (o : Outline). o.answer) c.outline_of-outline.ensures
 
 accepted : (c : In-Accepted) → is_accepted (decode c.args.mode c.args.bytes.now).answer ≡ true
@@ -39,15 +41,16 @@ ends : (c : In-Accepted) → c.outline_of-outline.result.end ≡ end_of c.args.b
 ends c = ap (λ (o : Outline). o.end) (told c) ∙ outline_end _ _ (accepted c)
 
 -- the sum is the length
-whole : (c : After-kept_of) →
-    14 + 7 * c.outline_of-outline.result.route_count + c.kept_of.result ≡ length (due c.args.mode c.args.bytes.now)
-whole c =
-    due-length _ _ _ _ _ (octets c) (accepted c) (told c) c.content_at-content.ensures c.kept_of.ensures
+whole : (c : In-Accepted) (k : FrameContent) (n : ℕ) → k ≡ (decode c.args.mode c.args.bytes.now).frame.content
+    → n ≡ kept_of c.args.mode k (length c.args.bytes.now - (c.outline_of-outline.result.end + 1))
+    → 14 + 7 * c.outline_of-outline.result.route_count + n ≡ length (due c.args.mode c.args.bytes.now)
+whole c k n p q = due-length _ _ _ _ _ (octets c) (accepted c) (told c) p q
 
 pub returns-in_default : goal.returns-in_default
 returns-in_default c =
     let f = c.outline_of-outline in
-    sym (ap length (due-refused _ _ (rw (← answered (goal.at.returns-in_default c).After-outline_of-outline) (told-refused f.result.answer c.in_default.keys2))))
+    let same = ap (λ (o : Outline). o.answer) f.ensures in
+    sym (ap length (due-refused _ _ (rw (← same) (told-refused f.result.answer c.in_default.not-Accepted))))
 
 pub overflow_add-control : goal.overflow_add-control
 overflow_add-control c = rw (ends (goal.at.overflow_add-control c).In-Accepted) (omega (arith, (within (goal.at.overflow_add-control c).In-Accepted).end_in))
@@ -65,7 +68,7 @@ pub overflow_sub-bytes : goal.overflow_sub-bytes
 overflow_sub-bytes c = rw (ends (goal.at.overflow_sub-bytes c).In-Accepted) (omega (arith, (within (goal.at.overflow_sub-bytes c).In-Accepted).end_in))
 
 pub overflow_add-result-2 : goal.overflow_add-result-2
-overflow_add-result-2 c = omega (arith, whole (goal.at.overflow_add-result-2 c).After-kept_of, due_fits _ _ (octets (goal.at.overflow_add-result-2 c).In-Accepted) (accepted (goal.at.overflow_add-result-2 c).In-Accepted))
+overflow_add-result-2 c = omega (arith, whole (goal.at.overflow_add-result-2 c).In-Accepted _ _ c.content_at-content.ensures c.kept_of.ensures, due_fits _ _ (octets (goal.at.overflow_add-result-2 c).In-Accepted) (accepted (goal.at.overflow_add-result-2 c).In-Accepted))
 
 pub returns : goal.returns
-returns c = whole (goal.at.returns c).After-kept_of
+returns c = whole (goal.at.returns c).In-Accepted _ _ c.content_at-content.ensures c.kept_of.ensures
