@@ -1,9 +1,9 @@
 -- The part's outline has decoding's answer, and there is no reason against it exactly where the part is canonical.
-use Prim.Native.Nat.{ℕ, ◌+◌, ◌-◌, ◌≤◌}
+use Prim.Native.Nat.{ℕ, ◌+◌, ◌-◌}
 use mathlib.Core.Path.{◌≡◌, refl, ap}
 use mathlib.Core.List.{List}
 use native.Mathlib.Omega.{arith}
-use lib.ListN.{length, take, drop}
+use lib.ListN.{take, drop}
 use Rattle.octets.specs.Octet.{Octets}
 use Rattle.octets.proofs.Octet.{octets-take, octets-drop}
 use Rattle.reason.specs.declared.Judged.{Judged}
@@ -12,16 +12,12 @@ use Rattle.captures.specs.Capture.{part_of, answered}
 use Rattle.captures.proofs.Laws.{inside-ends}
 use borrow.Author.Rules.{rules}
 use Rattle.captures.proofs.answered.Goals as goal
-use Rattle.captures.proofs.answered.Goals.{After-struct_known-1}
-
-ends : (c : After-struct_known-1) → let a = c.args in a.capture.start + a.capture.length ≤ length a.input.now
-ends c = inside-ends _ _ c.requires
 
 pub overflow_add-end : goal.overflow_add-end
-overflow_add-end c = omega (arith, ends (goal.at.overflow_add-end c).After-struct_known-1)
+overflow_add-end c = omega (arith, inside-ends _ _ c.requires)
 
 pub slice_bounds-part-end : goal.slice_bounds-part-end
-slice_bounds-part-end c = ends (goal.at.slice_bounds-part-end c).After-struct_known-1
+slice_bounds-part-end c = inside-ends _ _ c.requires
 
 pub kind_by-requires : goal.kind_by-requires
 kind_by-requires c = ap (λ (j : Judged). j.outline) c.judge-judged.ensures

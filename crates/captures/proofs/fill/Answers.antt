@@ -10,8 +10,7 @@ loop-i-init c = (omega arith, sym (after_none (filled c.args.mode c.args.input.n
 pub loop-i-preserved : goal.loop-i-preserved
 loop-i-preserved c =
     let f = filled c.args.mode c.args.input.now in
-    let k = after-length f c.loop-i.i c.args.records.now in
-    (
+    let k = after-length f c.loop-i.i c.args.records.now in (
       omega arith,
       rw (c.filled.ensures, add-one, c.loop-i.invariant.1) (after_next f c.loop-i.i c.args.records.now _),
     )

@@ -1,16 +1,19 @@
 -- A refused part has the default frame. Of an accepted one the outline has the end, and the content behind it, which is accepted too, is the
 -- frame's.
-use Prim.Native.Nat.{◌+◌, ◌≤◌}
+use Prim.Native.Nat.{ℕ, ◌+◌, ◌≤◌}
 use mathlib.Core.Path.{◌≡◌, refl, ap, sym, ◌∙◌}
 use mathlib.Core.Bool.{true, false, false≢true}
+use mathlib.Core.List.{List}
 use native.Mathlib.Omega.{arith}
 use lib.ListN.{length}
-use Rattle.octets.specs.Octet.{Octets}
 use Rattle.octets.proofs.Splice.{part_from}
+use Rattle.control.specs.declared.Mode.{Mode}
 use Rattle.parse.specs.declared.ContentAnswer.{ContentAnswer}
 use Rattle.parse.specs.declared.ContentAnswer.TheVariants.{Accepted}
 use Rattle.frame.specs.declared.Ax25Frame.{Ax25Frame}
 use Rattle.decode.specs.Answer.{is_accepted}
+use Rattle.decode.specs.declared.DecodeAnswer.TheVariants as read
+use Rattle.decode.specs.Outline.{outline_of}
 use Rattle.decode.specs.Read.{end_of, refusal_of, decode}
 use Rattle.decode.specs.declared.Outline.{Outline}
 use Rattle.decode.proofs.Accepts.{accepts}
@@ -20,47 +23,45 @@ use Rattle.grammar.proofs.Parts.{parts}
 use Rattle.captures.specs.Capture.{kind_of}
 use borrow.Author.Rules.{rules}
 use Rattle.captures.proofs.kind_by.Goals as goal
-use Rattle.captures.proofs.kind_by.Goals.{After-parse_content-read, After-shared_slice_known-1, After-struct_known-1}
+use Rattle.captures.proofs.kind_by.Goals.{After-parse_content-read}
 
-octets : (c : After-shared_slice_known-1) → Octets c.args.part.now
-octets c k = search rules
+-- of an outline that accepts: the part is accepted, and its address field ends where the outline says, inside it
+module _ (m : Mode) (s : List ℕ) (o : Outline) (e : o ≡ outline_of m s) (is : o.answer ≡ read.Accepted) where
+  accepted : is_accepted (decode m s).answer ≡ true
+  accepted = rw (← ap (λ (o : Outline). o.answer) e) (rw is refl)
 
-accepted : (c : After-struct_known-1) →
-    let a = c.args in
-    is_accepted (decode a.mode a.part.now).answer ≡ true
-accepted c =
-    rw (← ap (λ (o : Outline). o.answer) c.requires) (rw c.in-Accepted.is refl)
+  end-told : o.end ≡ end_of s
+  end-told = ap (λ (o : Outline). o.end) e ∙ rw accepted refl
 
-end-told : (c : After-struct_known-1) → let a = c.args in a.outline.end ≡ end_of a.part.now
-end-told c = ap (λ (o : Outline). o.end) c.requires ∙ rw (accepted c) refl
-
-ends : (c : After-struct_known-1) → let a = c.args in a.outline.end + 1 ≤ length a.part.now
-ends c = rw (end-told c) (omega (arith, (accepts _ _ (accepted c)).end_in))
+  ends : o.end + 1 ≤ length s
+  ends = rw end-told (omega (arith, (accepts m s accepted).end_in))
 
 -- the content that was read is the frame's
 content-read : (c : After-parse_content-read) →
     let a = c.args in
     c.parse_content-read.result ≡ Accepted (decode a.mode a.part.now).frame.content
 content-read c =
-    c.parse_content-read.ensures ∙ simp (part_from, end-told c) (parts _ _ (octets c) (accepted c)).content
+    let end = end-told _ _ _ c.requires c.in-Accepted.is in
+    let known = accepted _ _ _ c.requires c.in-Accepted.is in
+    c.parse_content-read.ensures ∙ simp (part_from, end) (parts _ _ (λ k. search rules) known).content
 
 pub returns-in_default : goal.returns-in_default
 returns-in_default c =
     let refused : is_accepted (decode c.args.mode c.args.part.now).answer ≡ false =
-    rw (← ap (λ (o : Outline). o.answer) c.requires) (told-refused c.args.outline.answer c.in_default.keys2) in
+    rw (← ap (λ (o : Outline). o.answer) c.requires) (told-refused c.args.outline.answer c.in_default.not-Accepted) in
     c.default_kind.ensures ∙ ap (λ (f : Ax25Frame). kind_of f.content) (sym (refused_parts _ _ refused).0)
 
 pub overflow_add-control : goal.overflow_add-control
-overflow_add-control c = omega (arith, ends (goal.at.overflow_add-control c).After-struct_known-1)
+overflow_add-control c = omega (arith, ends _ _ _ c.requires c.in-Accepted.is)
 
 pub slice_bounds-parse_content-count : goal.slice_bounds-parse_content-count
-slice_bounds-parse_content-count c = ends (goal.at.slice_bounds-parse_content-count c).After-struct_known-1
+slice_bounds-parse_content-count c = ends _ _ _ c.requires c.in-Accepted.is
 
 pub slice_bounds-parse_content-start : goal.slice_bounds-parse_content-start
-slice_bounds-parse_content-start c = ends (goal.at.slice_bounds-parse_content-start c).After-struct_known-1
+slice_bounds-parse_content-start c = ends _ _ _ c.requires c.in-Accepted.is
 
 pub returns-in_default-read : goal.returns-in_default-read
-returns-in_default-read c = absurd (false≢true (sym (told-content c.parse_content-read.result c.in_default-read.keys2) ∙ ap (λ (a : ContentAnswer). is_accepted (refusal_of a)) (content-read (goal.at.returns-in_default-read c).After-parse_content-read)))
+returns-in_default-read c = absurd (false≢true (sym (told-content c.parse_content-read.result c.in_default-read.not-Accepted) ∙ ap (λ (a : ContentAnswer). is_accepted (refusal_of a)) (content-read (goal.at.returns-in_default-read c).After-parse_content-read)))
 
 pub returns : goal.returns
 returns c =

@@ -1,7 +1,6 @@
 -- There is none where its code is 0.
 use mathlib.Core.Path.{refl}
 use borrow.Author.Tests.{ne_eqb}
-use borrow.Author.Rules.{rules}
 use Rattle.captures.proofs.one_if_none.Goals as goal
 
 pub returns-then-code-eq0 : goal.returns-then-code-eq0
