@@ -1,7 +1,6 @@
 use mathlib.Core.Path.{refl}
 use Rattle.octets.proofs.Splice.{splice-length}
 use Rattle.words.proofs.Put.{behind-most}
-use borrow.Author.Rules.{rules}
 use Rattle.following.proofs.begin.Goals as goal
 
 pub returns : goal.returns
@@ -10,4 +9,8 @@ returns c =
     let refused = c.refused_by-number.ensures in
     let first = c.from_str-first.ensures in
     let second = c.from_str-second.ensures in
-    (rw (← first, ← second, ← refused, ← c.fresh-link.ensures, ← put.1) refl, (rw (← first, ← second, ← refused) put.0, rw (put.0, put.1, splice-length) (behind-most _ _)))
+    record {
+      value = rw (← first, ← second, ← refused, ← c.fresh-link.ensures, ← put.value) refl;
+      out_after = rw (← first, ← second, ← refused) put.out_after;
+      length_in_bounds = rw (put.out_after, put.value, splice-length) (behind-most _ _);
+    }

@@ -1,7 +1,6 @@
-use mathlib.Core.Path.{refl, sym, ◌∙◌}
+use mathlib.Core.Path.{refl}
 use borrow.Author.Tests.{eq-eqb, ne_eqb}
 use Rattle.following.specs.Following.{refused_by}
-use borrow.Author.Rules.{rules}
 use Rattle.following.proofs.refused_by.Goals as goal
 
 pub returns-then-number-ne0 : goal.returns-then-number-ne0

@@ -1,22 +1,16 @@
 -- The text is made in a buffer that always holds it, and then written as a whole.
 use Prim.Native.Nat.{◌+◌, ◌≤◌, ◌<◌}
-use mathlib.Core.Path.{◌≡◌, refl, sym, ◌∙◌}
+use mathlib.Core.Path.{refl, sym, ◌∙◌}
 use native.Mathlib.Nat.{zero-add}
 use native.Mathlib.Omega.{arith}
+use borrow.Author.Rules.{rules}
 use lib.ListN.{length}
 use lib.Seq.{length-take-le}
 use Rattle.octets.proofs.Splice.{splice_out, splice-length}
 use Rattle.words.proofs.Put.{behind_in, behind_out}
 use Rattle.following.specs.Following.{totals_text}
-use Rattle.following.proofs.Laws.{Made, first_short, last-short, made}
-use borrow.Author.Rules.{rules}
+use Rattle.following.proofs.Laws.{first_short, last-short, made}
 use Rattle.following.proofs.totals.Goals as goal
-use Rattle.following.proofs.totals.Goals.{After-put_last-length}
-
-whole : (c : After-put_last-length) → let g = c.args in Made c.put_last-length.new.0 c.put_last-length.result (totals_text g.link g.dropped)
-whole c =
-    let g = c.args in
-    made g.link g.dropped _ c.put_first-at.ensures c.put_last-length.ensures (search rules)
 
 pub put_first-at-requires : goal.put_first-at-requires
 put_first-at-requires c = omega (arith, first_short c.args.link)
@@ -30,22 +24,26 @@ put_last-length-requires c =
 pub returns-then-out-length : goal.returns-then-out-length
 returns-then-out-length c =
     let g = c.args in
-    let n = (whole (goal.at.returns-then-out-length c).After-put_last-length).long in
+    let n = (made g.link g.dropped _ c.put_first-at.ensures c.put_last-length.ensures (search rules)).long in
     let t = totals_text g.link g.dropped in
     let h : length g.out.now < 0 + length t = omega (arith, n, c.if-out-length.true) in
-    (sym (behind_out _ _ t h), (sym (splice_out _ _ t h), omega arith))
+    record { value = sym (behind_out _ _ t h); out_after = sym (splice_out _ _ t h); upper_bound = omega arith }
 
 pub slice_bounds-text-end : goal.slice_bounds-text-end
-slice_bounds-text-end c = (whole (goal.at.slice_bounds-text-end c).After-put_last-length).within
+slice_bounds-text-end c = (made c.args.link c.args.dropped _ c.put_first-at.ensures c.put_last-length.ensures (search rules)).within
 
 pub slice_bounds-put-end : goal.slice_bounds-put-end
-slice_bounds-put-end c = sym (length-take-le _ _ (whole (goal.at.slice_bounds-put-end c).After-put_last-length).within)
+slice_bounds-put-end c = sym (length-take-le _ _ (made c.args.link c.args.dropped _ c.put_first-at.ensures c.put_last-length.ensures (search rules)).within)
 
 pub returns : goal.returns
 returns c =
     let g = c.args in
-    let w = whole (goal.at.returns c).After-put_last-length in
+    let w = made g.link g.dropped _ c.put_first-at.ensures c.put_last-length.ensures (search rules) in
     let put = c.put.ensures in
     let t = totals_text g.link g.dropped in
     let h : 0 + length t ≤ length g.out.now = omega (arith, w.long, c.if-out-length.false) in
-    (w.long ∙ sym (behind_in _ 0 t h ∙ zero-add (length t)), (put ∙ rw w.text refl, rw (put, splice-length, w.long) (omega (arith, h))))
+    record {
+      value = w.long ∙ sym (behind_in _ 0 t h ∙ zero-add (length t));
+      out_after = put ∙ rw w.text refl;
+      upper_bound = rw (put, splice-length, w.long) (omega (arith, h));
+    }
