@@ -91,7 +91,7 @@ def judged(report):
 
 def not_shown(report):
     """What no run of this command can show, and what this one did not."""
-    assumed = ', '.join(report['assumed']) or 'none'
+    assumed = '; '.join(report['assumed']) or 'none'
     sentences = [
         'The checker and its logic are what proves. kit.txt pins their sum, and no run of them shows that they are right.',
         'The definitions in crates/*/specs/ say what is proved. A wrong definition would prove a wrong program: they are to be read.',
@@ -349,7 +349,7 @@ def proved(report):
     versions = report['wrong_versions_refused']
     return [Heading('The proofs'), Items([
         f"Proved: {many(len(report['crates']), 'crate')}, {many(report['functions'], 'function')}.",
-        f"Assumed: {many(len(report['assumed']), 'function')} of C, by programs alone: {', '.join(report['assumed']) or 'none'}.",
+        f"Assumed of functions of C, by programs alone: {'; '.join(report['assumed']) or 'none'}.",
         f"Wrong versions refused: {len(versions)}.",
         checks(report['checks']),
     ])]
@@ -375,8 +375,8 @@ def appendices(report):
         about = Paragraph('At most, in octets, by the code of the archive.')
         found.append(('stack', [about, Table(['call', 'octets'], list(report['stack'].items()))]))
     if report['crates']:
-        rows = [(crate['crate'], crate['functions'], crate['seconds']) for crate in report['crates']]
-        found.append(('the crates', [Table(['crate', 'functions', 'seconds'], rows)]))
+        rows = [(crate['crate'], crate['functions']) for crate in report['crates']]
+        found.append(('the crates', [Table(['crate', 'functions'], rows)]))
     if report['wrong_versions_refused']:
         found.append(('the wrong versions that were refused', [Paragraph(', '.join(report['wrong_versions_refused']) + '.')]))
     out = []

@@ -6,7 +6,7 @@ import re
 
 import verdict
 
-SCHEMA = 1
+SCHEMA = 2
 # Too little room is lent by the comparison itself, to whatever it writes: no frame brings it along.
 PROVOKED = ('B4',)
 
@@ -28,26 +28,28 @@ def parsed(folder, name):
 
 
 def proved(log):
-    """The crates in the log's order, each with its functions, its assumed C functions and the seconds that it took."""
+    """The crates in the log's order, each with its functions and what its proof assumes of C, a line for each library: what rt says of a crate
+    stands under its name."""
     crates, functions, assumed = {}, 0, []
     for line in log.splitlines():
-        if found := re.match(r'logic=proved functions=(\d+)', line):
-            functions = int(found[1])
-        elif found := re.match(r'axioms \w+: (.*) \(\d+ of the \d+ declared\)', line):
-            assumed += found[1].replace(',', ' ').split()
-        elif found := re.match(r'rt: (\w+) proved \((\d+) s\)$', line):
-            crates.setdefault(found[1], {'crate': found[1], 'functions': functions, 'assumed': assumed, 'seconds': int(found[2])})
+        if line.startswith('== '):
             functions, assumed = 0, []
+        elif found := re.match(r'logic=proved .*?\bfunctions=(\d+)', line):
+            functions = int(found[1])
+        elif found := re.match(r'axioms (\w+: .* \(\d+ of the \d+ declared\))$', line):
+            assumed.append(found[1])
+        elif found := re.match(r'rt: (\w+) proved$', line):
+            crates.setdefault(found[1], {'crate': found[1], 'functions': functions, 'assumed': assumed})
     return list(crates.values())
 
 
 def crates_of(root):
     """The crates that crates.txt lists."""
-    return re.findall(r'^([A-Za-z_]\w*)\s*:', text(root, 'crates.txt') or '', re.M)
+    return re.findall(r'^([A-Za-z_]\w*)(?: +staticlib)?\s*:', text(root, 'crates.txt') or '', re.M)
 
 
 def wrong_versions_of(root):
-    """Every wrong version that the checker has to refuse, as rt names it."""
+    """Every wrong version that the checker has to refuse, by its crate and its name."""
     paths = glob.glob(os.path.join(glob.escape(root), 'crates/*/must-fail/*.edit'))
     return sorted(f"{path.split('/')[-3]}/{os.path.basename(path)[:-len('.edit')]}" for path in paths)
 
@@ -121,7 +123,7 @@ def collect(root, folder, run):
     """`run` has what is known beside the folder: component, version, times, host, kit, compilers, sources, rust_crate, delivered, samples."""
     log = text(folder, 'test.log') or ''
     crates, owed_crates = proved(log), crates_of(root)
-    refused, owed_versions = set(re.findall(r'^rt: must-fail (\S+): refused', log, re.M)), wrong_versions_of(root)
+    refused, owed_versions = set(re.findall(r'^rt: must-fail (\S+?)\.edit: refused', log, re.M)), wrong_versions_of(root)
     compared, captures, bench = (parsed(folder, name) for name in ('compared.json', 'captures.json', 'bench.json'))
     report = {
         'schema': SCHEMA,
@@ -133,7 +135,7 @@ def collect(root, folder, run):
         'crates': crates,
         'crates_unproved': sorted(set(owed_crates) - {crate['crate'] for crate in crates}),
         'functions': sum(crate['functions'] for crate in crates),
-        'assumed': sorted({name for crate in crates for name in crate['assumed']}),
+        'assumed': [f"{crate['crate']}: {line}" for crate in crates for line in crate['assumed']],
         'wrong_versions_refused': sorted(refused),
         'wrong_versions_left': [label for label in owed_versions if label not in refused],
         'compared': compared,

@@ -52,17 +52,17 @@ class Progress:
 class TestLog:
     """The log of ./test, as it grows."""
 
-    PROVED = re.compile(r'rt: \w+ proved \(')
-    REFUSED = re.compile(r'rt: must-fail \S+: refused')
+    PROVED = re.compile(r'rt: \w+ (proved$|is kept: )')
+    BEGUN = re.compile(r'rt: \w+: trying its must-fail edits \((\d+)\)$')
     TOOK = re.compile(r'test: .* took \d+ s$')
-    WRONG = re.compile(r'FAILED: |rt: .*(NOT PROVED|NOT REFUSED|BAD EDIT)')
+    WRONG = re.compile(r'(rt: )?FAILED: |rt: .*(NOT PROVED|NOT REFUSED|NOT TRIED|BAD EDIT)')
 
     def __init__(self, root, path):
         self.path, self.at, self.rest = path, 0, ''
         self.crates, self.versions = len(evidence.crates_of(root)), len(evidence.wrong_versions_of(root))
         # The test names its parts as it ends them.
         self.parts = re.findall(r'\btook "([^"]+)"', evidence.text(root, 'test') or '')
-        self.proved = self.refused = self.ended = 0
+        self.proved = self.begun = self.ended = 0
         self.last = 'it said nothing'
 
     def read_on(self):
@@ -74,17 +74,17 @@ class TestLog:
         *lines, self.rest = (self.rest + new.decode('utf-8', 'replace')).split('\n')
         self.last = next((line for line in reversed(lines) if line.strip()), self.last)
         self.proved += sum(bool(self.PROVED.match(line)) for line in lines) if not self.ended else 0
-        self.refused += sum(bool(self.REFUSED.match(line)) for line in lines)
+        self.begun += sum(int(found[1]) for line in lines if (found := self.BEGUN.match(line)))
         self.ended += sum(bool(self.TOOK.match(line)) for line in lines)
         return [line for line in lines if self.WRONG.match(line)]
 
     def state(self):
-        """The part that is running, and how far it is."""
-        if self.ended == 0 and self.proved < self.crates and self.refused == 0:
+        """The part that is running, and how far it is. Of a crate's wrong versions rt says only that it begins to try them, which is once the
+        crate is proved."""
+        if self.ended == 0 and self.proved < self.crates:
             return 'proofs', f'crates proved: {self.proved} of {self.crates}'
-        if self.ended == 0 and self.refused < self.versions:
-            return 'wrong versions', f'wrong versions refused: {self.refused} of {self.versions}'
-        # The first two parts are those above.
-        left = self.parts[max(self.ended, 2):]
+        if self.ended == 0:
+            return 'wrong versions', f'wrong versions: {self.begun} of {self.versions} tried or being tried'
+        left = self.parts[self.ended:]
         part = left[0].replace(', after those', '') if left else 'the end'
         return part, f'running: {part}'

@@ -24,7 +24,7 @@ from progress import Progress, TestLog
 from verdict import many, some
 
 COMPONENT = 'ax25frame'
-# rt ci removes target/, so the run works beside it. Only a whole report gets a folder with the day's date.
+# Only a whole report gets a folder with the day's date.
 UNFINISHED = 'lab-unfinished'
 DELIVERED = ('libax25frame.a', 'ax25.h', 'dumper', 'follow')
 # What the report takes from outside its folder: dist/, which an earlier build may have left, and which is put back where the run does not
@@ -146,7 +146,7 @@ class Run:
             os.rename(below('dist'), self.left(ASIDE))
 
     def put_back(self):
-        """Leaves the tree as it was found, but for target/, after a run that did not come to its end."""
+        """Leaves the tree as it was found, but for target/ and what rt keeps in crates/, after a run that did not come to its end."""
         aside = os.path.lexists(self.left(ASIDE))
         if aside or self.testing:
             remove(below('dist'))
@@ -169,7 +169,8 @@ class Run:
         self.progress.step(f'1 of 4: proving and testing the sources: {usual_time()}. The log grows in {UNFINISHED}/test.log')
         self.testing = True
         with open(log.path, 'wb') as file:
-            process = self.begun(['./test'], file, stderr=subprocess.STDOUT)
+            # All of it is done anew, whatever this machine has proved before.
+            process = self.begun(['./test', '--anew'], file, stderr=subprocess.STDOUT)
         running = True
         while running:
             running = process.poll() is None

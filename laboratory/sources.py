@@ -107,35 +107,45 @@ def blob(content, length):
 
 
 def ignored(root):
-    """The patterns of .gitignore: for names at the top (/NAME) or anywhere (NAME), for folders alone where they end in a slash."""
+    """The patterns of .gitignore, each by its parts: for paths from the top (/NAME, or with a slash within) or for names anywhere (NAME), for
+    folders alone where they end in a slash, and against an earlier pattern where they begin with an exclamation mark."""
     patterns = []
     with open(os.path.join(root, '.gitignore'), 'rb') as file:
         for line in file.read().split(b'\n'):
             line = line.strip()
             if not line or line.startswith(b'#'):
                 continue
-            name = line.strip(b'/')
-            if b'/' in name or line.startswith(b'!'):
+            against, path = line.startswith(b'!'), line.removeprefix(b'!')
+            parts = path.strip(b'/').split(b'/')
+            if b'**' in path or b'\\' in path:
                 raise ValueError(f'.gitignore: {line.decode()!r} is a pattern that is not understood here')
-            patterns.append((name, line.startswith(b'/'), line.endswith(b'/')))
+            patterns.append((parts, path.startswith(b'/') or len(parts) > 1, path.endswith(b'/'), against))
     return patterns
+
+
+def is_ignored(patterns, path, folder):
+    """The last pattern that fits decides. What stands in a folder that is ignored is not asked about."""
+    names, found = path.split(b'/'), False
+    for parts, from_top, folders, against in patterns:
+        own = names if from_top else names[-1:]
+        if len(own) == len(parts) and (folder or not folders) and all(map(fnmatch.fnmatchcase, own, parts)):
+            found = not against
+    return found
 
 
 def every_file(root):
     """Every file but git's own and those that .gitignore names, for a tree without git."""
     patterns, found = ignored(root), set()
-
-    def skipped(name, at_top, folder):
-        return any(fnmatch.fnmatchcase(name, pattern) and (at_top or not top) and (folder or not folders) for pattern, top, folders in patterns)
-
     for folder, folders, files in os.walk(os.fsencode(root)):
         below = os.path.relpath(folder, os.fsencode(root))
-        at_top = below == b'.'
+
+        def kept(names, are_folders):
+            paths = {name: os.path.normpath(os.path.join(below, name)) for name in names}
+            return {name: path for name, path in paths.items() if path != b'.git' and not is_ignored(patterns, path, are_folders)}
+
         linked = [name for name in folders if os.path.islink(os.path.join(folder, name))]
-        folders[:] = [name for name in folders if name not in linked and not skipped(name, at_top, True) and not (at_top and name == b'.git')]
-        for name in files + linked:
-            if not skipped(name, at_top, False) and not (at_top and name == b'.git'):
-                found.add(name if at_top else os.path.join(below, name))
+        folders[:] = kept([name for name in folders if name not in linked], True)
+        found.update(kept(files + linked, False).values())
     return found
 
 

@@ -4,7 +4,7 @@ import re
 # The lines of the test that failed, by the part that they speak of. What is of neither kind is one of the other tests, so that each line
 # keeps one part from holding.
 ENDED = r'( \(exit status \d+\)| ended without its count)?$'
-PROOFS = re.compile(rf"rt ci{ENDED}|\d+ verdicts rest on a check|the kit's logic is |there is no 'rt' on |this rt is no Rattle kit")
+PROOFS = re.compile(rf"rt ci{ENDED}|wrong versions that |verdicts that rest on a check|the kit's logic is |there is no 'rt' on |this rt is no Rattle kit")
 COMPARISON = re.compile(rf'compare/build$|the comparison{ENDED}|.*: \d+ inputs, \d+ mismatches$')
 
 HOLDS = 'Everything holds.'

@@ -26,13 +26,22 @@ ON_CAPTURES = {**COMMON, 'frames_again': 1, 'neither_canonical': 0, 'not_remembe
 BENCH = {'bench': [{'input': 'UI', 'call': 'decode', 'port_ns': 1.0, 'rust_ns': 9.0, 'ratio': 9.0}]}
 MISMATCH = {'class': 'octets', 'input': '8e82|`<&', 'again': "compare one '8e82'", 'differences': [{'what': 'number', 'owed': '3', 'port': '4'}]}
 
-LOG = '''logic=proved functions=3 sum=0
-axioms libc: read, write (2 of the 50 declared)
-rt: one proved (1 s)
+LOG = '''== one: its tests
+axioms libc: libc::exit (1 of the 128 declared)
+logic=proved tests=1 functions=9 axioms=1 sum=0
+rt: one: its tests are proved
+== one
+axioms libc: libc::read, libc::write, libc::heap::rattle_alloc, ... (6 of the 128 declared)
+axioms std: none reached of the 2 declared
+logic=proved functions=3 axioms=6 sum=0
+rt: one proved
+rt: one: trying its must-fail edits (1)
+== two
 logic=proved functions=4 sum=0
-rt: two proved (2 s)
-rt: must-fail one/wrong: refused, as it must be (1 s)
+rt: two proved
+rt: must-fail one/wrong.edit: refused, as it must be: note: src/lib.rt:1:1: it is not proved
 ok: rt ci
+ok: each wrong version was refused: 1 refused
 ok: no verdict rests on a check of an earlier run
 skipped: valgrind: it is not on this host
 ok: ax25_decode can use at most 88 octets of stack
@@ -45,8 +54,8 @@ CAPTURE = {'file': f'/tmp/{ODD}', 'format': 'KISS log', 'octets': 1234, 'sha256'
            'doubts': ['one | doubt']}
 # What came of its frames.
 COUNTED = {'accepted': 2, 'canonical': 1, 'reasons': {'leftover': 0, 'marks': 0, 'tail': 1, 'fixed': 0},
-           'in_one_call': {'calls': 1, 'records': 3, 'refused': 1, 'kinds': {'I': 1, 'RR': 0, 'UI': 1}},
-           'links': {'followed': 1, 'in_order': 0, 'repeated': 0, 'gaps': 0, 'outside': 1, 'not_followed': 0}}
+           'in_one_call': {'calls': 1, 'records': 3, 'refused': 1, 'kinds': {'I': 0, 'RR': 1, 'UI': 1}},
+           'links': {'followed': 0, 'in_order': 0, 'repeated': 0, 'gaps': 0, 'outside': 0, 'not_followed': 0}}
 SOURCES = {'sha256': 'cd' * 32, 'files': 2, 'commit': 'ef' * 20, 'as_committed': True, 'why_unknown': None, 'changed': [],
            'changed_while_running': False}
 CRATE = {'name': 'ax25 0.4.0', 'files': {'src/lib.rs': '12' * 32}, 'as_published': True, 'departs': []}

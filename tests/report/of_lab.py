@@ -171,19 +171,21 @@ def far(work):
     log = progress.TestLog(f'{work}/far', f'{work}/far/log')
     for text, state, wrong in (
         ('', 'crates proved: 0 of 2', []),
-        ('rt: one proved (1 s)\nrt: two pro', 'crates proved: 1 of 2', []),
-        ('ved (1 s)\n', 'wrong versions refused: 0 of 1', []),
-        ('rt: must-fail one/wrong: refused, as it must be (1 s)\n', 'running: the programs and the documents', []),
-        ('test: the proofs took 9 s\ntest: the wrong versions took 9 s\n', 'running: the programs and the documents', []),
-        ('test: the programs and the documents took 0 s\nFAILED: build\n', 'running: the build', ['FAILED: build']),
+        ('rt: one proved\nrt: two: its tests are proved\nrt: two pro', 'crates proved: 1 of 2', []),
+        ('ved\n', 'wrong versions: 0 of 1 tried or being tried', []),
+        ('rt: one: trying its must-fail edits (1)\n', 'wrong versions: 1 of 1 tried or being tried', []),
+        ('rt: must-fail one/wrong.edit: refused, as it must be: note\n', 'wrong versions: 1 of 1 tried or being tried', []),
+        ('test: the proofs, the wrong versions and the programs took 9 s\n', 'running: the documents and the build', []),
+        ('test: the documents and the build took 0 s\nFAILED: the C tests\n', 'running: the C tests and the dumper', ['FAILED: the C tests']),
     ):
         with open(f'{work}/far/log', 'a', encoding='utf-8') as file:
             file.write(text)
         found = log.read_on()
         equal(f'how far it is: {state}', (log.state()[1], found), (state, wrong))
-    write(f'{work}/far/log', 'rt: one NOT PROVED (exit 1, 2 s)\ntest: the proofs took 9 s\n')
+    wrong = ['rt: one NOT PROVED', 'rt: must-fail one/wrong.edit: NOT TRIED: its check was killed', 'rt: FAILED: one/wrong.edit']
+    write(f'{work}/far/log', '\n'.join([*wrong, 'test: the proofs, the wrong versions and the programs took 9 s', '']))
     log = progress.TestLog(f'{work}/far', f'{work}/far/log')
-    equal('and what is not proved is shown at once', log.read_on(), ['rt: one NOT PROVED (exit 1, 2 s)'])
+    equal('and what is not proved is shown at once', log.read_on(), wrong)
 
 
 def in_place():

@@ -127,15 +127,15 @@ def says(made, page, markdown):
                   '5 KISS packets read: 3 accepted, 2 refused by 54.',
                   '1 KISS stream of 2 octets read in pieces: 3 packets given out, 4 dropped.',
                   'Room lent to writers: exactly full 2 times, shorter 1 time.', '| octets: every string of 0 to 2 | 65,793 | 0 |',
-                  '| UI | decode | 9.0 |', '| ax25_decode | 88 |', '| two | 4 | 2 |', 'valgrind: it is not on this host',
-                  'by programs alone: read, write', 'one | doubt', '| file | refused | accepted | canonical | leftover | marks | tail | fixed |',
+                  '| UI | decode | 9.0 |', '| ax25_decode | 88 |', '| one | 3 |', '| two | 4 |', 'valgrind: it is not on this host',
+                  'by programs alone: one: libc: libc::read, libc::write, libc::heap::rattle_alloc, ... (6 of the 128 declared).', 'one | doubt', '| file | refused | accepted | canonical | leftover | marks | tail | fixed |',
                   ' | 1 | 2 | 1 | 0 | 0 | 1 | 0 |', '| all | 2 | 7 | 4 | 0 | 2 | 1 | 0 |',
                   '- marks: it is marked neither as a command nor as a response\n',
                   '12 parts of buffers read by 3 calls of ax25_captures: 4 of them refused, 1 not inside the buffer.',
-                  '| file | calls | records | refused | kinds |', ' | 1 | 3 | 1 | I 1, UI 1 |', '| all | 1 | 9 | 2 | UI 7 |',
+                  '| file | calls | records | refused | kinds |', ' | 1 | 3 | 1 | RR 1, UI 1 |', '| all | 1 | 9 | 2 | UI 7 |',
                   "2,000 frames offered to links' records by ax25_link_offer. Of the I frames between their stations 1,500 were in order, 3 repeated, "
                   '2 gaps and 1 outside.', '| file | links | in order | repeated | gaps | outside | of no such link |',
-                  ' | 1 | 0 | 0 | 0 | 1 | 0 |', '| all | 6 | 5 | 4 | 3 | 2 | 1 |'):
+                  ' | 0 | 0 | 0 | 0 | 0 | 0 |', '| all | 6 | 5 | 4 | 3 | 2 | 1 |'):
         check(f'the report says: {words.strip()}', words in every)
 
 

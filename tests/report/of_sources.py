@@ -8,7 +8,7 @@ from held import ROOT, check, equal, git, read, write
 from small import small_tree
 
 # What the commands and README's examples make.
-MADE = ('example.c', 'example', 'capture', 'frame', 'captures/own.pcap', 'dist/dumper', 'target/x', 'tools/bin/x', 'lab-2026-01-01/report.md',
+MADE = ('example.c', 'example', 'capture', 'frame', 'captures/own.pcap', 'dist/dumper', 'target/x', 'tools/bin/x', 'crates/one/out/kept/x', 'lab-2026-01-01/report.md',
         'laboratory/__pycache__/x.pyc')
 
 

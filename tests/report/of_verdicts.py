@@ -41,14 +41,18 @@ def verdicts(work):
     def source(**more):
         return put('run', 'sources', {**SOURCES, **more})
 
-    not_proved = log('rt: two proved (2 s)', 'rt: two NOT PROVED (exit 1, 2 s)')
+    not_proved = log('rt: two proved', 'rt: two NOT PROVED')
     changed = source(as_committed=False, changed=[{'file': 'crates/one/x.rt', 'how': 'changed'}])
     fails('a crate that was not proved', 'proofs', '1 of 2 crates were proved; not proved: two', not_proved)
     fails('a wrong version that was not refused', 'proofs', 'not refused: one/wrong', log('refused, as it must be', 'NOT REFUSED'))
     fails('rt ci that failed', 'proofs', 'The test says: rt ci (exit status 1)', log('ok: rt ci', 'FAILED: rt ci (exit status 1)'))
     fails('rt ci that was broken off', 'proofs', 'did not come to their end', log('ok: rt ci\n'))
-    fails('a verdict of an earlier run', 'proofs', '2 verdicts rest on a check of an earlier run',
-          log('ok: no verdict rests on a check of an earlier run', 'FAILED: 2 verdicts rest on a check of an earlier run, or there is none'))
+    fails('a wrong version that tries nothing', 'proofs', 'The test says: wrong versions that try nothing: 1 refused, 1 bad',
+          log('ok: each wrong version was refused: 1 refused', 'FAILED: wrong versions that try nothing: 1 refused, 1 bad'))
+    fails('a verdict of an earlier run', 'proofs', 'verdicts that rest on a check of an earlier run: not all was done in this one',
+          log('ok: no verdict rests on a check of an earlier run', 'FAILED: verdicts that rest on a check of an earlier run: not all was done in this one'))
+    fails('a crate that an earlier run proved', 'proofs', '1 of 2 crates were proved; not proved: two',
+          log('rt: two proved', 'rt: two is kept: an earlier run on this machine proved the same files over the same libraries'))
     fails('a kit of another logic', 'proofs', "pins 'kit logic 01ab'",
           put('run', 'kit', {'version': 'kit logic 01ac', 'pinned': 'kit logic 01ab'}))
     fails('no kit', 'proofs', 'not there', put('run', 'kit', {'version': None, 'pinned': 'kit logic 01ab'}))
@@ -77,7 +81,7 @@ def verdicts(work):
     fails('a frame that was not read with the others', 'captures', 'call over many frames did not read all of 1 capture',
           lambda results: results.captures['captures'][0]['in_one_call'].update(records=2))
     fails('an I frame that no link accounts for', 'captures', 'do not account for the I frames of 1 capture',
-          lambda results: results.captures['captures'][0]['links'].update(outside=0))
+          lambda results: results.captures['captures'][0]['links'].update(outside=1))
     more = [{'frames': frames, 'links': {'followed': 1, 'outside': 2}, 'in_one_call': {'kinds': {'I': 3}}} for frames in (65_535, 65_536)]
     equal('of more frames than a link counts nothing of the kind is asked', [verdict.accounted(capture) for capture in more], [False, True])
     fails('no capture', 'captures', 'no capture is told of', put('checked', 'captures', []), put('captures', 'captures', []))

@@ -26,7 +26,7 @@ hang)
     mkdir dist && echo >dist/made
     sleep 600 & echo $! >>"$MARKS/ran"
     (setsid sleep 600 & echo $! >>"$MARKS/ran")
-    echo 'rt: one proved (1 s)'
+    echo 'rt: one proved'
     echo >"$MARKS/hangs"
     wait
     ;;
@@ -38,12 +38,11 @@ early)
 edit) echo >>kit-notes.txt ;;
 slow) sleep 0.5 ;;
 esac
-printf 'logic=proved functions=3 sum=0\nrt: one proved (1 s)\nlogic=proved functions=4 sum=0\nrt: two proved (1 s)\n'
-echo 'rt: must-fail one/wrong: refused, as it must be (1 s)'
+[ "$*" = --anew ] || exit 1
+printf '== one\nlogic=proved functions=3 sum=0\nrt: one proved\n== two\nlogic=proved functions=4 sum=0\nrt: two proved\n'
+echo 'rt: must-fail one/wrong.edit: refused, as it must be: note: src/lib.rt:1:1: it is not proved'
 printf 'ok: rt ci\nok: no verdict rests on a check of an earlier run\n'
-took "the proofs"
-took "the wrong versions"
-took "the programs and the documents"
+took "the proofs, the wrong versions and the programs"
 echo 'skipped: valgrind: it is not on this host'
 mkdir -p dist target/compare
 printf archive >dist/libax25frame.a
@@ -53,7 +52,7 @@ printf follow >dist/follow
 cp tests/standin-compare target/compare/compare
 cp "$MARKS/compared.json" target/compare/test.json
 : >target/compare/differences.txt
-took "the build"
+took "the documents and the build"
 printf 'ok: ax25_decode can use at most 88 octets of stack\nok: the comparison\n9 passed, 0 failed\n'
 '''
 
