@@ -2,7 +2,6 @@
 use mathlib.Core.Path.{◌≡◌, refl, sym}
 use Rattle.control.specs.Mode.{mode_of}
 use Rattle.spelling.specs.Canonical.{canonical}
-use borrow.Author.Rules.{rules}
 use Rattle.probe_spelling.proofs.probe_canonical.Goals as goal
 use Rattle.probe_spelling.proofs.probe_canonical.Goals.{After-is_canonical}
 

@@ -1,7 +1,6 @@
 -- What re-encoding gives.
 use mathlib.Core.Path.{refl, ap, ◌∙◌}
 use Rattle.respelling.specs.declared.Reencoded.{Reencoded}
-use borrow.Author.Rules.{rules}
 use Rattle.probe_spelling.proofs.probe_reencode.Goals as goal
 
 pub returns : goal.returns
