@@ -1,7 +1,6 @@
 -- The measure is how much of the piece is left.
 use Prim.Native.Nat.{◌≤◌, ◌-◌}
 use lib.ListN.{length}
-use borrow.Author.Rules.{rules}
 use Rattle.follow.proofs.follow_piece.Given as goal
 
 abbrev pub invariant-loop-reached : goal.invariant-loop-reached
