@@ -1,6 +1,6 @@
 -- Document 02, M-100 and M-102, proved: each number of relaying is given exactly when its row is the first that holds; a refusal leaves the
 -- octets; what is relayed is as `Relayed` says; and what a second relay by the same station answers.
-use Prim.Native.Nat.{ℕ, zero, suc, ◌+◌, ◌<◌}
+use Prim.Native.Nat.{ℕ, zero, suc, ◌<◌}
 use mathlib.Core.Path.{◌≡◌, refl, ap, sym, ◌∙◌}
 use mathlib.Core.Bool.{Bool, true, false, true≢false, false≢true, cond, not, ◌||◌}
 use mathlib.Core.List.{List, [], ◌∷◌, ◌++◌}

@@ -48,7 +48,7 @@ module _ (mode : Mode) (f : Ax25Frame) (i : List ℕ) (p : Plain mode f i) where
         (first_passes (bit 0) (spell mode f i) 0
         (rw (spelled_end mode f i p) (omega (arith, spell-length mode f i, front_some mode f.content p.content))));
     marks = spelled-marks mode f i p;
-    i-pid = λ k e. front_at (kind.Information k) e (controls mode) (inner mode k) ∙ pid_of_lem mode k;
-    ui-pid = λ k e. let at : 15 + 7 * n ≡ 14 + 7 * n + 1 = omega arith in
+    i_pid = λ k e. front_at (kind.Information k) e (controls mode) (inner mode k) ∙ pid_of_lem mode k;
+    ui_pid = λ k e. let at : 15 + 7 * n ≡ 14 + 7 * n + 1 = omega arith in
         rw at (front_at (kind.UnnumberedInformation k) e 1 (omega arith));
   }

@@ -94,7 +94,7 @@ module _ (mode : Mode) (s t : List ℕ) (o : Octets s) (p : Octets t) (c : canon
   one e a = sym (canonical-plain mode t p e).2 ∙ spelled a
 
   pub nothing-unseen : NothingUnseen mode s (decode mode s) t (decode mode t) (canonical mode t)
-  nothing-unseen = record { same = same_save_lem; octets_lem = octets_lem; tight = tight; canonical = one }
+  nothing-unseen = record { same = same_save_lem; octets = octets_lem; tight = tight; canonical = one }
 
 -- no frame but an FRMR, and in the long mode an S frame, has excepted bits
 pub none-excepted : (mode : Mode) (f : Ax25Frame) → has_unseen mode f.content ≡ false → NoneExcepted mode f

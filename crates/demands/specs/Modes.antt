@@ -21,15 +21,15 @@ content c = addresses ++ c
 
 -- what an input gives that is accepted as this kind, without info, and is canonical; its address octets with this content are the input
 abbrev pub plain : FrameContent → List ℕ → Outcome
-plain k c = record { report = number 0; frame = with k; info-start = 0; info-len = 0; canonical = true; again = content c }
+plain k c = record { report = number 0; frame = with k; info_start = 0; info_len = 0; canonical = true; again = content c }
 
 -- the same where it is not canonical, and re-encoded so
 abbrev pub tailed : FrameContent → List ℕ → Outcome
-tailed k c = record { report = number 0; frame = with k; info-start = 0; info-len = 0; canonical = false; again = content c }
+tailed k c = record { report = number 0; frame = with k; info_start = 0; info_len = 0; canonical = false; again = content c }
 
 -- and where it is canonical, with info from there on, so many octets
 abbrev pub carrying : FrameContent → ℕ → ℕ → List ℕ → Outcome
-carrying k start len c = record { report = number 0; frame = with k; info-start = start; info-len = len; canonical = true; again = content c }
+carrying k start len c = record { report = number 0; frame = with k; info_start = start; info_len = len; canonical = true; again = content c }
 
 -- in the long mode, each with its whole result
 abbrev pub long_cases : List (List ℕ × Outcome)
