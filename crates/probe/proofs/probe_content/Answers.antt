@@ -1,7 +1,6 @@
 -- Lent too little; else the number, and what was read.
 use mathlib.Core.Path.{refl, ◌∙◌}
 use borrow.Author.Tests.{lt-ltb, le-ltb}
-use borrow.Author.Rules.{rules}
 use Rattle.probe.proofs.probe_content.Goals as goal
 
 pub returns-then-flat-lt-CONTENT : goal.returns-then-flat-lt-CONTENT

@@ -1,5 +1,4 @@
 -- What was decoded, put where it is lent.
-use borrow.Author.Rules.{rules}
 use Rattle.probe.proofs.probe_decode_old.Goals as goal
 
 pub returns : goal.returns

@@ -1,7 +1,6 @@
 -- Lent too little; else the default frame.
 use mathlib.Core.Path.{refl, ◌∙◌}
 use borrow.Author.Tests.{lt-ltb, le-ltb}
-use borrow.Author.Rules.{rules}
 use Rattle.probe.proofs.probe_default.Goals as goal
 
 pub returns-then-flat-lt-FRAME : goal.returns-then-flat-lt-FRAME

@@ -3,7 +3,6 @@ use mathlib.Core.Path.{refl, sym, ◌∙◌}
 use native.Mathlib.Omega.{arith}
 use borrow.Author.Tests.{lt-ltb, le-ltb}
 use Rattle.octets.proofs.Splice.{splice_one}
-use borrow.Author.Rules.{rules}
 use Rattle.probe.proofs.probe_encode.Goals as goal
 
 pub returns-then-len-lt1 : goal.returns-then-len-lt1

@@ -1,7 +1,6 @@
 -- Lent too little; refused; else the address that was read.
 use mathlib.Core.Path.{refl}
 use borrow.Author.Tests.{lt-ltb, le-ltb, eq-eqb, ne_eqb}
-use borrow.Author.Rules.{rules}
 use Rattle.probe.proofs.probe_from_str.Goals as goal
 
 pub returns-then-flat-lt-ADDRESS : goal.returns-then-flat-lt-ADDRESS

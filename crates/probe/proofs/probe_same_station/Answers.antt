@@ -1,6 +1,5 @@
 -- By the two addresses.
 use mathlib.Core.Path.{refl}
-use borrow.Author.Rules.{rules}
 use Rattle.probe.proofs.probe_same_station.Goals as goal
 
 pub returns-then-same_station : goal.returns-then-same_station

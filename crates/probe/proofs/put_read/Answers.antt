@@ -1,6 +1,5 @@
 -- Answer by answer: a refusal writes nothing.
 use mathlib.Core.Path.{refl, sym, ◌∙◌}
-use borrow.Author.Rules.{rules}
 use Rattle.octets.proofs.Splice.{splice_none}
 use Rattle.probe.proofs.put_read.Goals as goal
 

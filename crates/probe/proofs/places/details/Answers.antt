@@ -1,6 +1,5 @@
 -- Answer by answer.
 use mathlib.Core.Path.{refl}
-use borrow.Author.Rules.{rules}
 use Rattle.probe.proofs.places.details.Goals as goal
 
 pub returns-in-Accepted : goal.returns-in-Accepted

@@ -1,6 +1,5 @@
 -- Five stores, one after the other, are the part at the start.
 use native.Mathlib.Omega.{arith}
-use borrow.Author.Rules.{rules}
 use lib.ListN.{length-set}
 use Rattle.octets.proofs.Splice.{splice-stores}
 use Rattle.probe.specs.Places.{places_of}
