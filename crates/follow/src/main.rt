@@ -161,16 +161,9 @@ fn argument_buffer() -> [u8; 131072] {
     [0; 131072]
 }
 
-// Puts an argument at the start of a buffer, and gives its length. One that is not there is an empty text.
-fn argument(env: &impl Env, i: usize, text: &mut [u8]) -> usize
-    ensures { result ≤ length text.new }
-{
-    env.arg(i, text).unwrap_or(0)
-}
-
-// Whether there is an argument of this number.
-fn is_given(env: &impl Env, i: usize) -> bool {
-    match env.arg(i, &mut []) {
+// Whether an argument was found, even one that is longer than the buffer that it was read into.
+fn is_found(read: Result<usize, FillError>) -> bool {
+    match read {
         Ok(_) => true,
         Err(FillError::TooLong) => true,
         Err(FillError::NotPresent) => false,
@@ -179,13 +172,14 @@ fn is_given(env: &impl Env, i: usize) -> bool {
 
 fn main(rt: HostRuntime) {
     let output = rt.stdout();
-    if !is_given(&rt, 2) || is_given(&rt, 3) {
+    if !is_found(rt.arg(2, &mut [])) || is_found(rt.arg(3, &mut [])) {
         let _ = rt.stderr().write_all(b"usage: follow A B <STREAM\n");
     }
     let mut a = argument_buffer();
     let mut b = argument_buffer();
-    let n = argument(&rt, 1, &mut a);
-    let m = argument(&rt, 2, &mut b);
+    // An argument that is not there is an empty text.
+    let n = rt.arg(1, &mut a).unwrap_or(0);
+    let m = rt.arg(2, &mut b).unwrap_or(0);
     let mut text = [0u8; 32];
     let begun = following::begin(&a[..n], &b[..m], &mut text);
     let length = begun.length;

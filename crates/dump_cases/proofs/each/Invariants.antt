@@ -1,7 +1,6 @@
 -- The loop stays in the list.
 use Prim.Native.Nat.{◌-◌, ◌≤◌}
 use lib.ListN.{length}
-use borrow.Author.Rules.{rules}
 use Rattle.dump_cases.proofs.each.Given as goal
 
 abbrev pub invariant-loop-at : goal.invariant-loop-at
