@@ -4,8 +4,7 @@ use Rattle.demands.proofs.Relay.{relayed-canonical}
 use borrow.Author.Rules.{rules}
 use Rattle.demand_contracts_relay.proofs.canonical_again.Goals as goal
 
-pub returns : goal.returns
-returns c =
-    let left = c.relay.ensures.1 in
+pub returns-clause-value : goal.returns-clause-value
+returns-clause-value c =
     let a = c.args in
-    record { value = c.is_canonical.ensures ∙ rw left (relayed-canonical a.own a.frame.now (λ j. (c.slice-known.given j).fits)); frame_after = left }
+    c.is_canonical.ensures ∙ rw c.relay.ensures.bytes_after (relayed-canonical a.own a.frame.now (λ j. search rules))

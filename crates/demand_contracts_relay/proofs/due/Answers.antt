@@ -1,6 +1,5 @@
 -- The due place is the definition's, which is the first unmarked one.
 use Rattle.demands.proofs.Due.{due_place_lem}
-use borrow.Author.Rules.{rules}
 use Rattle.demand_contracts_relay.proofs.due.Goals as goal
 
 pub returns : goal.returns

@@ -1,7 +1,6 @@
 -- The two numbers are the definitions', which agree exactly then.
 use borrow.Author.Tests.{eq-eqb, eqb-true}
 use Rattle.demands.proofs.Due.{agreeing}
-use borrow.Author.Rules.{rules}
 use Rattle.demand_contracts_relay.proofs.in_order.Goals as goal
 
 pub returns : goal.returns

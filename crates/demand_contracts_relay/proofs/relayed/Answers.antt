@@ -4,20 +4,12 @@ use Rattle.demands.proofs.Relay.{relaying, refused_relay, relayed_is}
 use borrow.Author.Rules.{rules}
 use Rattle.demand_contracts_relay.proofs.relayed.Goals as goal
 
-pub returns : goal.returns
-returns c =
-    let r = c.relay.ensures in
-    let a = c.args in
-    let s = a.frame.now in
-    record {
-      first_row = rw (r.0, r.1)
-          ((relaying a.own s _).0 refl, ((λ n. refused_relay a.own s n), ((λ z. relayed_is a.own s z (λ j. search rules)), (refl, refl))));
-      frame_unchanged = rw (r.0, r.1)
-          ((relaying a.own s _).0 refl, ((λ n. refused_relay a.own s n), ((λ z. relayed_is a.own s z (λ j. search rules)), (refl, refl))));
-      relayed = rw (r.0, r.1)
-          ((relaying a.own s _).0 refl, ((λ n. refused_relay a.own s n), ((λ z. relayed_is a.own s z (λ j. search rules)), (refl, refl))));
-      value = rw (r.0, r.1)
-          ((relaying a.own s _).0 refl, ((λ n. refused_relay a.own s n), ((λ z. relayed_is a.own s z (λ j. search rules)), (refl, refl))));
-      frame_after = rw (r.0, r.1)
-          ((relaying a.own s _).0 refl, ((λ n. refused_relay a.own s n), ((λ z. relayed_is a.own s z (λ j. search rules)), (refl, refl))));
-    }
+pub returns-clause-first_row : goal.returns-clause-first_row
+returns-clause-first_row c = rw c.relay.ensures.value ((relaying c.args.own c.args.frame.now _).0 refl)
+
+pub returns-clause-frame_unchanged : goal.returns-clause-frame_unchanged
+returns-clause-frame_unchanged c = rw (c.relay.ensures.value, c.relay.ensures.bytes_after) (λ n. refused_relay c.args.own c.args.frame.now n)
+
+pub returns-clause-relayed : goal.returns-clause-relayed
+returns-clause-relayed c =
+    rw (c.relay.ensures.value, c.relay.ensures.bytes_after) (λ z. relayed_is c.args.own c.args.frame.now z (λ j. search rules))
