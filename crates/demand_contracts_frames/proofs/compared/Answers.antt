@@ -10,5 +10,8 @@ returns c =
     let read = c.from_bytes.ensures in
     let check-other = c.is_canonical-2.ensures in
     let read-other = c.from_bytes-2.ensures in
-record { nothing_unseen = rw (read, check-other, read-other)
-          (λ yes. nothing-unseen _ _ _ (λ j. search rules) (λ j. search rules) (sym check ∙ yes)); canonical_value = (check, read, check-other, read-other) }
+    record {
+      nothing_unseen = rw (read, check-other, read-other)
+          (λ yes. nothing-unseen _ _ _ (λ j. search rules) (λ j. search rules) (sym check ∙ yes));
+      canonical_value = (check, read, check-other, read-other);
+    }

@@ -1,7 +1,6 @@
 use mathlib.Core.Path.{sym, subst}
 use Rattle.demands.specs.Old.{OldCapture}
 use Rattle.demands.proofs.Old.{old_capture}
-use borrow.Author.Rules.{rules}
 use Rattle.demand_contracts_frames.proofs.old_capture.Goals as goal
 
 pub returns : goal.returns

@@ -13,17 +13,14 @@ given e f = (ap (λ (z : Reencoded). z.answer) e, ap (λ (z : Reencoded). z.leng
 
 pub returns : goal.returns
 returns c =
-    let w = c.reencode in
+    let w = c.reencode.ensures in
     let a = c.args in
     let m = a.mode in
     let s = a.bytes.now in
-    let out = a.out.now in (
-      λ e. let x = respelled-refused m s out e in given (w.ensures.0 ∙ x.0) (w.ensures.1 ∙ x.1),
-      (
-        λ e h. let x = respelled-short m s out e h in given (w.ensures.0 ∙ x.0) (w.ensures.1 ∙ x.1),
-        (
-          λ e h. let x = respelled_into m s out e h in given (w.ensures.0 ∙ x.0) (w.ensures.1 ∙ x.1),
-          λ e. (one_spelling m s (λ j. search rules)).respelled e,
-        ),
-      ),
-    )
+    let out = a.out.now in
+    record {
+      answer_value = λ e. let x = respelled-refused m s out e in given (w.value ∙ x.0) (w.out_after ∙ x.1);
+      answer_value_2 = λ e h. let x = respelled-short m s out e h in given (w.value ∙ x.0) (w.out_after ∙ x.1);
+      answer_value_3 = λ e h. let x = respelled_into m s out e h in given (w.value ∙ x.0) (w.out_after ∙ x.1);
+      respelled = λ e. (one_spelling m s (λ j. search rules)).respelled e;
+    }
