@@ -4,18 +4,16 @@ use lib.ListN.{length}
 use Rattle.printing.specs.declared.Printed.{Printed}
 use Rattle.printing.proofs.Laws.{refused_print, accepted_print}
 use Rattle.demands.proofs.Numbers.{printing}
-use borrow.Author.Rules.{rules}
 use Rattle.demand_contracts_text.proofs.printed.Goals as goal
 
 pub returns : goal.returns
 returns c =
-    let w = c.print in
+    let w = c.print.ensures in
     let a = c.args in
-    let e = ap (λ (x : Printed). x.answer) w.ensures.0 in
-    let n = ap (λ (x : Printed). x.length) w.ensures.0 in (
-      rw e ((printing a.address (length a.out.now) _).0 refl),
-      (
-        λ q. let r = refused_print a.address a.out.now (λ z. q (rw e z)) in (n ∙ r.0, w.ensures.1 ∙ r.1),
-        λ q. let r = accepted_print a.address a.out.now (rw e at q) in (n ∙ r.0, w.ensures.1 ∙ r.1),
-      ),
-    )
+    let e = ap (λ (x : Printed). x.answer) w.value in
+    let n = ap (λ (x : Printed). x.length) w.value in
+    record {
+      first_row = rw e ((printing a.address (length a.out.now) _).0 refl);
+      length_value = λ q. let r = refused_print a.address a.out.now (λ z. q (rw e z)) in (n ∙ r.0, w.out_after ∙ r.1);
+      length_value_2 = λ q. let r = accepted_print a.address a.out.now (rw e at q) in (n ∙ r.0, w.out_after ∙ r.1);
+    }
