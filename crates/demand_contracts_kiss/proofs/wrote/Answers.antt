@@ -3,35 +3,24 @@ use mathlib.Core.Path.{refl}
 use lib.ListN.{length}
 use Rattle.kiss.proofs.Laws.{written_answer}
 use Rattle.demands_kiss.proofs.Kiss.{kiss_writing, refused_kiss_write, accepted_kiss_write}
-use borrow.Author.Rules.{rules}
 use Rattle.demand_contracts_kiss.proofs.wrote.Goals as goal
 
-pub returns : goal.returns
-returns c =
+pub returns-clause-first_row : goal.returns-clause-first_row
+returns-clause-first_row c =
+    let room = length c.args.output.now in
+    rw (c.ax25_kiss_write.ensures.value, written_answer c.args.port c.args.input.now room)
+    ((kiss_writing c.args.port c.args.input.now room _).0 refl)
+
+pub returns-clause-length_after : goal.returns-clause-length_after
+returns-clause-length_after c =
     let e = c.ax25_kiss_write.ensures in
-    let a = c.args in
-    let s = a.input.now in
-    let out = a.output.now in
-    record {
-      first_row = rw (e.0, e.1.0, e.1.1, written_answer a.port s (length out)) (
-        (kiss_writing a.port s (length out) _).0 refl,
-        (
-          (λ n. let f = refused_kiss_write a.port s (length out) n in (f.0, f.1 out)),
-          (λ z. accepted_kiss_write a.port s out z),
-        ),
-      );
-      length_after = rw (e.0, e.1.0, e.1.1, written_answer a.port s (length out)) (
-        (kiss_writing a.port s (length out) _).0 refl,
-        (
-          (λ n. let f = refused_kiss_write a.port s (length out) n in (f.0, f.1 out)),
-          (λ z. accepted_kiss_write a.port s out z),
-        ),
-      );
-      length_after_2 = rw (e.0, e.1.0, e.1.1, written_answer a.port s (length out)) (
-        (kiss_writing a.port s (length out) _).0 refl,
-        (
-          (λ n. let f = refused_kiss_write a.port s (length out) n in (f.0, f.1 out)),
-          (λ z. accepted_kiss_write a.port s out z),
-        ),
-      );
-    }
+    let out = c.args.output.now in
+    rw (e.value, e.output_after, e.length_after, written_answer c.args.port c.args.input.now (length out))
+    (λ n. let f = refused_kiss_write c.args.port c.args.input.now (length out) n in (f.0, f.1 out))
+
+pub returns-clause-length_after_2 : goal.returns-clause-length_after_2
+returns-clause-length_after_2 c =
+    let e = c.ax25_kiss_write.ensures in
+    let out = c.args.output.now in
+    rw (e.value, e.output_after, e.length_after, written_answer c.args.port c.args.input.now (length out))
+    (λ z. accepted_kiss_write c.args.port c.args.input.now out z)
