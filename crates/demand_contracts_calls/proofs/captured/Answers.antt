@@ -1,6 +1,5 @@
 -- What the function gives is the definition's, of which the demand is proved.
 use Rattle.demands.proofs.Captures.{ended}
-use borrow.Author.Rules.{rules}
 use Rattle.demand_contracts_calls.proofs.captured.Goals as goal
 
 pub returns : goal.returns

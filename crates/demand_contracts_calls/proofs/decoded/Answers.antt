@@ -3,7 +3,6 @@ use mathlib.Core.Path.{sym, ◌∙◌}
 use Rattle.control.specs.declared.Mode.TheVariants.{Short}
 use Rattle.demands.proofs.Numbers.{decoding}
 use Rattle.demands.proofs.Modes.{never_six, short_numbers}
-use borrow.Author.Rules.{rules}
 use Rattle.demand_contracts_calls.proofs.decoded.Goals as goal
 
 pub returns : goal.returns

@@ -1,6 +1,5 @@
 -- What the function gives is the definition's, of which the demand is proved.
 use Rattle.demands_link.proofs.Link.{offered}
-use borrow.Author.Rules.{rules}
 use Rattle.demand_contracts_calls.proofs.offered.Goals as goal
 
 pub returns : goal.returns

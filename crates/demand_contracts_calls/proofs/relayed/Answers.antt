@@ -4,27 +4,15 @@ use Rattle.demands.proofs.Relay.{relaying_as, refused_relay_as, relayed_as_is}
 use borrow.Author.Rules.{rules}
 use Rattle.demand_contracts_calls.proofs.relayed.Goals as goal
 
-pub returns : goal.returns
-returns c =
-    let r = c.ax25_relay.ensures in
-    let a = c.args in
-    let call = a.callsign.now in
-    let s = a.frame.now in
-    record {
-      first_row = rw (r.0, r.1) (
-        (relaying_as call a.ssid s _).0 refl,
-        ((λ n. refused_relay_as call a.ssid s n), ((λ z. relayed_as_is call a.ssid s z (λ j. search rules)), refl)),
-      );
-      frame_unchanged = rw (r.0, r.1) (
-        (relaying_as call a.ssid s _).0 refl,
-        ((λ n. refused_relay_as call a.ssid s n), ((λ z. relayed_as_is call a.ssid s z (λ j. search rules)), refl)),
-      );
-      relayed = rw (r.0, r.1) (
-        (relaying_as call a.ssid s _).0 refl,
-        ((λ n. refused_relay_as call a.ssid s n), ((λ z. relayed_as_is call a.ssid s z (λ j. search rules)), refl)),
-      );
-      frame_after = rw (r.0, r.1) (
-        (relaying_as call a.ssid s _).0 refl,
-        ((λ n. refused_relay_as call a.ssid s n), ((λ z. relayed_as_is call a.ssid s z (λ j. search rules)), refl)),
-      );
-    }
+pub returns-clause-first_row : goal.returns-clause-first_row
+returns-clause-first_row c = rw c.ax25_relay.ensures.value ((relaying_as c.args.callsign.now c.args.ssid c.args.frame.now _).0 refl)
+
+pub returns-clause-frame_unchanged : goal.returns-clause-frame_unchanged
+returns-clause-frame_unchanged c =
+    let e = c.ax25_relay.ensures in
+    rw (e.value, e.frame_after) (λ n. refused_relay_as c.args.callsign.now c.args.ssid c.args.frame.now n)
+
+pub returns-clause-relayed : goal.returns-clause-relayed
+returns-clause-relayed c =
+    let e = c.ax25_relay.ensures in
+    rw (e.value, e.frame_after) (λ z. relayed_as_is c.args.callsign.now c.args.ssid c.args.frame.now z (λ j. search rules))

@@ -14,16 +14,13 @@ number e = ap (λ (z : Reencoded). (report_of z.answer).number) e
 
 pub returns : goal.returns
 returns c =
-    let w = c.ax25_reencode in
+    let w = c.ax25_reencode.ensures in
     let a = c.args in
     let s = a.input.now in
-    let out = a.output.now in (
-      λ e. let x = respelled-refused Short s out e in (rw (w.ensures.0 ∙ number x.0) ((decoding Short s _).0 refl), w.ensures.1 ∙ x.1),
-      (
-        λ e h. let x = respelled-short Short s out e h in (w.ensures.0 ∙ number x.0, w.ensures.1 ∙ x.1),
-        (
-          λ e h. let x = respelled_into Short s out e h in (w.ensures.0 ∙ number x.0, w.ensures.1 ∙ x.1),
-          λ e. (one_spelling Short s (λ j. search rules)).respelled e,
-        ),
-      ),
-    )
+    let out = a.output.now in
+    record {
+      first_row = λ e. let x = respelled-refused Short s out e in (rw (w.value ∙ number x.0) ((decoding Short s _).0 refl), w.output_after ∙ x.1);
+      value = λ e h. let x = respelled-short Short s out e h in (w.value ∙ number x.0, w.output_after ∙ x.1);
+      value_2 = λ e h. let x = respelled_into Short s out e h in (w.value ∙ number x.0, w.output_after ∙ x.1);
+      respelled = λ e. (one_spelling Short s (λ j. search rules)).respelled e;
+    }

@@ -2,8 +2,9 @@
 use mathlib.Core.Path.{ap}
 use lib.ListN.{length}
 use Rattle.respelling.proofs.Laws.{due-refused, due-again}
-use borrow.Author.Rules.{rules}
 use Rattle.demand_contracts_calls.proofs.respelled_length.Goals as goal
 
 pub returns : goal.returns
-returns c = record { value = rw c.ax25_reencoded_length.ensures ((λ e. ap length (due-refused _ _ e)), (λ e. ap length (due-again _ _ e))); value_2 = rw c.ax25_reencoded_length.ensures ((λ e. ap length (due-refused _ _ e)), (λ e. ap length (due-again _ _ e))) }
+returns c =
+    let n = c.ax25_reencoded_length.ensures in
+    record { value = rw n (λ e. ap length (due-refused _ _ e)); value_2 = rw n (λ e. ap length (due-again _ _ e)) }

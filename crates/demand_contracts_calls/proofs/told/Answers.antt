@@ -15,10 +15,11 @@ returns c =
     let e = c.ax25_reason.ensures in
     let o : Octets a.input.now = λ k. search rules in
     let t : Told (mode_of a.mode) a.input.now = told _ _ o in
-    let exact = (one_spelling (mode_of a.mode) a.input.now o).exact in (
-      ((λ z. exact.0 (t.none.0 (sym e.0 ∙ z))), (λ w. e.0 ∙ t.none.1 (exact.1 w))),
-      (
-        (λ y. let x = t.accepted y in (rw e.0 x.0, e.1.0 ∙ x.1, e.1.1 ∙ x.2)),
-        ((λ y. e.0 ∙ ap code_of (t.refused y)), (rw e.1.0 t.number, (e.0, e.1.1))),
-      ),
-    )
+    let exact = (one_spelling (mode_of a.mode) a.input.now o).exact in
+    record {
+      variant = ((λ z. exact.0 (t.none.0 (sym e.value ∙ z))), (λ w. e.value ∙ t.none.1 (exact.1 w)));
+      upper_bound = λ y. let x = t.accepted y in (rw e.value x.0, e.number_after ∙ x.1, e.place_after ∙ x.2);
+      value = λ y. e.value ∙ ap code_of (t.refused y);
+      first_row = rw e.number_after t.number;
+      value_2 = (e.value, e.place_after);
+    }
