@@ -1,7 +1,6 @@
 -- The loop stays in its bounds.
 use Prim.Native.Nat.{◌+◌, ◌-◌, ◌≤◌}
 use lib.ListN.{length}
-use borrow.Author.Rules.{rules}
 use Rattle.replay.proofs.lines.Given as goal
 
 abbrev pub invariant-loop-at : goal.invariant-loop-at

@@ -2,7 +2,6 @@
 use Prim.Native.Nat.{ℕ}
 use mathlib.Core.Path.{sym}
 use lib.ListN.{length-replicate}
-use borrow.Author.Rules.{rules}
 use Rattle.replay.proofs.main.Goals as goal
 
 pub slice_bounds-replay-end : goal.slice_bounds-replay-end

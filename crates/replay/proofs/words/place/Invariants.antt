@@ -1,7 +1,6 @@
 -- `place` stays within its octets.
 use Prim.Native.Nat.{◌-◌, ◌≤◌}
 use lib.ListN.{length}
-use borrow.Author.Rules.{rules}
 use Rattle.replay.proofs.words.place.Given as goal
 
 abbrev pub invariant-loop-i : goal.invariant-loop-i

@@ -1,7 +1,6 @@
 -- The loop stays in the buffer.
 use Prim.Native.Nat.{◌-◌, ◌≤◌}
 use lib.ListN.{length}
-use borrow.Author.Rules.{rules}
 use Rattle.replay.proofs.words.untouched.Given as goal
 
 abbrev pub invariant-loop-i : goal.invariant-loop-i
