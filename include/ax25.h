@@ -53,7 +53,7 @@
        ax25_reencode             yes   no         yes
        ax25_kiss_read            yes   no         no
        ax25_kiss_write           yes   no         no
-       ax25_kiss_feed            no    yes        no
+       ax25_kiss_feed            no    no         no
 
    - A handler that calls one with SSE first saves the xmm registers of what it interrupted, and gives them back before it returns.
      memcpy and memset are those of whoever links the archive, and may use them too.

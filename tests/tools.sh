@@ -177,9 +177,12 @@ need_run() {
     esac
 }
 
+# What is made is for every x86-64 processor, as include/ax25.h says of the archive; the kit's own choice is those of 2009 and later.
+rt_cpu=--cpu=x86-64
+
 # Has rt prove a crate that is an archive and make it. A copy stays as target/staticlib/libNAME.a: `rt ci` takes rt's own away.
 tools_archive() { # CRATE NAME
-    (cd "$root/crates/$1" && rt lib) || return 1
+    (cd "$root/crates/$1" && rt lib "$rt_cpu") || return 1
     mkdir -p "$root/target/staticlib" && cp "$root/crates/$1/out/lib$1.a" "$root/target/staticlib/lib$2.a"
 }
 
