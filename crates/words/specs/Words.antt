@@ -1,5 +1,5 @@
--- The words of the dumper's lines (document 01, Loader calls and dumper): hex, decimal, an address character, mark, kind, control and PID in
--- the short mode, yes and no, reasons; a line; and how a word is held.
+-- The words of the dumper's lines (document 01, Loader calls and dumper): hex, an address character, mark, kind, control and PID in the short
+-- mode, yes and no, reasons; of what `follow` prints decimal and a line; and how a word is held.
 use Rattle.std.specs.Prelude.{ℕ, ◌+◌, ◌/◌, ◌%◌, Bool, true, false, cond, List, [], ◌∷◌, ◌++◌, ltb, length, get_or, take, drop}
 use Prim.Native.String.{String}
 use Rattle.text.specs.Text.{alphanumeric}

@@ -1,5 +1,5 @@
-// The words of the dumper's lines, short ones by value: hex, decimal, address characters, marks, kinds, control and PID, yes and no, reasons;
-// and a text with a number, put into a lent buffer.
+// The words of the dumper's lines, short ones by value: hex, address characters, marks, kinds, control and PID, yes and no, reasons; and of
+// what `follow` prints decimal, and a text with a number, put into a lent buffer.
 #![tactic(auto)]
 
 ghost use Rattle.std.specs.Prelude.{◌≡◌, ◌++◌, ◌+◌, ◌<◌, ◌%◌, ltb, length};
