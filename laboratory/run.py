@@ -104,7 +104,7 @@ def usual_time():
     page = evidence.text(ROOT, 'docs/PERFORMANCE.md') or ''
     part = re.search(rf'<!-- figures parts {os.uname().machine} -->(.*?)<!-- end -->', page, re.S)
     found = re.search(r'on (\d+) cores.*\| all of `\./test` \| (.*?) \|', part[1], re.S) if part else None
-    return f'it took {found[2]} on {found[1]} cores when it was measured last' if found else 'it takes a quarter of an hour or so'
+    return f'it took {found[2]} on {found[1]} cores when it was measured last, with the kit of then' if found else 'it takes a quarter of an hour or so'
 
 
 class Run:
