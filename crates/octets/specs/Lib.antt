@@ -6,3 +6,4 @@ pub mod Same
 pub mod Count
 pub mod Table
 pub mod Lent
+pub mod Outcome

@@ -1,0 +1,12 @@
+-- What is or is not refused, as numbers: what the papers say of a refusal, its number and its length 0, of a `Result`.
+use Rattle.std.specs.Prelude.{ℕ, Result, Ok, Err}
+
+-- the number of an answer: 0 where nothing is refused, else that of the refusal
+abbrev pub number_by : {T E : Type 0} → (E → ℕ) → Result T E → ℕ
+number_by number (Ok x) = 0
+number_by number (Err e) = number e
+
+-- how many octets were written: none where that was refused
+abbrev pub length_of : {E : Type 0} → Result ℕ E → ℕ
+length_of (Ok n) = n
+length_of (Err e) = 0
