@@ -12,7 +12,6 @@ use content::FrameContent;
 use control::Mode;
 use decode::{DecodeAnswer, Outline};
 use frame::Ax25Frame;
-use parse::ContentAnswer;
 use reason::Reason;
 
 // Where a capture lies in the buffer, and what is known of it: the decode number, or 61 where it is not inside the buffer; 1 where it is
@@ -72,11 +71,7 @@ fn kind_by(mode: Mode, part: &[u8], outline: Outline) -> u16
         return default_kind();
     };
     let control = outline.end + 1;
-    let read = parse::parse_content(mode, &part[control..]);
-    let ContentAnswer::Accepted(content) = read else {
-        // Never: the outline has seen that the content is accepted.
-        return default_kind();
-    };
+    let content = parse::parse_content(mode, &part[control..]).unwrap();
     kind_of(content)
 }
 

@@ -13,7 +13,6 @@ ghost use Rattle.respelling.specs.Reencode.{due, reencode, reencoded, report_of}
 use content::FrameContent;
 use control::Mode;
 use decode::{DecodeAnswer, Outline};
-use parse::ContentAnswer;
 
 #[derive(Clone, Copy)]
 pub enum ReencodeAnswer {
@@ -46,12 +45,7 @@ fn content_at(mode: Mode, bytes: &[u8], control: usize) -> FrameContent
     requires { (is_accepted (decode mode bytes.now).answer ≡ true) × (control ≡ end_of bytes.now + 1) }
     ensures { result ≡ (decode mode bytes.now).frame.content }
 {
-    let answer = parse::parse_content(mode, &bytes[control..]);
-    // Never met: the content of an accepted input is accepted.
-    let ContentAnswer::Accepted(content) = answer else {
-        return FrameContent::UnknownContent;
-    };
-    content
+    parse::parse_content(mode, &bytes[control..]).unwrap()
 }
 
 // How many of the `rest` octets after the address field are kept.
