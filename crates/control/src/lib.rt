@@ -2,7 +2,7 @@
 // its copy of a control field's numbers.
 #![tactic(auto)]
 
-ghost use Rattle.std.specs.Prelude.{◌≡◌, ◌≤◌, cond, [], ◌∷◌, ◌++◌, ◌%◌, length};
+ghost use Rattle.std.specs.Prelude.{◌≡◌, cond, [], ◌∷◌, ◌++◌, ◌%◌};
 ghost use Rattle.control.specs.Mode.{mode_of, controls};
 ghost use Rattle.control.specs.Control.{u_kind, fields_in};
 ghost use Rattle.control.specs.Spell.{numbered, received, sent, sequenced, unnumbered, flags, four};
@@ -53,18 +53,14 @@ pub fn short_fields(c: u8) -> Fields
     }
 }
 
-// The fields of a control field of either mode.
-pub fn fields_of(mode: Mode, bytes: &[u8]) -> Fields
-    requires { controls mode ≤ length bytes.now }
-    ensures { result ≡ fields_in mode bytes.now }
+// The fields of the two control octets of the long mode.
+pub fn long_fields(first: u8, second: u8) -> Fields
+    ensures { result ≡ fields_in Mode.Long (first ∷ second ∷ []) }
 {
-    match mode {
-        Mode::Short => short_fields(bytes[0]),
-        Mode::Long => Fields {
-            receive: bytes[1] >> 1,
-            send: bytes[0] >> 1,
-            poll: (bytes[1] & 0b0000_0001) != 0,
-        },
+    Fields {
+        receive: second >> 1,
+        send: first >> 1,
+        poll: (second & 0b0000_0001) != 0,
     }
 }
 

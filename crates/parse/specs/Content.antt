@@ -116,6 +116,9 @@ error_report WrongSizeFrmrInfo = number 8
 error_report FrameRejectInLongMode = number 11
 error_report MissingControlOctet = number 12
 
+abbrev pub error_number : ContentError → ℕ
+error_number e = (error_report e).number
+
 -- and of an answer: 0 where the content is accepted
 abbrev pub report_of : Result FrameContent ContentError → Report
 report_of (Ok k) = number 0

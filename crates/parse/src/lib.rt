@@ -3,15 +3,17 @@
 
 ghost use Rattle.std.specs.Prelude.{◌≡◌, ◌≤◌, ◌<◌, ◌+◌, Ok, Err, cond, ltb, length, get_or};
 ghost use Rattle.control.specs.Mode.{controls};
-ghost use Rattle.parse.specs.Content.{i_of, s_kind_of, s_of, u_of, ui_of, frmr_of, content_of, error_report, judged};
+ghost use Rattle.control.specs.Control.{fields_in};
+ghost use Rattle.parse.specs.Content.{i_of, s_kind_of, s_of, u_of, ui_of, frmr_of, content_of, error_number, judged};
 
+use answer::Numbered;
 use content::{
     CommandResponse, Disconnect, DisconnectedMode, ExchangeIdentification, FrameContent,
     FrameReject, Information, ReceiveNotReady, ReceiveReady, Reject, SelectiveReject,
     SetAsynchronousBalancedMode, SetAsynchronousBalancedModeExtended, Test, UnnumberedAcknowledge,
     UnnumberedInformation,
 };
-use control::Mode;
+use control::{Fields, Mode};
 use protocol::ProtocolIdentifier;
 
 // Why content is refused.
@@ -25,10 +27,10 @@ pub enum ContentError {
     MissingControlOctet,
 }
 
-impl ContentError {
-    pub fn number(self) -> u32
-        ensures { result ≡ (error_report self).number }
-    {
+impl Numbered for ContentError {
+    ghost number_of = { error_number };
+
+    fn number(self) -> u32 {
         match self {
             ContentError::ContentZeroLength => 4,
             ContentError::MissingPidField => 5,
@@ -130,12 +132,23 @@ pub fn judge(mode: Mode, bytes: &[u8]) -> Result<(), ContentError>
     }
 }
 
+// The fields of an I or S control field.
+fn fields_of(mode: Mode, bytes: &[u8]) -> Fields
+    requires { controls mode ≤ length bytes.now }
+    ensures { result ≡ fields_in mode bytes.now }
+{
+    match mode {
+        Mode::Short => control::short_fields(bytes[0]),
+        Mode::Long => control::long_fields(bytes[0], bytes[1]),
+    }
+}
+
 fn parse_i_frame(mode: Mode, bytes: &[u8]) -> Result<FrameContent, ContentError>
     requires { 0 < length bytes.now }
     ensures { result ≡ i_of mode bytes.now }
 {
     judge_i(mode, bytes)?;
-    let fields = control::fields_of(mode, bytes);
+    let fields = fields_of(mode, bytes);
     let pid = ProtocolIdentifier::from_byte(bytes[mode.controls()]);
     Ok(FrameContent::Information(Information {
         pid,
@@ -176,7 +189,7 @@ fn parse_s_frame(mode: Mode, bytes: &[u8]) -> Result<FrameContent, ContentError>
     ensures { result ≡ s_of mode bytes.now }
 {
     judge_s(mode, bytes)?;
-    let fields = control::fields_of(mode, bytes);
+    let fields = fields_of(mode, bytes);
     Ok(s_kind_of(bytes[0], fields.receive, fields.poll))
 }
 

@@ -22,6 +22,7 @@ ghost use Rattle.flat.specs.Given.{address_at, content_at, frame_from};
 ghost use Rattle.probe.specs.Places.{places_of};
 ghost use Rattle.probe.specs.Calls.{lacks, answers, leaves, leaves_by, read_flat, hops_of};
 
+use answer::Numbered;
 use control::Mode;
 use decode::Decoded;
 use frame::Ax25Frame;
