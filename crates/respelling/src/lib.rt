@@ -76,7 +76,7 @@ pub fn reencoded_length(mode: Mode, bytes: &[u8]) -> usize
 fn written_mark(to: bool, from: bool) -> bool
     ensures { result ≡ destination_mark (command_of to from) }
 {
-    if to { true } else { !from }
+    to || !from
 }
 
 // The groups of the repeaters; the last alone has the end bit.
@@ -84,12 +84,10 @@ fn put_route(out: &mut [u8], bytes: &[u8], count: usize)
     requires { (count ≤ 8) × (14 + 7 * count ≤ length bytes.now) × (14 + 7 * count ≤ length out.old) }
     ensures { out.new ≡ splice out.old 14 (groups_of (route_at bytes.now 14 count) count count) }
 {
-    let mut i = 0;
-    while i < count {
+    for i in 0..count {
         let at = 14 + 7 * i;
         let mark = group::mark_set(bytes[at + 6]);
         placing::respell(out, at, bytes, at, mark, i + 1 == count);
-        i += 1;
     }
 }
 
