@@ -6,20 +6,20 @@ ghost use Rattle.group.specs.Group.{address_of, mark_of, mark_set, ssid_octet, g
 
 use address::Address;
 
-#[derive(Clone, Copy)]
+#[derive(Clone, Copy, Debug, PartialEq, Eq)]
 pub struct ParsedAddress {
     pub address: Address,
     pub high_bit: bool,
 }
 
 // How writing a group ended.
-#[derive(Clone, Copy)]
+#[derive(Clone, Copy, Debug, PartialEq, Eq)]
 pub enum GroupAnswer {
     Written,
     NotEncodable,
 }
 
-#[derive(Clone, Copy)]
+#[derive(Clone, Copy, Debug, PartialEq, Eq)]
 pub struct WrittenGroup {
     pub answer: GroupAnswer,
     pub group: [u8; 7],
@@ -62,9 +62,9 @@ pub fn mark_set(last: u8) -> bool
 pub fn ssid_octet(ssid: u8, reserved: u8, high_bit: bool, final_in_address: bool) -> u8
     ensures { result ≡ ssid_octet ssid reserved high_bit final_in_address }
 {
-    (u8::from(high_bit) << 7)
+    ((ssid & 0x0f) << 1)
         | ((reserved & 0b11) << 5)
-        | ((ssid & 0x0f) << 1)
+        | (u8::from(high_bit) << 7)
         | u8::from(final_in_address)
 }
 
