@@ -69,7 +69,7 @@ pub fn ssid_octet(ssid: u8, reserved: u8, high_bit: bool, final_in_address: bool
 }
 
 // The group of an address that can be written.
-fn group_of(address: Address, high_bit: bool, final_in_address: bool) -> [u8; 7]
+pub fn group_of(address: Address, high_bit: bool, final_in_address: bool) -> [u8; 7]
     ensures { result ≡ group_of address high_bit final_in_address }
 {
     let [a, b, c, d, e, f] = address.callsign.map(|character| character << 1);
