@@ -2,11 +2,12 @@
 -- `all`, `position` and `count` of an iterator answer is said in the library's.
 use Rattle.std.proofs.Common.{◌≡◌, ℕ, suc, ◌+◌, ◌<◌, Bool, cond, List, [], ◌∷◌, ◌++◌, Option, MatchOption, length, refl, sym, ap, ◌∙◌, arith, ltb-true, ltb-false}
 use Rattle.std.specs.List.{list_all, position_or_len, position, count_by}
-use Rattle.std.proofs.lemmas.List.Recursion.{is_position_or_len, is_count_by}
+use Rattle.std.proofs.lemmas.List.Recursion.{is_count_by}
 use Rattle.octets.specs.All.{all}
 use Rattle.octets.specs.First.{first}
 use Rattle.octets.specs.Count.{count}
 use Rattle.octets.proofs.Choice.{by}
+use Rattle.octets.proofs.Position.{first_position}
 use Rattle.octets.proofs.First.{first_le, first_within}
 use lib.Dec.{ltb}
 
@@ -15,11 +16,6 @@ module _ {A : Type 0} (p : A → Bool) where
   unfolding all
   all-library [] = refl
   all-library (x ∷ s) = rw (all-library s)
-
-  pub first-library : (s : List A) → position_or_len p s ≡ first p s
-  unfolding first
-  first-library s =
-      sym (is_position_or_len (first p) p refl (λ x xs. let e : suc (first p xs) ≡ 1 + first p xs = omega arith in ap (λ (n : ℕ). cond (p x) 0 n) e) s)
 
   pub count-library : (s : List A) → count_by p s ≡ count p s
   unfolding count
@@ -30,7 +26,7 @@ module _ {A : Type 0} (p : A → Bool) where
   -- what the library's `position` answers
   pub position-first : (s : List A) (r : Option ℕ) → r ≡ position p s → MatchOption r (first p s ≡ length s) (λ k. (k < length s) × (first p s ≡ k))
   position-first s r e =
-      let f : position_or_len p s ≡ first p s = first-library s in
+      let f : position_or_len p s ≡ first p s = sym (first_position p s) in
       by (ltb (position_or_len p s) (length s))
       (λ t. rw (e, t, f) (rw f at (ltb-true _ _ t), refl))
       (λ t. rw (e, t) (omega (arith, first_le p s, f, ltb-false _ _ t)))
