@@ -1,72 +1,43 @@
--- One turn of each loop over marks: how many have been met, and whether one has.
-use Prim.Native.Nat.{ℕ, suc, ◌+◌, ◌≤◌, ◌<◌}
-use mathlib.Core.Path.{◌≡◌, refl, ◌∙◌}
-use mathlib.Core.Bool.{Bool, true, false, cond, not, ◌&&◌, ◌||◌}
-use mathlib.Core.List.{List}
-use native.Mathlib.Omega.{arith}
+-- One turn of each loop: how many special octets have been met, and whether one has.
+use Rattle.std.proofs.Common.{◌≡◌, ℕ, suc, ◌+◌, ◌≤◌, ◌<◌, Bool, true, false, cond, not, ◌&&◌, ◌||◌, List, ◌++◌, leb, length, get_or, take, drop, refl, ◌∙◌, arith, take-append-drop}
+use lib.Seq.{length-take-le}
 use mir.Val.{bool_byte}
-use borrow.Author.Tests.{le-leb}
-use lib.Bits.{bit_or}
-use lib.Dec.{eqb, leb}
-use lib.ListN.{length, get_or, drop, length-drop}
-use lib.Seq.{get_or-drop}
-use Rattle.octets.specs.Octet.{flag}
 use Rattle.octets.specs.First.{first}
 use Rattle.octets.specs.Count.{count}
-use Rattle.octets.proofs.First.{first_beyond}
-use Rattle.octets.proofs.Count.{count_step}
+use Rattle.octets.proofs.First.{first_before, first_past, first_beyond}
+use Rattle.octets.proofs.Count.{count_step, count_append}
 use Rattle.escapes.specs.Escape.{special}
 
-pub byte_or : (a b : Bool) → bit_or (bool_byte a) (bool_byte b) ≡ flag 0 (a || b)
-byte_or true true = refl
-byte_or true false = refl
-byte_or false true = refl
-byte_or false false = refl
-
-pub flag-most : (b : Bool) → flag 0 b ≤ 1
-flag-most true = omega arith
-flag-most false = omega arith
-
--- a mark tells
-pub marked : (b : Bool) (m : ℕ) → m ≡ flag 0 b → (m ≡ 0 → ⊥) → b ≡ true
-marked true m e n = refl
-marked false m e n = absurd (n e)
-
-pub unmarked : (b : Bool) (m : ℕ) → m ≡ flag 0 b → m ≡ 0 → b ≡ false
-unmarked true m e n = absurd (omega (arith, e, n))
-unmarked false m e n = refl
-
-split : (n : ℕ) (b : Bool) → cond b (suc n) n ≡ flag 0 b + n
-split n true = omega arith
-split n false = omega arith
+one_more : (n : ℕ) (b : Bool) → cond b (suc n) n ≡ bool_byte b + n
+one_more n true = omega arith
+one_more n false = omega arith
 
 -- what is met at a place, and behind it
-pub count_turn : (s : List ℕ) (i : ℕ) → i < length s → count special (drop i s) ≡ flag 0 (special (get_or s i 0)) + count special (drop (i + 1) s)
-count_turn s i h = count_step special s i 0 h ∙ split (count special (drop (i + 1) s)) (special (get_or s i 0))
+pub count_turn : (s : List ℕ) (i : ℕ) → i < length s → count special (drop i s) ≡ bool_byte (special (get_or s i 0)) + count special (drop (i + 1) s)
+count_turn s i h = count_step special s i 0 h ∙ one_more (count special (drop (i + 1) s)) (special (get_or s i 0))
+
+-- a list that is cut into a block and what stands behind it
+module _ (s a b : List ℕ) (n : ℕ) (front : a ≡ take n s) (behind : b ≡ drop n s) where
+  whole : a ++ b ≡ s
+  whole = rw (front, behind) (take-append-drop n s)
+
+  pub count_cut : count special s ≡ count special a + count special b
+  count_cut = rw whole at (count_append special a b)
+
+  pub first_cut : length b + n ≡ length s → n ≤ first special a → first special s ≡ n + first special b
+  first_cut l h =
+      let long : length a ≡ n = rw front (length-take-le n s (omega arith)) in
+      let past = first_past special a b 0 (λ j k. first_before special a 0 j (omega arith)) in
+      rw (whole, long) at past
 
 -- whether one has been met among the first k
 abbrev pub met : List ℕ → ℕ → Bool
 met l k = not (leb k (first special l))
 
-pub met_start : (l : List ℕ) → 0 ≡ flag 0 (met l 0)
-met_start l = rw (le-leb 0 (first special l) (omega arith)) refl
-
-none : (b : Bool) → eqb (flag 0 (not b)) 0 ≡ b
-none true = refl
-none false = refl
-
-pub met_none : (l : List ℕ) (k : ℕ) → eqb (flag 0 (met l k)) 0 ≡ leb k (first special l)
-met_none l k = none (leb k (first special l))
-
-step : (a b : Bool) → flag 0 (not (a && not b)) ≡ bit_or (flag 0 (not a)) (flag 0 b)
+step : (a b : Bool) → not (a && not b) ≡ (not a || b)
 step true true = refl
 step true false = refl
-step false true = refl
-step false false = refl
+step false b = refl
 
-pub met_turn : (s : List ℕ) (at k : ℕ) → at + k < length s
-    → flag 0 (met (drop at s) (k + 1)) ≡ bit_or (flag 0 (met (drop at s) k)) (flag 0 (special (get_or s (at + k) 0)))
-met_turn s at k h =
-    let here : get_or (drop at s) k 0 ≡ get_or s (at + k) 0 = get_or-drop at s k 0 in
-    let far : k < length (drop at s) = omega (arith, length-drop at s) in
-    rw (first_beyond special (drop at s) k 0 far, here) (step (leb k (first special (drop at s))) (special (get_or s (at + k) 0)))
+pub met_turn : (l : List ℕ) (k : ℕ) → k < length l → met l (k + 1) ≡ (met l k || special (get_or l k 0))
+met_turn l k h = rw (first_beyond special l k 0 h) (step (leb k (first special l)) (special (get_or l k 0)))

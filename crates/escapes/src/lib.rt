@@ -1,8 +1,7 @@
 // The octets that KISS escapes: how many there are in some data, and how far octets stand for themselves.
 #![tactic(auto)]
 
-ghost use Rattle.std.specs.Prelude.{◌≡◌, ◌+◌, ◌≤◌, leb, length, drop};
-ghost use Rattle.octets.specs.Octet.{flag};
+ghost use Rattle.std.specs.Prelude.{◌≡◌, ◌+◌, ◌≤◌, leb, length, drop, position};
 ghost use Rattle.octets.specs.First.{first};
 ghost use Rattle.octets.specs.Count.{count};
 ghost use Rattle.escapes.specs.Escape.{special};
@@ -16,87 +15,73 @@ pub const TFEND: u8 = 0xDC;
 
 pub const TFESC: u8 = 0xDD;
 
-// 1 for an octet that is written as two, else 0. No branch is taken on it, here or below, so that many are looked at at once.
-fn mark(octet: u8) -> u8
-    ensures { result ≡ flag 0 (special octet) }
+// Whether an octet is written as two. No branch is taken between the tests, here or below, so that many octets are looked at at once.
+fn is_special(octet: u8) -> bool
+    ensures { result ≡ special octet }
 {
-    ((octet == FEND) as u8) | ((octet == FESC) as u8)
+    (octet == FEND) | (octet == FESC)
 }
 
-// How many of the 64 octets from `at` on are written as two.
-fn count_block(bytes: &[u8], at: usize) -> u8
-    requires { at + 64 ≤ length bytes.now }
-    ensures { (result ≤ 64) × (result + count special (drop (at + 64) bytes.now) ≡ count special (drop at bytes.now)) }
+// How many of 64 octets are written as two.
+fn count_block(block: &[u8; 64]) -> u8
+    ensures few { result ≤ 64 }
+    ensures value { result ≡ count special block.now }
 {
     let mut found: u8 = 0;
-    let mut k = 0;
-    while k < 64 {
-        found += mark(bytes[at + k]);
-        k += 1;
+    for octet in block {
+        found += is_special(*octet) as u8;
     }
     found
 }
 
-// So many as are found by whole blocks, and the place behind them.
-#[derive(Clone, Copy)]
-struct Counted {
-    found: usize,
-    at: usize,
-}
-
-fn count_blocks(bytes: &[u8]) -> Counted
-    ensures { (result.found ≤ result.at) × (result.at ≤ length bytes.now) × (result.found + count special (drop result.at bytes.now) ≡ count special bytes.now) }
-{
-    let mut found = 0;
-    let mut i = 0;
-    while 64 <= bytes.len() - i {
-        found += count_block(bytes, i) as usize;
-        i += 64;
-    }
-    Counted { found, at: i }
-}
-
-// How many octets are written as two.
+// How many octets are written as two. Blocks of a fixed length are counted in an octet each, so that many octets are added at once.
 pub fn count_special(bytes: &[u8]) -> usize
     ensures { result ≡ count special bytes.now }
 {
-    let blocks = count_blocks(bytes);
-    let mut found = blocks.found;
-    let mut i = blocks.at;
-    while i < bytes.len() {
-        found += mark(bytes[i]) as usize;
-        i += 1;
+    let mut found = 0;
+    let mut rest = bytes;
+    while let Some((block, behind)) = rest.split_first_chunk::<64>() {
+        found += count_block(block) as usize;
+        rest = behind;
+    }
+    for octet in rest {
+        found += is_special(*octet) as usize;
     }
     found
 }
 
-// Whether none of the sixteen octets from `at` on is written as two.
-fn sixteen_plain(bytes: &[u8], at: usize) -> bool
-    requires { at + 16 ≤ length bytes.now }
-    ensures { result ≡ leb 16 (first special (drop at bytes.now)) }
+// Whether none of sixteen octets is written as two. A `for` and not `any`, which stops at the first and so looks at one at a time.
+fn sixteen_plain(block: &[u8; 16]) -> bool
+    ensures { result ≡ leb 16 (first special block.now) }
 {
-    let mut found: u8 = 0;
-    let mut k = 0;
-    while k < 16 {
-        found = found | mark(bytes[at + k]);
-        k += 1;
+    let mut found = false;
+    for octet in block {
+        found |= is_special(*octet);
     }
-    found == 0
+    !found
 }
 
-// How far octets stand for themselves, by sixteens.
-fn by_sixteens(bytes: &[u8], from: usize) -> usize
-    requires { from ≤ length bytes.now }
-    ensures { (result ≤ length bytes.now) × (from + first special (drop from bytes.now) ≡ result + first special (drop result bytes.now)) }
+// The place of the first octet that is written as two.
+fn first_special(bytes: &[u8]) -> Option<usize>
+    ensures { result ≡ position special bytes.now }
 {
-    let mut i = from;
-    while 16 <= bytes.len() - i {
-        if !sixteen_plain(bytes, i) {
-            return i;
+    bytes.iter().position(|octet| is_special(*octet))
+}
+
+// How many octets at the start stand for themselves: the place of the first C0 or DB, or the length.
+fn plain_len(bytes: &[u8]) -> usize
+    ensures { result ≡ first special bytes.now }
+{
+    let mut passed = 0;
+    let mut rest = bytes;
+    while let Some((block, behind)) = rest.split_first_chunk::<16>() {
+        if !sixteen_plain(block) {
+            break;
         }
-        i += 16;
+        passed += 16;
+        rest = behind;
     }
-    i
+    passed + first_special(rest).unwrap_or(rest.len())
 }
 
 // How far octets stand for themselves: the place of the first C0 or DB from `from` on, or the length.
@@ -106,13 +91,5 @@ pub fn plain_to(bytes: &[u8], from: usize) -> usize
     if bytes.len() < from {
         return from;
     }
-    let mut i = by_sixteens(bytes, from);
-    while i < bytes.len() {
-        let found = mark(bytes[i]);
-        if found != 0 {
-            return i;
-        }
-        i += 1;
-    }
-    i
+    from + plain_len(&bytes[from..])
 }

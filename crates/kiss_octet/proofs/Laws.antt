@@ -1,7 +1,7 @@
 -- What holds of whatever an octet does.
 use Prim.Native.Nat.{ℕ, ◌+◌, ◌≤◌, ◌<◌}
 use mathlib.Core.Path.{◌≡◌, refl}
-use mathlib.Core.Bool.{true, false, cond, false≢true}
+use mathlib.Core.Bool.{true, false, cond}
 use mathlib.Core.Logic.{◌⊎◌, inl, inr}
 use native.Mathlib.Omega.{arith}
 use borrow.Author.Tests.{eqb-true, ltb-true, ltb-false}
@@ -93,19 +93,6 @@ module _ (h : Head) (b : ℕ) (P : Move → Type 0) (m : Moves h b P) where
       (λ _. either P (eqb h.phase in_escape) (λ _. behind_by (put_of h) put_by)
       (λ _. either P (eqb h.phase in_type) (λ _. behind_by (typed_of h) typed_by)
       (λ _. either P (eqb b fend) (λ _. m.opens) (λ _. m.same)))))
-
--- a store lies within the room
-pub store-room : (h : Head) (b : ℕ) → (move_of h b).store ≡ true → h.length < room
-store-room h b =
-    move_by h b (λ m. m.store ≡ true → h.length < room) (record {
-      same = λ e. absurd (false≢true e);
-      opens = λ e. absurd (false≢true e);
-      waits = λ f l e. absurd (false≢true e);
-      drops = λ f l e. absurd (false≢true e);
-      starts = λ p l e. absurd (false≢true e);
-      stores = λ z l e. l;
-      closes = λ _ e. absurd (false≢true e);
-    })
 
 -- an octet keeps the states that calls make so
 none_sound : (f d : ℕ) → f ≤ in_type → Sound (head_of 0 0 f d)

@@ -1,17 +1,14 @@
 // One octet of a serial line of KISS packets: what it does to the state. The data of a packet is written where the state has it; the
 // numbers of the state go by value.
-#![tactic(auto)]
+#![tactic(auto, unfolding(crate::specs::Step::counted_of, crate::specs::Step::drop_of, crate::specs::Step::put_of, crate::specs::Step::typed_of, crate::specs::Step::stray_of, crate::specs::Step::unescaped, crate::specs::Step::outside_of, crate::specs::Step::opened_of, crate::specs::Step::data_of, crate::specs::Step::move_of, crate::specs::Step::stored_by))]
 
-ghost use Rattle.std.specs.Prelude.{◌≡◌};
-ghost use Rattle.kiss_state.specs.State.{phased, none_in};
-ghost use Rattle.kiss_octet.specs.Step.{counted_of, drop_of, quiet_of, put_of, typed_of, stray_of, unescaped, outside_of, opened_of, data_of, move_of, stored_by};
+ghost use Rattle.std.specs.Prelude.{◌≡◌, true, false};
+ghost use Rattle.kiss_state.specs.State.{opened, phased};
+ghost use Rattle.kiss_octet.specs.Step.{drop_of, quiet_of, put_of, typed_of, stray_of, unescaped, outside_of, opened_of, data_of, move_of, stored_by};
 
 use escapes::{FEND, FESC, TFEND, TFESC};
 use kiss::LAST_PORT;
 use kiss_state::{DROPPING, Head, IN_DATA, IN_ESCAPE, IN_TYPE, OPENED, ROOM};
-
-// The count of packets dropped stops here.
-const LAST_COUNT: u16 = 65535;
 
 // What one octet does: the numbers after it, an octet of data to store or none, whether a packet is given out.
 #[derive(Clone, Copy)]
@@ -22,66 +19,47 @@ pub struct Move {
     pub ready: bool,
 }
 
-fn counted(n: u16) -> u16
-    ensures { result ≡ counted_of n }
-{
-    if n < LAST_COUNT { n + 1 } else { n }
-}
-
-fn in_phase(h: Head, phase: u8) -> Head
-    ensures { result ≡ phased h phase }
-{
-    Head {
-        length: h.length,
-        port: h.port,
-        phase,
-        dropped: h.dropped,
-    }
-}
-
-fn quiet(h: Head) -> Move
-    ensures { result ≡ quiet_of h }
+// Nothing but the numbers changes.
+fn quiet(head: Head) -> Move
+    ensures { result ≡ quiet_of head }
 {
     Move {
-        head: h,
+        head,
         octet: 0,
         store: false,
         ready: false,
     }
 }
 
-// The packet is dropped and counted.
+// The packet is dropped and counted, as far as the count goes.
 fn drop(h: Head, phase: u8) -> Move
     ensures { result ≡ quiet_of (drop_of h phase) }
 {
-    let next = Head {
+    quiet(Head {
         length: 0,
         port: 0,
         phase,
-        dropped: counted(h.dropped),
-    };
-    quiet(next)
+        dropped: h.dropped.saturating_add(1),
+    })
 }
 
 // An octet of data, its escape removed.
 fn put(h: Head, octet: u8) -> Move
     ensures { result ≡ put_of h octet }
 {
-    if h.length < ROOM {
-        let next = Head {
-            length: h.length + 1,
-            port: h.port,
-            phase: IN_DATA,
-            dropped: h.dropped,
-        };
-        return Move {
-            head: next,
-            octet,
-            store: true,
-            ready: false,
-        };
+    if h.length >= ROOM {
+        return drop(h, DROPPING);
     }
-    drop(h, DROPPING)
+    Move {
+        head: Head {
+            length: h.length + 1,
+            phase: IN_DATA,
+            ..h
+        },
+        octet,
+        store: true,
+        ready: false,
+    }
 }
 
 // The type octet.
@@ -89,18 +67,15 @@ fn typed(h: Head, octet: u8) -> Move
     ensures { result ≡ typed_of h octet }
 {
     let command = octet & 0b0000_1111;
-    if command != 0 {
-        return drop(h, DROPPING);
-    }
     let port = octet >> 4;
-    if port > LAST_PORT {
+    if command != 0 || port > LAST_PORT {
         return drop(h, DROPPING);
     }
     quiet(Head {
         length: 0,
         port,
         phase: IN_DATA,
-        dropped: h.dropped,
+        ..h
     })
 }
 
@@ -108,64 +83,69 @@ fn typed(h: Head, octet: u8) -> Move
 fn stray(h: Head, octet: u8) -> Move
     ensures { result ≡ stray_of h octet }
 {
-    if octet == FEND {
-        return drop(h, OPENED);
+    match octet {
+        FEND => drop(h, OPENED),
+        _ => drop(h, DROPPING),
     }
-    drop(h, DROPPING)
 }
 
 // An octet behind a DB in the data.
 fn escaped(h: Head, octet: u8) -> Move
     ensures { result ≡ unescaped (put_of h) h octet }
 {
-    if octet == TFEND {
-        return put(h, FEND);
+    match octet {
+        TFEND => put(h, FEND),
+        TFESC => put(h, FESC),
+        _ => stray(h, octet),
     }
-    if octet == TFESC {
-        return put(h, FESC);
-    }
-    stray(h, octet)
 }
 
 // An octet before the first C0, or of a packet that is dropped.
 fn skip(h: Head, octet: u8) -> Move
     ensures { result ≡ outside_of h octet }
 {
-    if octet == FEND {
-        return quiet(kiss_state::none_in(h, OPENED));
+    match octet {
+        FEND => quiet(kiss_state::none_in(h, OPENED)),
+        _ => quiet(h),
     }
-    quiet(h)
 }
 
 // An octet behind a C0.
 fn start(h: Head, octet: u8) -> Move
     ensures { result ≡ opened_of h octet }
 {
-    if octet == FEND {
-        return quiet(h);
+    match octet {
+        FEND => quiet(h),
+        FESC => quiet(Head {
+            phase: IN_TYPE,
+            ..h
+        }),
+        _ => typed(h, octet),
     }
-    if octet == FESC {
-        return quiet(in_phase(h, IN_TYPE));
+}
+
+// The C0 that closes a packet opens the next.
+fn close(h: Head) -> Move
+    ensures { result ≡ record { head = phased h opened; octet = 0; store = false; ready = true } }
+{
+    Move {
+        ready: true,
+        ..quiet(Head { phase: OPENED, ..h })
     }
-    typed(h, octet)
 }
 
 // An octet behind the type octet.
 fn in_data(h: Head, octet: u8) -> Move
     ensures { result ≡ data_of h octet }
 {
-    if octet == FEND {
-        return Move {
-            head: in_phase(h, OPENED),
-            octet: 0,
-            store: false,
-            ready: true,
-        };
+    match octet {
+        FEND => close(h),
+        FESC => quiet(Head {
+            phase: IN_ESCAPE,
+            ..h
+        }),
+        _ => put(h, octet),
     }
-    if octet == FESC {
-        return quiet(in_phase(h, IN_ESCAPE));
-    }
-    put(h, octet)
 }
 
 // What an octet does. A type octet that is escaped is C0, of port 12, or DB, whose command is not 0: so whatever follows DB in its place,
@@ -173,20 +153,13 @@ fn in_data(h: Head, octet: u8) -> Move
 fn move_of(h: Head, octet: u8) -> Move
     ensures { result ≡ move_of h octet }
 {
-    let phase = h.phase;
-    if phase == IN_DATA {
-        return in_data(h, octet);
+    match h.phase {
+        IN_DATA => in_data(h, octet),
+        OPENED => start(h, octet),
+        IN_ESCAPE => escaped(h, octet),
+        IN_TYPE => stray(h, octet),
+        _ => skip(h, octet),
     }
-    if phase == OPENED {
-        return start(h, octet);
-    }
-    if phase == IN_ESCAPE {
-        return escaped(h, octet);
-    }
-    if phase == IN_TYPE {
-        return stray(h, octet);
-    }
-    skip(h, octet)
 }
 
 // One octet: where it completes an octet of data, that is stored, and nothing else of the array changes.

@@ -1,5 +1,5 @@
 // The state of a serial line of KISS packets: what it holds, and which states are taken for fresh ones.
-#![tactic(auto)]
+#![tactic(auto, unfolding(crate::specs::State::settled_head))]
 
 ghost use Rattle.std.specs.Prelude.{◌≡◌};
 ghost use Rattle.kiss_state.specs.State.{none_in, settled_head};
@@ -54,7 +54,7 @@ pub fn none_in(h: Head, phase: u8) -> Head
         length: 0,
         port: 0,
         phase,
-        dropped: h.dropped,
+        ..h
     }
 }
 
@@ -62,13 +62,7 @@ pub fn none_in(h: Head, phase: u8) -> Head
 pub fn settle(h: Head) -> Head
     ensures { result ≡ settled_head h }
 {
-    if h.length > ROOM {
-        return none_in(h, OUTSIDE);
-    }
-    if h.port > LAST_PORT {
-        return none_in(h, OUTSIDE);
-    }
-    if h.phase > IN_TYPE {
+    if h.length > ROOM || h.port > LAST_PORT || h.phase > IN_TYPE {
         return none_in(h, OUTSIDE);
     }
     h

@@ -1,14 +1,18 @@
 -- One turn of the loop over a piece, and one of each loop over a run.
-use Prim.Native.Nat.{ℕ, ◌+◌, ◌-◌, ◌≤◌, ◌<◌}
+use Prim.Native.Nat.{ℕ, zero, suc, ◌+◌, ◌-◌, ◌≤◌, ◌<◌}
 use mathlib.Core.Path.{◌≡◌, refl, ap, sym, ◌∙◌}
 use mathlib.Core.Bool.{true, false, cond}
 use mathlib.Core.List.{List}
 use mathlib.Core.Logic.{◌⊎◌}
 use native.Mathlib.Numerals.{add-one}
 use native.Mathlib.Omega.{arith}
-use borrow.Author.Tests.{ne_eqb, lt-ltb}
-use lib.ListN.{length, get_or, set, drop, drop_of_length-le}
-use lib.Seq.{drop-cons}
+use borrow.Author.Tests.{ne_eqb, eqb-false, lt-ltb}
+use lib.Dec.{eqb}
+use native.Mathlib.Nat.{add-zero}
+use Rattle.octets.specs.First.{first}
+use Rattle.octets.proofs.First.{first_before, first_le}
+use lib.ListN.{length, get_or, set, drop, length-drop, drop_of_length-le}
+use lib.Seq.{drop-cons, get_or-drop}
 use Rattle.escapes.specs.Escape.{fend, fesc, tfend, tfesc}
 use Rattle.kiss_state.specs.declared.Head.{Head}
 use Rattle.kiss_state.specs.declared.Stream.{Stream}
@@ -99,9 +103,6 @@ pub record Filled (octets₀ : List ℕ) (held : ℕ) (l : List ℕ) (from : ℕ
   pub many : end ≡ held + (i - from)
   pub reaches : (p d : ℕ) → Reaches (stream_of octets₀ (head_of held p in_data d)) from (stream_of octets (head_of end p in_data d)) i l
 
-pub filled_none : (octets : List ℕ) (held : ℕ) (l : List ℕ) (from : ℕ) → (from ≤ length l) × (held ≤ 65535) → Filled octets held l from octets held from
-filled_none octets held l from h = record { few = h.1; many = omega arith; reaches = λ p d. (omega arith, h.0, refl) }
-
 module _ (octets₀ : List ℕ) (held : ℕ) (l : List ℕ) (from : ℕ) (octets : List ℕ) (end i : ℕ) (k : Filled octets₀ held l from octets end i) where
   pub filled_more : i < length l → (get_or l i 0 ≡ fend → ⊥) → (get_or l i 0 ≡ fesc → ⊥) → end < room → Filled octets₀ held l from (set octets end (get_or l i 0)) (end + 1) (i + 1)
   filled_more far a b r =
@@ -113,6 +114,13 @@ module _ (octets₀ : List ℕ) (held : ℕ) (l : List ℕ) (from : ℕ) (octets
         reaches = λ p d. (omega arith, omega arith, (k.reaches p d).2 ∙ plain-stores l i far a b octets end p d r);
       }
 
-  pub filled-gives : (held + (i - from) ≤ 65535)
-      × ((p d : ℕ) → Reaches (stream_of octets₀ (head_of held p in_data d)) from (stream_of octets (head_of (held + (i - from)) p in_data d)) i l)
-  filled-gives = rw (sym k.many) (k.few, k.reaches)
+-- octets that are passed over up to the next C0
+pub run_passes : (s : Stream) (l : List ℕ) (i k : ℕ) → (s.head.phase ≡ outside) ⊎ (s.head.phase ≡ dropping) → k ≤ first (λ b. eqb b fend) (drop i l)
+    → later i (taken_from s (drop i l)) ≡ later (i + k) (taken_from s (drop (i + k) l))
+run_passes s l i zero p h = rw add-zero refl
+run_passes s l i (suc k) p h =
+    let f : k < first (λ b. eqb b fend) (drop i l) = omega arith in
+    let other = first_before (λ b. eqb b fend) (drop i l) 0 k f in
+    let on : i + suc k ≡ i + k + 1 = omega arith in
+    let in_l : i + k < length l = omega (arith, first_le (λ b. eqb b fend) (drop i l), length-drop i l) in
+    rw on (taken_passes _ s l (i + k) (run_passes s l i k p (omega arith)) in_l p (eqb-false _ _ (rw get_or-drop at other)))

@@ -1,10 +1,11 @@
 // A serial line of KISS packets, read in the pieces in which it gives them.
 #![tactic(auto)]
 
-ghost use Rattle.std.specs.Prelude.{◌≡◌, ℕ, ◌+◌, ◌-◌, ◌≤◌, length};
+ghost use Rattle.std.specs.Prelude.{◌≡◌, ℕ, ◌+◌, ◌-◌, ◌≤◌, ◌==◌, length, position, IfSome};
+ghost use Rattle.escapes.specs.Escape.{fend};
 ghost use Rattle.kiss_state.specs.declared.Stream.{Stream};
 ghost use Rattle.kiss_state.specs.State.{in_data, head_of, stream_of};
-ghost use Rattle.kiss_stream.specs.Feed.{packet_of, feed_of, fed_of};
+ghost use Rattle.kiss_stream.specs.Feed.{no_packet, packet_of, feed_of, fed_of};
 ghost use Rattle.kiss_stream.specs.Steps.{Reaches, Stores};
 
 use escapes::{FEND, FESC, TFEND, TFESC};
@@ -34,6 +35,16 @@ struct Reached {
     at: usize,
 }
 
+fn no_packet() -> Packet
+    ensures { result ≡ no_packet }
+{
+    Packet {
+        ready: 0,
+        port: 0,
+        length: 0,
+    }
+}
+
 fn packet_of(h: Head) -> Packet
     ensures { result ≡ packet_of h }
 {
@@ -44,51 +55,36 @@ fn packet_of(h: Head) -> Packet
     }
 }
 
-// The octet that a DB at `at` and the octet behind it stand for, or 0 where the piece has no such pair there.
-fn escaped_at(piece: &[u8], at: usize) -> u8
+// The octet that a DB at `at` and the octet behind it stand for, where the piece has such a pair there.
+fn escaped_at(piece: &[u8], at: usize) -> Option<u8>
     requires { at ≤ length piece.now }
-    ensures { (result ≡ 0 → ⊥) → (at + 2 ≤ length piece.now) × Stores at result (at + 2) piece.now }
+    ensures { IfSome result (λ b. (at + 2 ≤ length piece.now) × Stores at b (at + 2) piece.now) }
 {
-    if piece.len() - at < 2 {
-        return 0;
+    if piece.len() - at < 2 || piece[at] != FESC {
+        return None;
     }
-    if piece[at] != FESC {
-        return 0;
+    match piece[at + 1] {
+        TFEND => Some(FEND),
+        TFESC => Some(FESC),
+        _ => None,
     }
-    let second = piece[at + 1];
-    if second == TFEND {
-        return FEND;
-    }
-    if second == TFESC {
-        return FESC;
-    }
-    0
 }
 
-// Stores the octets of data from `from` on that stand for themselves, behind `held` octets of data and as far as there is room. Gives the
-// place behind them. Most octets are taken here, and the loop is short.
+// Stores the octets of data from `from` on that stand for themselves, behind `held` octets of data and as far as there is room. Gives how
+// many octets of data there are then. Most octets are taken here, and the loop is short.
 fn fill_plain(octets: &mut [u8; 1024], held: usize, piece: &[u8], from: usize) -> usize
     requires { (from ≤ length piece.now) × (held ≤ 65535) }
-    ensures { (held + (result - from) ≤ 65535) × ((p d : ℕ) → Reaches (stream_of octets.old (head_of held p in_data d)) from (stream_of octets.new (head_of (held + (result - from)) p in_data d)) result piece.now) }
+    ensures { (held ≤ result) × (result ≤ 65535) × ((p d : ℕ) → Reaches (stream_of octets.old (head_of held p in_data d)) from (stream_of octets.new (head_of result p in_data d)) (from + (result - held)) piece.now) }
 {
     let mut end = held;
-    let mut i = from;
-    while i < piece.len() {
-        let octet = piece[i];
-        if octet == FEND {
-            return i;
+    for octet in &piece[from..] {
+        if *octet == FEND || *octet == FESC || end >= 1024 {
+            break;
         }
-        if octet == FESC {
-            return i;
-        }
-        if end >= 1024 {
-            return i;
-        }
-        octets[end] = octet;
+        octets[end] = *octet;
         end += 1;
-        i += 1;
     }
-    i
+    end
 }
 
 // In the phase of data, stores the data from `from` on as far as there is room: octets that stand for themselves, and escapes that are
@@ -102,14 +98,14 @@ fn fill(octets: &mut [u8; 1024], h: Head, piece: &[u8], from: usize) -> Reached
     }
     let mut end = h.length as usize;
     let mut i = from;
+    // A loop, because a turn takes a run and then a pair: what an iterator gives has one length.
     loop {
-        let to = fill_plain(octets, end, piece, i);
-        end += to - i;
-        i = to;
-        let escaped = escaped_at(piece, i);
-        if escaped == 0 {
+        let held = end;
+        end = fill_plain(octets, held, piece, i);
+        i += end - held;
+        let Some(escaped) = escaped_at(piece, i) else {
             break;
-        }
+        };
         if end >= 1024 {
             break;
         }
@@ -117,14 +113,18 @@ fn fill(octets: &mut [u8; 1024], h: Head, piece: &[u8], from: usize) -> Reached
         end += 1;
         i += 2;
     }
-    let length = end as u16;
     let next = Head {
-        length,
-        port: h.port,
-        phase: IN_DATA,
-        dropped: h.dropped,
+        length: end as u16,
+        ..h
     };
     Reached { head: next, at: i }
+}
+
+// The place of the first C0.
+fn next_fend(bytes: &[u8]) -> Option<usize>
+    ensures { result ≡ position (λ b. b == fend) bytes.now }
+{
+    bytes.iter().position(|octet| *octet == FEND)
 }
 
 // In the two phases that pass over all that is not C0, the place of the next C0 from `from` on, or the end; else `from`.
@@ -135,14 +135,7 @@ fn skip(phase: u8, piece: &[u8], from: usize) -> usize
     if phase != OUTSIDE && phase != DROPPING {
         return from;
     }
-    let mut i = from;
-    while i < piece.len() {
-        if piece[i] == FEND {
-            break;
-        }
-        i += 1;
-    }
-    i
+    from + next_fend(&piece[from..]).unwrap_or(piece.len() - from)
 }
 
 // Takes a piece of the line, of any length, through the first octet that gives out a packet, else the whole. Each turn takes the octets
@@ -153,22 +146,19 @@ pub fn feed(octets: &mut [u8; 1024], head: Head, piece: &[u8]) -> Fed
 {
     let mut h = kiss_state::settle(head);
     let mut i = 0;
+    // A loop, because a turn goes as far as the octets let it: no iterator over the piece has these steps.
     loop {
         let filled = fill(octets, h, piece, i);
         h = filled.head;
         i = skip(h.phase, piece, filled.at);
-        if i >= piece.len() {
+        let Some(octet) = piece.get(i) else {
             return Fed {
                 head: h,
-                packet: Packet {
-                    ready: 0,
-                    port: 0,
-                    length: 0,
-                },
+                packet: no_packet(),
                 taken: i,
             };
-        }
-        let m = kiss_octet::step(octets, h, piece[i]);
+        };
+        let m = kiss_octet::step(octets, h, *octet);
         h = m.head;
         i += 1;
         if m.ready {

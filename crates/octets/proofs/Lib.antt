@@ -9,3 +9,4 @@ pub mod Place
 pub mod Count
 pub mod Table
 pub mod Lent
+pub mod Position

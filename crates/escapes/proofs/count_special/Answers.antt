@@ -1,26 +1,20 @@
-use native.Mathlib.Omega.{arith}
-use lib.ListN.{get_or}
+use Rattle.std.proofs.Common.{◌+◌, arith, length-drop}
 use Rattle.octets.proofs.Count.{count_end}
 use Rattle.escapes.specs.Escape.{special}
-use Rattle.escapes.proofs.Marks.{flag-most, count_turn}
+use Rattle.escapes.proofs.Marks.{count_turn, count_cut}
 use Rattle.escapes.proofs.count_special.Goals as goal
 
-pub loop-i-init : goal.loop-i-init
-loop-i-init c = c.count_blocks-blocks.ensures
+pub loop-block-preserved : goal.loop-block-preserved
+loop-block-preserved c =
+    let e = c.in-Some.ensures.cases in
+    let both = count_cut c.loop-block.rest.now c.in-Some.block.now c.in-Some.behind.now 64 e.0 e.1 in
+    (omega (arith, e.2), omega arith)
 
-pub overflow_add-found : goal.overflow_add-found
-overflow_add-found c =
-    let l = c.loop-i in
-    omega (arith, c.mark.ensures, flag-most (special (get_or c.args.bytes.now l.i 0)))
-
-pub loop-i-preserved : goal.loop-i-preserved
-loop-i-preserved c =
-    let l = c.loop-i in
-    let s = c.args.bytes.now in
-    let one = c.mark.ensures in
-    (omega (arith, one, flag-most (special (get_or s l.i 0))), omega arith, omega (arith, one, count_turn s l.i (omega arith)))
+pub loop-octet-preserved : goal.loop-octet-preserved
+loop-octet-preserved c =
+    let s = c.loop-block.rest.now in
+    let k = c.loop-octet.octet-index in
+    grind (arith, count_turn s k (omega arith), length-drop k s, length-drop (k + 1) s)
 
 pub returns : goal.returns
-returns c =
-    let l = c.loop-i in
-    omega (arith, count_end special c.args.bytes.now l.i (omega arith))
+returns c = omega (arith, count_end special c.loop-block.rest.now c.loop-octet.octet-index (omega arith))

@@ -1,52 +1,44 @@
-use mathlib.Core.Path.{◌≡◌, refl, ap, sym, ◌∙◌}
-use native.Mathlib.Omega.{arith}
+use Rattle.std.proofs.Common.{◌≡◌, refl, ap, sym, ◌∙◌, arith, drop}
 use Rattle.kiss_state.specs.State.{stream_of}
-use Rattle.kiss_stream.specs.Feed.{Called, feed_of, fed_of}
+use Rattle.kiss_stream.specs.Feed.{Called, later, taken_from, feed_of, fed_of}
 use Rattle.kiss_stream.proofs.Laws.{later_none, taken-gives, taken_goes, taken-ends}
-use borrow.Author.Rules.{rules}
 use Rattle.kiss_stream.proofs.feed.Goals as goal
+use Rattle.kiss_stream.proofs.feed.Goals.{After-skip-i}
 
 answered : {w r : Called} → w ≡ r → (fed_of w ≡ fed_of r) × (w.stream.octets ≡ r.stream.octets)
 answered e = (ap fed_of e, ap (λ (x : Called). x.stream.octets) e)
 
-pub loop-i-init : goal.loop-i-init
-loop-i-init c = (search rules, sym (later_none _))
-
-pub skip-i-requires : goal.skip-i-requires
-skip-i-requires c = c.fill-filled.ensures.1
-
 -- the whole call is the call from behind the runs on
-behind : {w x y z : Called} → w ≡ x → x ≡ y → y ≡ z → w ≡ z
-behind a b c = a ∙ b ∙ c
-
-pub returns-then-i-piece : goal.returns-then-i-piece
-unfolding feed_of
-returns-then-i-piece c =
+behind : (c : After-skip-i) → let f = c.fill-filled in
+    taken_from (stream_of c.args.octets.now c.settle-h.result) c.args.piece.now
+    ≡ later c.skip-i.result (taken_from (stream_of f.new.octets f.result.head) (drop c.skip-i.result c.args.piece.now))
+behind c =
     let f = c.fill-filled in
-    let k = c.skip-i in
-    let e = c.settle-h.ensures in
-    let w = taken-ends _ (stream_of f.new.octets f.result.head) _ c.skip-i.result (behind c.loop-i.invariant.1 f.ensures.2 (k.ensures (stream_of f.new.octets f.result.head) refl).2) c.if-i-piece.true in
-    answered (sym (rw e at w))
+    c.loop-octet.invariant.1 ∙ f.ensures.2 ∙ (c.skip-i.ensures (stream_of f.new.octets f.result.head) refl).2
+
+pub loop-octet-init : goal.loop-octet-init
+loop-octet-init c = (omega arith, sym (later_none _))
+
+pub returns-in_default : goal.returns-in_default
+unfolding feed_of
+returns-in_default c =
+    let w = taken-ends _ _ _ c.skip-i.result (behind (goal.at.returns-in_default c).After-skip-i) c.in_default.ensures.lookup.3 in
+    rw c.no_packet.ensures (answered (sym (rw c.settle-h.ensures at w)))
 
 pub returns-then-m : goal.returns-then-m
 unfolding feed_of
 returns-then-m c =
-    let f = c.fill-filled in
-    let k = c.skip-i in
     let s = c.step-m in
-    let e = c.settle-h.ensures in
-    let w = taken-gives _ f.new.octets f.result.head _ k.result s.result s.new.octets (behind c.loop-i.invariant.1 f.ensures.2 (k.ensures (stream_of f.new.octets f.result.head) refl).2) (omega arith) s.ensures.value s.ensures.octets_after c.if-m.true in
-    rw c.packet_of.ensures (answered (sym (rw e at w)))
+    let here = c.in-Some.ensures.lookup.3 in
+    let w = taken-gives _ _ _ _ c.skip-i.result s.result s.new.octets (behind (goal.at.returns-then-m c).After-skip-i) here.0
+    (rw (here.1 0) at s.ensures.value) (rw (here.1 0) at s.ensures.octets_after) c.if-m.true in
+    rw c.packet_of.ensures (answered (sym (rw c.settle-h.ensures at w)))
 
-pub loop-i-smaller : goal.loop-i-smaller
-loop-i-smaller c =
-    let f = c.fill-filled in
-    let k = c.skip-i in
-    omega (arith, f.ensures.0, (k.ensures (stream_of f.new.octets f.result.head) refl).0)
-
-pub loop-i-preserved : goal.loop-i-preserved
-loop-i-preserved c =
-    let f = c.fill-filled in
-    let k = c.skip-i in
+pub loop-octet-preserved : goal.loop-octet-preserved
+loop-octet-preserved c =
     let s = c.step-m in
-    (omega arith, taken_goes _ f.new.octets f.result.head _ k.result s.result s.new.octets (behind c.loop-i.invariant.1 f.ensures.2 (k.ensures (stream_of f.new.octets f.result.head) refl).2) (omega arith) s.ensures.value s.ensures.octets_after c.if-m.false)
+    let here = c.in-Some.ensures.lookup.3 in (
+      omega (arith, here.0),
+      taken_goes _ _ _ _ c.skip-i.result s.result s.new.octets (behind (goal.at.loop-octet-preserved c).After-skip-i) here.0
+          (rw (here.1 0) at s.ensures.value) (rw (here.1 0) at s.ensures.octets_after) c.if-m.false,
+    )

@@ -6,8 +6,8 @@ use Rattle.kiss_state.specs.State.{stream_of}
 use Rattle.kiss_stream.specs.Feed.{later, taken_from}
 use Rattle.kiss_stream.proofs.feed.Given as goal
 
-abbrev pub invariant-loop-i : goal.invariant-loop-i
-invariant-loop-i l = (l.i ≤ length l.piece) × (taken_from (stream_of l.initial.octets l.initial.h) l.piece ≡ later l.i (taken_from (stream_of l.octets l.h) (drop l.i l.piece)))
+abbrev pub invariant-loop-octet : goal.invariant-loop-octet
+invariant-loop-octet l = (l.i ≤ length l.piece) × (taken_from (stream_of l.initial.octets l.initial.h) l.piece ≡ later l.i (taken_from (stream_of l.octets l.h) (drop l.i l.piece)))
 
-abbrev pub decreases-loop-i : goal.decreases-loop-i
-decreases-loop-i l = length l.piece - l.i
+abbrev pub decreases-loop-octet : goal.decreases-loop-octet
+decreases-loop-octet l = length l.piece - l.i

@@ -1,24 +1,30 @@
-use mathlib.Core.Path.{refl, ◌∙◌}
-use mathlib.Core.Logic.{inl, inr, ⊎_elim}
-use native.Mathlib.Omega.{arith}
-use Rattle.kiss_stream.proofs.Laws.{taken_passes}
+-- All up to the place that is found are passed over.
+use Rattle.std.proofs.Common.{◌≡◌, ◌∙◌, arith, eqb, drop, length-drop, inl, inr}
+use mathlib.Core.Logic.{⊎_elim}
+use Rattle.octets.specs.First.{first}
+use Rattle.octets.proofs.First.{first_le}
+use Rattle.octets.proofs.Position.{first_found}
+use Rattle.octets.proofs.Splice.{part_from}
+use Rattle.escapes.specs.Escape.{fend}
+use Rattle.kiss_stream.proofs.Laws.{run_passes}
 use Rattle.kiss_stream.proofs.skip.Goals as goal
+use Rattle.kiss_stream.proofs.skip.Goals.{After-unwrap_or}
 
-pub returns-then-phase-ne-DROPPING : goal.returns-then-phase-ne-DROPPING
-returns-then-phase-ne-DROPPING c = λ s p. (omega arith, c.requires, refl)
+found : (c : After-unwrap_or) → c.unwrap_or.result ≡ first (λ b. eqb b fend) (drop c.args.from c.args.piece.now)
+found c =
+    let s = drop c.args.from c.args.piece.now in
+    c.unwrap_or.ensures ∙ rw (c.next_fend.ensures, part_from, ← length-drop c.args.from c.args.piece.now) (first_found (λ b. eqb b fend) s)
 
-pub loop-i-init : goal.loop-i-init
-loop-i-init c = λ s p. (omega arith, c.requires, refl)
+pub overflow_add-result : goal.overflow_add-result
+overflow_add-result c =
+    let a = c.args in
+    let s = drop a.from a.piece.now in
+    omega (arith, found (goal.at.overflow_add-result c).After-unwrap_or, first_le (λ b. eqb b fend) s, length-drop a.from a.piece.now)
 
-pub loop-i-preserved : goal.loop-i-preserved
-loop-i-preserved c = λ s p.
-    let l = c.loop-i in
-    let e = l.invariant s p in
+pub returns : goal.returns
+returns c = λ s p.
+    let a = c.args in
+    let f = found (goal.at.returns c).After-unwrap_or in
+    let most = first_le (λ b. eqb b fend) (drop a.from a.piece.now) in
     let o = ⊎_elim (λ w. inr (p ∙ w.1)) (λ w. inl (p ∙ w)) c.else-phase-ne-OUTSIDE.either in
-    (omega (arith, e.0), omega arith, taken_passes _ s _ l.i e.2 (omega arith) o c.if-piece-i.false)
-
-pub returns-after-loop-i : goal.returns-after-loop-i
-returns-after-loop-i c = c.loop-i.invariant
-
-pub returns-then-piece-i : goal.returns-then-piece-i
-returns-then-piece-i c = c.loop-i.invariant
+    (omega arith, omega (arith, length-drop a.from a.piece.now), run_passes s a.piece.now a.from c.unwrap_or.result o (omega arith))
