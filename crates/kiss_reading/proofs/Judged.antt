@@ -3,15 +3,38 @@ use Rattle.std.proofs.Common.{◌≡◌, ℕ, ◌≤◌, ◌<◌, true, false, L
 use mathlib.Core.Bool.{false≢true}
 use borrow.Author.Tests.{ltb-false, lt-ltb, le-ltb}
 use Rattle.octets.specs.Octet.{field}
-use Rattle.octets.specs.Outcome.{octets_of}
+use Rattle.octets.specs.Outcome.{octets_of, measured}
 use Rattle.octets.proofs.Choice.{by}
 use Rattle.escapes.specs.Escape.{fend, fesc, tfend, tfesc}
 use Rattle.kiss.specs.Packet.{last_port}
 use Rattle.kiss_reading.specs.Answer.{Given, accepted, octets_given, read_of}
-use Rattle.kiss_reading.specs.Read.{heard, on_port, typed, type_escaped, opened, read_packet, read_into}
+use Rattle.kiss_reading.specs.Read.{more, heard, on_port, typed, type_escaped, opened, read_packet, read_into}
+use Rattle.kiss_reading.specs.Steps.{plus}
 use Rattle.kiss_reading.specs.declared.KissError.{KissError}
 use Rattle.kiss_reading.specs.declared.KissError.TheVariants.{NotData, PortTooHigh, NoRoom}
 use Rattle.kiss_reading.specs.declared.KissRead.{KissRead}
+
+-- ---- one more octet of data
+pub more_ok : (b : ℕ) (h : Result (List ℕ) KissError) → is_ok (more b h) ≡ is_ok h
+more_ok b (Ok s) = refl
+more_ok b (Err e) = refl
+
+pub more_octets : (b : ℕ) (h : Result (List ℕ) KissError) → is_ok h ≡ true → octets_of (more b h) ≡ b ∷ octets_of h
+more_octets b (Ok s) a = refl
+more_octets b (Err e) a = absurd (false≢true a)
+
+pub more_measured : (b : ℕ) (h : Result (List ℕ) KissError) → measured (more b h) ≡ plus 1 (measured h)
+more_measured b (Ok s) = ap (λ (n : ℕ). Ok n) (omega arith)
+more_measured b (Err e) = refl
+
+-- how much there is tells whether it is refused, and which
+pub measured-refused : (h : Result (List ℕ) KissError) (e : KissError) → measured h ≡ Err e → h ≡ Err e
+measured-refused (Ok s) e m = cc
+measured-refused (Err d) e m = let i : d ≡ e = cc in ap (λ (y : KissError). Err y) i
+
+pub measured_ok : (h : Result (List ℕ) KissError) (n : ℕ) → measured h ≡ Ok n → (is_ok h ≡ true) × (length (octets_of h) ≡ n)
+measured_ok (Ok s) n m = let i : length s ≡ n = cc in (refl, i)
+measured_ok (Err e) n m = cc
 
 -- ---- the type octet
 pub typed_command : (t : ℕ) (s : List ℕ) → eqb (field 0 4 t) 0 ≡ false → typed t s ≡ Err NotData
@@ -56,6 +79,9 @@ into-short s room h = simp (lt-ltb _ _ h)
 pub into_fits : (s : List ℕ) (room : ℕ) → length (octets_given (read_packet s)) ≤ room → read_into s room ≡ read_packet s
 unfolding read_into
 into_fits s room h = simp (le-ltb _ _ h)
+
+pub into-refused : (s : List ℕ) (room : ℕ) (e : KissError) → read_packet s ≡ Err e → read_into s room ≡ Err e
+into-refused s room e r = into_fits s room (rw r (omega arith)) ∙ r
 
 -- what the function gives tells what was read
 pub told-refused : (x : Result Given KissError) (e : KissError) → Err e ≡ read_of x → x ≡ Err e

@@ -3,7 +3,7 @@ use Rattle.std.proofs.Common.{◌≡◌, refl, sym, ◌∙◌, Err, length, arit
 use Rattle.std.proofs.lemmas.Result.{err_from_is_err_and}
 use Rattle.octets.proofs.Splice.{splice_none, part_from}
 use Rattle.kiss_reading.specs.Read.{read_packet, read_into}
-use Rattle.kiss_reading.proofs.Judged.{told-refused, told-accepted, into-short, into_fits, data-heard}
+use Rattle.kiss_reading.proofs.Judged.{told-refused, told-accepted, into-refused, into-short, into_fits, data-heard}
 use Rattle.kiss_reading.proofs.read.Goals as goal
 
 pub returns-in_err-read : goal.returns-in_err-read
@@ -11,8 +11,7 @@ returns-in_err-read c =
     let s = c.args.input.now in
     let e = told-refused (read_packet s) _ c.in_err-read.ensures in
     let p = err_from_is_err_and c.from_residual.result c.from_residual.ensures.1 in
-    let i : read_into s (length c.args.out.now) ≡ Err c.in_err-read.field-0.0 = into_fits s (length c.args.out.now) (rw e (omega arith)) ∙ e in
-    rw (p.1, p.2, i) (record { value = refl; out_after = sym (splice_none _ _) })
+    rw (p.1, p.2, into-refused s (length c.args.out.now) _ e) (record { value = refl; out_after = sym (splice_none _ _) })
 
 pub returns-then-out-read : goal.returns-then-out-read
 returns-then-out-read c =
