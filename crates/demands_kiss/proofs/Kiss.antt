@@ -22,7 +22,7 @@ use Rattle.kiss.specs.Write.{octets_written, written}
 use Rattle.kiss.specs.declared.KissWriteError.{KissWriteError}
 use Rattle.kiss.proofs.Laws.{packet-length, write_fits}
 use Rattle.kiss.proofs.Grammar.{write-rows}
-use Rattle.kiss_reading.specs.Answer.{number_of, Given, accepted, port_given, octets_given}
+use Rattle.kiss_reading.specs.Answer.{number_of, Reading, accepted, port_given, octets_given}
 use Rattle.kiss_reading.specs.Read.{heard, typed, type_escaped, opened, read_packet, read_into}
 use Rattle.kiss_reading.specs.declared.KissError.{KissError}
 use Rattle.kiss_reading.specs.declared.KissError.TheVariants as read
@@ -61,7 +61,7 @@ positive read.PortTooHigh = omega arith
 positive read.NoClosing = omega arith
 positive read.NoRoom = omega arith
 
-zero-accepted : (r : Result Given KissError) → number_by number_of r ≡ 0 → is_ok r ≡ true
+zero-accepted : (r : Reading) → number_by number_of r ≡ 0 → is_ok r ≡ true
 zero-accepted (Ok g) e = refl
 zero-accepted (Err x) e = absurd (omega (arith, positive x, e))
 
@@ -75,7 +75,7 @@ into-accepted s room z =
     let f = into_fits s room h in
     (zero-accepted (read_packet s) (rw f at z), h, f))
 
-leaves : (r : Result Given KissError) → (number_by number_of r ≡ 0 → ⊥)
+leaves : (r : Reading) → (number_by number_of r ≡ 0 → ⊥)
     → (port_given r ≡ 0) × (length (octets_given r) ≡ 0) × ((out : List ℕ) → splice out 0 (octets_given r) ≡ out)
 leaves (Ok g) n = absurd (n refl)
 leaves (Err e) n = (refl, refl, λ out. splice_none out 0)

@@ -7,7 +7,7 @@ use Rattle.octets.specs.Outcome.{octets_of, measured}
 use Rattle.octets.proofs.Choice.{by}
 use Rattle.escapes.specs.Escape.{fend, fesc, tfend, tfesc}
 use Rattle.kiss.specs.Packet.{last_port}
-use Rattle.kiss_reading.specs.Answer.{Given, accepted, octets_given, read_of}
+use Rattle.kiss_reading.specs.Answer.{Reading, accepted, octets_given, read_of}
 use Rattle.kiss_reading.specs.Read.{more, heard, on_port, typed, type_escaped, opened, read_packet, read_into}
 use Rattle.kiss_reading.specs.Steps.{plus}
 use Rattle.kiss_reading.specs.declared.KissError.{KissError}
@@ -84,11 +84,11 @@ pub into-refused : (s : List ℕ) (room : ℕ) (e : KissError) → read_packet s
 into-refused s room e r = into_fits s room (rw r (omega arith)) ∙ r
 
 -- what the function gives tells what was read
-pub told-refused : (x : Result Given KissError) (e : KissError) → Err e ≡ read_of x → x ≡ Err e
+pub told-refused : (x : Reading) (e : KissError) → Err e ≡ read_of x → x ≡ Err e
 told-refused (Ok g) e h = cc
 told-refused (Err d) e h = let i : d ≡ e = cc in ap (λ (y : KissError). Err y) i
 
-pub told-accepted : (x : Result Given KissError) (r : KissRead) → Ok r ≡ read_of x → (is_ok x ≡ true) × (r.length ≡ length (octets_given x))
+pub told-accepted : (x : Reading) (r : KissRead) → Ok r ≡ read_of x → (is_ok x ≡ true) × (r.length ≡ length (octets_given x))
 told-accepted (Ok g) r h = let i : r ≡ record { port = g.port; length = length g.octets } = cc in (refl, ap (λ (y : KissRead). y.length) i)
 told-accepted (Err e) r h = cc
 

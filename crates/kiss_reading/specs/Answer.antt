@@ -19,19 +19,23 @@ pub record Given : Type 0 where
   pub port : ℕ
   pub octets : List ℕ
 
-abbrev pub accepted : ℕ → List ℕ → Result Given KissError
+-- or why a packet is refused
+abbrev pub Reading : Type 0
+Reading = Result Given KissError
+
+abbrev pub accepted : ℕ → List ℕ → Reading
 accepted port s = Ok (record { port = port; octets = s })
 
 -- a refusal gives port 0 and no data
-abbrev pub port_given : Result Given KissError → ℕ
+abbrev pub port_given : Reading → ℕ
 port_given (Ok g) = g.port
 port_given (Err e) = 0
 
-abbrev pub octets_given : Result Given KissError → List ℕ
+abbrev pub octets_given : Reading → List ℕ
 octets_given (Ok g) = g.octets
 octets_given (Err e) = []
 
 -- the same as the function returns it, the data being in the lent output
-abbrev pub read_of : Result Given KissError → Result KissRead KissError
+abbrev pub read_of : Reading → Result KissRead KissError
 read_of (Ok g) = Ok (record { port = g.port; length = length g.octets })
 read_of (Err e) = Err e

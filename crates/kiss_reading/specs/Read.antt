@@ -3,7 +3,7 @@ use Rattle.std.specs.Prelude.{ℕ, Bool, true, false, cond, List, [], ◌∷◌,
 use Rattle.octets.specs.Octet.{field}
 use Rattle.escapes.specs.Escape.{fend, fesc, tfend, tfesc}
 use Rattle.kiss.specs.Packet.{last_port}
-use Rattle.kiss_reading.specs.Answer.{Given, accepted, octets_given}
+use Rattle.kiss_reading.specs.Answer.{Reading, accepted, octets_given}
 use Rattle.kiss_reading.specs.declared.KissError.{KissError}
 use Rattle.kiss_reading.specs.declared.KissError.TheVariants.{NoOpening, Empty, BadEscape, NotData, PortTooHigh, NoClosing, NoRoom}
 
@@ -25,31 +25,31 @@ heard true [] = Err BadEscape
 heard true (x ∷ s) = cond (eqb x tfend) (more fend (heard false s)) (cond (eqb x tfesc) (more fesc (heard false s)) (Err BadEscape))
 
 -- a packet from this port, by what stands behind its type octet
-abbrev pub on_port : ℕ → Result (List ℕ) KissError → Result Given KissError
+abbrev pub on_port : ℕ → Result (List ℕ) KissError → Reading
 on_port port (Ok s) = accepted port s
 on_port port (Err e) = Err e
 
 -- a type octet, escapes removed, and what stands behind it: the command in its low half first, then the port in its high half
-unfoldable pub typed : ℕ → List ℕ → Result Given KissError
+unfoldable pub typed : ℕ → List ℕ → Reading
 typed t s =
     cond (eqb (field 0 4 t) 0)
     (cond (ltb last_port (field 4 4 t)) (Err PortTooHigh) (on_port (field 4 4 t) (heard false s)))
     (Err NotData)
 
 -- what stands behind a DB in the type octet's place
-unfoldable pub type_escaped : List ℕ → Result Given KissError
+unfoldable pub type_escaped : List ℕ → Reading
 type_escaped [] = Err BadEscape
 type_escaped (x ∷ s) = cond (eqb x tfend) (typed fend s) (cond (eqb x tfesc) (typed fesc s) (Err BadEscape))
 
 -- what stands behind the opening C0
-unfoldable pub opened : List ℕ → Result Given KissError
+unfoldable pub opened : List ℕ → Reading
 opened [] = Err NoClosing
 opened (x ∷ s) = cond (eqb x fend) (Err Empty) (cond (eqb x fesc) (type_escaped s) (typed x s))
 
-unfoldable pub read_packet : List ℕ → Result Given KissError
+unfoldable pub read_packet : List ℕ → Reading
 read_packet [] = Err NoOpening
 read_packet (x ∷ s) = cond (eqb x fend) (opened s) (Err NoOpening)
 
 -- the same with so much room for the data: 24 comes last
-unfoldable pub read_into : List ℕ → ℕ → Result Given KissError
+unfoldable pub read_into : List ℕ → ℕ → Reading
 read_into s room = cond (ltb room (length (octets_given (read_packet s)))) (Err NoRoom) (read_packet s)

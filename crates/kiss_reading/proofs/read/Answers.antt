@@ -1,5 +1,5 @@
 -- A refusal leaves all as it was; what is accepted is copied where it has room.
-use Rattle.std.proofs.Common.{◌≡◌, refl, sym, ◌∙◌, Err, length, arith}
+use Rattle.std.proofs.Common.{◌≡◌, refl, sym, ◌∙◌, length, arith}
 use Rattle.std.proofs.lemmas.Result.{err_from_is_err_and}
 use Rattle.octets.proofs.Splice.{splice_none, part_from}
 use Rattle.kiss_reading.specs.Read.{read_packet, read_into}
