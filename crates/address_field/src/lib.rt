@@ -11,19 +11,12 @@ use frame::{Ax25Frame, Mark, RouteEntry};
 use group::ParsedAddress;
 
 // The address and the mark in the seven octets from `at` on.
-fn parse_group(bytes: &[u8], at: usize) -> ParsedAddress
+pub fn parse_group(bytes: &[u8], at: usize) -> ParsedAddress
     requires { at + 7 ≤ length bytes.now }
     ensures { result ≡ parsed_at bytes.now at }
 {
-    let group = [
-        bytes[at],
-        bytes[at + 1],
-        bytes[at + 2],
-        bytes[at + 3],
-        bytes[at + 4],
-        bytes[at + 5],
-        bytes[at + 6],
-    ];
+    let mut group = [0; 7];
+    group.copy_from_slice(&bytes[at..at + 7]);
     group::parse_address(group)
 }
 
@@ -31,18 +24,13 @@ fn parse_route(bytes: &[u8], at: usize, count: usize) -> [RouteEntry; 8]
     requires { (count ≤ 8) × (at + 7 * count ≤ length bytes.now) }
     ensures { result ≡ route_at bytes.now at count }
 {
-    let unused = RouteEntry::default();
-    let mut route = [unused; 8];
-    let mut i = 0;
-    while i < count {
+    let mut route = [RouteEntry::default(); 8];
+    for i in 0..count {
         let parsed = parse_group(bytes, at + 7 * i);
-        let repeater = parsed.address;
-        let has_repeated = parsed.high_bit;
         route[i] = RouteEntry {
-            repeater,
-            has_repeated,
+            repeater: parsed.address,
+            has_repeated: parsed.high_bit,
         };
-        i += 1;
     }
     route
 }
@@ -50,10 +38,10 @@ fn parse_route(bytes: &[u8], at: usize, count: usize) -> [RouteEntry; 8]
 fn command_of(destination: bool, source: bool) -> Mark
     ensures { result ≡ command_of destination source }
 {
-    if destination {
-        if source { Mark::Absent } else { Mark::Command }
-    } else {
-        if source { Mark::Response } else { Mark::Absent }
+    match (destination, source) {
+        (true, false) => Mark::Command,
+        (false, true) => Mark::Response,
+        (true, true) | (false, false) => Mark::Absent,
     }
 }
 
@@ -63,16 +51,12 @@ fn parse_groups(bytes: &[u8], count: usize, content: FrameContent) -> Ax25Frame
 {
     let to = parse_group(bytes, 0);
     let from = parse_group(bytes, 7);
-    let route = parse_route(bytes, 14, count);
-    let command_or_response = command_of(to.high_bit, from.high_bit);
-    let source = from.address;
-    let destination = to.address;
     Ax25Frame {
-        source,
-        destination,
-        route,
+        source: from.address,
+        destination: to.address,
+        route: parse_route(bytes, 14, count),
         route_count: count,
-        command_or_response,
+        command_or_response: command_of(to.high_bit, from.high_bit),
         content,
     }
 }
@@ -81,10 +65,7 @@ fn parse_groups(bytes: &[u8], count: usize, content: FrameContent) -> Ax25Frame
 pub fn has_groups(len: usize, count: usize) -> bool
     ensures { result ≡ has_groups len count }
 {
-    if count > 8 {
-        return false;
-    }
-    14 + 7 * count <= len
+    count <= 8 && 14 + 7 * count <= len
 }
 
 // The frame around its content. Where the octets do not hold so many groups, it is the default frame.

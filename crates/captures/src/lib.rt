@@ -12,7 +12,6 @@ use content::FrameContent;
 use control::Mode;
 use decode::{DecodeAnswer, Outline};
 use frame::Ax25Frame;
-use parse::ContentAnswer;
 use reason::Reason;
 
 // Where a capture lies in the buffer, and what is known of it: the decode number, or 61 where it is not inside the buffer; 1 where it is
@@ -72,11 +71,7 @@ fn kind_by(mode: Mode, part: &[u8], outline: Outline) -> u16
         return default_kind();
     };
     let control = outline.end + 1;
-    let read = parse::parse_content(mode, &part[control..]);
-    let ContentAnswer::Accepted(content) = read else {
-        // Never: the outline has seen that the content is accepted.
-        return default_kind();
-    };
+    let content = parse::parse_content(mode, &part[control..]).unwrap();
     kind_of(content)
 }
 
@@ -84,8 +79,7 @@ fn kind_by(mode: Mode, part: &[u8], outline: Outline) -> u16
 fn one_if_none(reason: Reason) -> u16
     ensures { result ≡ cond (is_none reason) 1 0 }
 {
-    let code = reason.code();
-    if code == 0 { 1 } else { 0 }
+    u16::from(reason.code() == 0)
 }
 
 // The record of a part that is inside, with all three answers from one look at its octets.
@@ -142,10 +136,7 @@ pub fn filled(mode: Mode, input: &[u8], capture: CaptureRecord) -> CaptureRecord
 pub fn fill(mode: Mode, input: &[u8], records: &mut [CaptureRecord])
     ensures { records.new ≡ filled_all mode input.now records.old }
 {
-    let mut i = 0;
-    while i < records.len() {
-        let capture = records[i];
-        records[i] = filled(mode, input, capture);
-        i += 1;
+    for capture in records.iter_mut() {
+        *capture = filled(mode, input, *capture);
     }
 }

@@ -21,7 +21,7 @@ use Rattle.content.specs.declared.CommandResponse.{CommandResponse}
 use Rattle.content.specs.declared.CommandResponse.TheVariants.{Command, Response}
 use Rattle.content.specs.declared.FrameReject.{FrameReject}
 use Rattle.content.specs.declared.FrameContent.TheVariants as kind
-use Rattle.parse.specs.declared.ContentAnswer.TheVariants.{Accepted}
+use Rattle.std.specs.Prelude.{Ok}
 
 -- the fields of an octet with N(R), a bit and the low four bits
 module _ (n m : ℕ) (l : m < 16) where
@@ -77,7 +77,7 @@ send-back n false v l = omega arith
 
 pub i-back : (m : Mode) (n : ℕ) → n < limit m → (p : Bool) (v : ℕ) → v < limit m → (c : ℕ) (s : List ℕ)
     → content_of m ((sequenced m n p (sent m v) ++ (c ∷ [])) ++ s)
-    ≡ Accepted (kind.Information (record { pid = pid_of c; receive_sequence = n; send_sequence = v; poll = p }))
+    ≡ Ok (kind.Information (record { pid = pid_of c; receive_sequence = n; send_sequence = v; poll = p }))
 unfolding i_of
 i-back Short n h p v l c s =
     let d : sent Short v < 16 = omega arith in
@@ -94,37 +94,37 @@ unfolding s_kind_of
 same_kind c d e n p = rw e refl
 
 pub s-back : (m : Mode) (n : ℕ) → n < limit m → (p : Bool) (t : ℕ) → t < 16 → t % 4 ≡ 1 → (s : List ℕ)
-    → content_of m (sequenced m n p t ++ s) ≡ Accepted (s_kind_of t n p)
+    → content_of m (sequenced m n p t ++ s) ≡ Ok (s_kind_of t n p)
 unfolding s_of
 s-back Short n h p t l e s =
     s_way Short (numbered n p t) s (omega (arith, low-back n t l p))
-    ∙ rw (receive-back n t l h p, poll-back n t l p) (ap Accepted (same_kind (numbered n p t) t (low-back n t l p ∙ omega arith) n p))
+    ∙ rw (receive-back n t l h p, poll-back n t l p) (ap Ok (same_kind (numbered n p t) t (low-back n t l p ∙ omega arith) n p))
 s-back Long n h p t l e s =
     s_way Long t (received n p ∷ s) (omega arith) ∙ rw (two t (received n p) s, received-back n h p, final-back n h p) refl
 
 -- the unnumbered kinds, by computing with either bit
 module _ (m : Mode) (s : List ℕ) where
-  pub sabm-back : (p : Bool) → content_of m (unnumbered sabm p ∷ s) ≡ Accepted (kind.SetAsynchronousBalancedMode (record { poll = p }))
+  pub sabm-back : (p : Bool) → content_of m (unnumbered sabm p ∷ s) ≡ Ok (kind.SetAsynchronousBalancedMode (record { poll = p }))
   unfolding u_of
   sabm-back true = u_way m _ s refl
   sabm-back false = u_way m _ s refl
 
-  pub sabme-back : (p : Bool) → content_of m (unnumbered sabme p ∷ s) ≡ Accepted (kind.SetAsynchronousBalancedModeExtended (record { poll = p }))
+  pub sabme-back : (p : Bool) → content_of m (unnumbered sabme p ∷ s) ≡ Ok (kind.SetAsynchronousBalancedModeExtended (record { poll = p }))
   unfolding u_of
   sabme-back true = u_way m _ s refl
   sabme-back false = u_way m _ s refl
 
-  pub disc-back : (p : Bool) → content_of m (unnumbered disc p ∷ s) ≡ Accepted (kind.Disconnect (record { poll = p }))
+  pub disc-back : (p : Bool) → content_of m (unnumbered disc p ∷ s) ≡ Ok (kind.Disconnect (record { poll = p }))
   unfolding u_of
   disc-back true = u_way m _ s refl
   disc-back false = u_way m _ s refl
 
-  pub dm-back : (p : Bool) → content_of m (unnumbered dm p ∷ s) ≡ Accepted (kind.DisconnectedMode (record { final_bit = p }))
+  pub dm-back : (p : Bool) → content_of m (unnumbered dm p ∷ s) ≡ Ok (kind.DisconnectedMode (record { final_bit = p }))
   unfolding u_of
   dm-back true = u_way m _ s refl
   dm-back false = u_way m _ s refl
 
-  pub ua-back : (p : Bool) → content_of m (unnumbered ua p ∷ s) ≡ Accepted (kind.UnnumberedAcknowledge (record { final_bit = p }))
+  pub ua-back : (p : Bool) → content_of m (unnumbered ua p ∷ s) ≡ Ok (kind.UnnumberedAcknowledge (record { final_bit = p }))
   unfolding u_of
   ua-back true = u_way m _ s refl
   ua-back false = u_way m _ s refl
@@ -139,12 +139,12 @@ module _ (m : Mode) (s : List ℕ) where
   ui_way true = u_way m _ s refl
   ui_way false = u_way m _ s refl
 
-  pub xid-back : (p : Bool) → content_of m (unnumbered xid p ∷ s) ≡ Accepted (kind.ExchangeIdentification (record { poll_or_final = p }))
+  pub xid-back : (p : Bool) → content_of m (unnumbered xid p ∷ s) ≡ Ok (kind.ExchangeIdentification (record { poll_or_final = p }))
   unfolding u_of
   xid-back true = u_way m _ s refl
   xid-back false = u_way m _ s refl
 
-  pub test_back : (p : Bool) → content_of m (unnumbered test p ∷ s) ≡ Accepted (kind.Test (record { poll_or_final = p }))
+  pub test_back : (p : Bool) → content_of m (unnumbered test p ∷ s) ≡ Ok (kind.Test (record { poll_or_final = p }))
   unfolding u_of
   test_back true = u_way m _ s refl
   test_back false = u_way m _ s refl
@@ -154,7 +154,7 @@ u_poll-back true = (refl, refl)
 u_poll-back false = (refl, refl)
 
 pub ui-back : (m : Mode) (p : Bool) (c : ℕ) (s : List ℕ)
-    → content_of m (unnumbered ui p ∷ c ∷ s) ≡ Accepted (kind.UnnumberedInformation (record { pid = pid_of c; poll_or_final = p }))
+    → content_of m (unnumbered ui p ∷ c ∷ s) ≡ Ok (kind.UnnumberedInformation (record { pid = pid_of c; poll_or_final = p }))
 unfolding ui_of
 ui-back m p c s = ui_way m (c ∷ s) p ∙ simp (two, (u_poll-back p).0)
 
@@ -186,7 +186,7 @@ response-back Command = refl
 response-back Response = refl
 
 pub frmr-back : (k : FrameReject) → PlainContent Short (kind.FrameReject k)
-    → frmr_of Short (front Short (kind.FrameReject k)) ≡ Accepted (kind.FrameReject k)
+    → frmr_of Short (front Short (kind.FrameReject k)) ≡ Ok (kind.FrameReject k)
 unfolding frmr_of response_of
 frmr-back k h =
     let d : sent Short k.send_sequence < 16 = omega arith in

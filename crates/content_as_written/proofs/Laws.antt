@@ -24,11 +24,11 @@ use Rattle.control.specs.declared.Mode.{Mode}
 use Rattle.control.specs.declared.Mode.TheVariants.{Short, Long}
 use Rattle.content.specs.declared.FrameContent.{FrameContent}
 use Rattle.content.specs.declared.FrameContent.TheVariants as kind
-use Rattle.parse.specs.declared.ContentAnswer.TheVariants.{Accepted}
+use Rattle.std.specs.Prelude.{Ok}
 
 -- plain content that is spelled, with info where it has any, and read back is itself
 pub content-back : (m : Mode) (k : FrameContent) (i : List ℕ) → PlainContent m k → (has_info k ≡ false → i ≡ [])
-    → content_of m (front m k ++ i) ≡ Accepted k
+    → content_of m (front m k ++ i) ≡ Ok k
 unfolding s_kind_of
 content-back m (kind.Information k) i h e =
     i-back m k.receive_sequence h.0 k.poll k.send_sequence h.1 (octet_of k.pid) i ∙ rw (pid_octet_lem k.pid h.2) refl
@@ -58,7 +58,7 @@ send_below Short s = omega arith
 send_below Long s = omega arith
 
 -- what is read of octets is plain
-pub content-plain : (m : Mode) (s : List ℕ) → Octets s → (k : FrameContent) → content_of m s ≡ Accepted k → PlainContent m k
+pub content-plain : (m : Mode) (s : List ℕ) → Octets s → (k : FrameContent) → content_of m s ≡ Ok k → PlainContent m k
 content-plain m s o k e = plain m (accepted m s k e)
   where
     plain : (m : Mode) {k : FrameContent} → Reads m s k → PlainContent m k
@@ -78,10 +78,10 @@ content-plain m s o k e = plain m (accepted m s k e)
     plain m (xid_frame n t) = tt
     plain m (test_frame n t) = tt
 
-pub content_fits : (m : Mode) (s : List ℕ) (k : FrameContent) → content_of m s ≡ Accepted k → length (front m k) ≤ length s
+pub content_fits : (m : Mode) (s : List ℕ) (k : FrameContent) → content_of m s ≡ Ok k → length (front m k) ≤ length s
 content_fits m s k e = (sized m s k e).1
 
-pub content_some : (m : Mode) (s : List ℕ) (k : FrameContent) → content_of m s ≡ Accepted k → 0 < length s
+pub content_some : (m : Mode) (s : List ℕ) (k : FrameContent) → content_of m s ≡ Ok k → 0 < length s
 content_some m s k e = let h = sized m s k e in omega arith
 
 -- plain content spells something
@@ -139,7 +139,7 @@ front-octets m k h = octets_each (front m k) (each m k h)
     each m (kind.Test k) h = (unnumbered_below test k.poll_or_final (omega arith), tt)
     each m kind.UnknownContent h = absurd h
 
-module _ (m : Mode) (s : List ℕ) (o : Octets s) (k : FrameContent) (e : content_of m s ≡ Accepted k) where
+module _ (m : Mode) (s : List ℕ) (o : Octets s) (k : FrameContent) (e : content_of m s ≡ Ok k) where
   -- of content with info every octet is written as it was read, the PID's too
   pub content_kept : has_info k ≡ true → spell_content m k (info_of m k s) ≡ s
   content_kept i = info_exact m s o (accepted m s k e) i

@@ -19,7 +19,7 @@ use Rattle.control.specs.declared.Mode.TheVariants.{Short, Long}
 use Rattle.content.specs.declared.FrameContent.{FrameContent}
 use Rattle.content.specs.declared.FrameContent.TheVariants as kind
 use Rattle.parse.specs.Content.{frmr_fields_of, response_of, frmr_of, s_kind_of, s_of, u_of, content_of}
-use Rattle.parse.specs.declared.ContentAnswer.TheVariants.{Accepted}
+use Rattle.std.specs.Prelude.{Ok}
 use Rattle.parse.proofs.Read.{Reads, accepted}
 use Rattle.parse.proofs.Read.Reads.{i_frame, rr_frame, rnr_frame, rej_frame, srej_frame, sabm_frame, sabme_frame, disc_frame, dm_frame, ua_frame, frmr_frame, ui_frame, xid_frame, test_frame}
 use Rattle.content_as_written.specs.AsWritten.{info_of}
@@ -115,14 +115,14 @@ module _ (m : Mode) (s : List ℕ) (o : Octets s) where
   kept (test_frame n t) i j l h u = info_kept (test_frame n t) refl i j l
 
 -- FRMR by its length and control octet, and S of the long mode by its first
-frmr_read : (s : List ℕ) → length s ≡ 4 → u_kind (get_or s 0 0) ≡ frmr → content_of Short s ≡ Accepted (kind.FrameReject (frmr_fields_of s))
+frmr_read : (s : List ℕ) → length s ≡ 4 → u_kind (get_or s 0 0) ≡ frmr → content_of Short s ≡ Ok (kind.FrameReject (frmr_fields_of s))
 unfolding content_of u_of frmr_of
 frmr_read s n t =
     let c : ℕ = get_or s 0 0 in
     simp (n, ne_eqb (field 0 1 c) 0 (λ z. omega arith), ne_eqb (field 0 2 c) 1 (λ z. omega arith), t)
 
 long_s_read : (s : List ℕ) → 2 ≤ length s → field 0 2 (get_or s 0 0) ≡ 1
-    → content_of Long s ≡ Accepted (s_kind_of (get_or s 0 0) (receive_in Long s) (poll_in Long s))
+    → content_of Long s ≡ Ok (s_kind_of (get_or s 0 0) (receive_in Long s) (poll_in Long s))
 unfolding content_of s_of
 long_s_read s n t =
     let c : ℕ = get_or s 0 0 in
@@ -172,12 +172,12 @@ module _ (s t : List ℕ) (o : Octets s) (p : Octets t) (n : length t ≡ length
       refl
 
   -- where no bit is unseen they are the same octets
-  plainly : (m : Mode) {k : FrameContent} → ((i j : ℕ) → unseen m k i j ≡ false) → content_of m s ≡ Accepted k → Same m k → content_of m t ≡ Accepted k
+  plainly : (m : Mode) {k : FrameContent} → ((i j : ℕ) → unseen m k i j ≡ false) → content_of m s ≡ Ok k → Same m k → content_of m t ≡ Ok k
   plainly m u e f = ap (content_of m) (octets-same t s p o n (λ i j h. f i j h (u i j))) ∙ e
 
   -- of an S control the low four bits of the first octet, and in the long mode all of the second
   s-same : (m : Mode) {k : FrameContent} → ((i j : ℕ) → unseen m k i j ≡ unseen_s m i j) → controls m ≤ length s → field 0 2 (get_or s 0 0) ≡ 1
-      → content_of m s ≡ Accepted k → Same m k → content_of m t ≡ Accepted k
+      → content_of m s ≡ Ok k → Same m k → content_of m t ≡ Ok k
   s-same Short u l w e f = plainly Short u e f
   s-same Long {k} u l w e f =
       let first : s_kind (get_or t 0 0) ≡ s_kind (get_or s 0 0) =
@@ -186,7 +186,7 @@ module _ (s t : List ℕ) (o : Octets s) (p : Octets t) (n : length t ≡ length
       long_s_read t (rw n l) (omega (arith, first, w))
       ∙ rw (same_kind _ _ first (receive_in Long t) (poll_in Long t), second) (sym (long_s_read s l w) ∙ e)
 
-  same_read : (m : Mode) {k : FrameContent} → Reads m s k → content_of m s ≡ Accepted k → Same m k → content_of m t ≡ Accepted k
+  same_read : (m : Mode) {k : FrameContent} → Reads m s k → content_of m s ≡ Ok k → Same m k → content_of m t ≡ Ok k
   unfolding unseen
   same_read m (i_frame l c) e f = plainly m (λ i j. refl) e f
   same_read m (rr_frame l c) e f = s-same m (λ i j. refl) l (omega (arith, c)) e f
@@ -204,7 +204,7 @@ module _ (s t : List ℕ) (o : Octets s) (p : Octets t) (n : length t ≡ length
   same_read m (xid_frame l c) e f = plainly m (λ i j. refl) e f
   same_read m (test_frame l c) e f = plainly m (λ i j. refl) e f
 
-  pub unseen_read : (m : Mode) (k : FrameContent) → content_of m s ≡ Accepted k → Same m k → content_of m t ≡ Accepted k
+  pub unseen_read : (m : Mode) (k : FrameContent) → content_of m s ≡ Ok k → Same m k → content_of m t ≡ Ok k
   unseen_read m k e f = same_read m (accepted m s k e) e f
 
 none_s : (m : Mode) → is_long m ≡ false → (i j : ℕ) → unseen_s m i j ≡ false
@@ -252,7 +252,7 @@ info-seen m k e = none-unseen m k (bare-unseen k e)
     bare-unseen kind.UnknownContent e = refl
 
 -- content that is as long as what its reading spells has the bits of that, save for unseen ones
-pub content_bits : (m : Mode) (s : List ℕ) → Octets s → (k : FrameContent) → content_of m s ≡ Accepted k
+pub content_bits : (m : Mode) (s : List ℕ) → Octets s → (k : FrameContent) → content_of m s ≡ Ok k
     → length (spell_content m k (info_of m k s)) ≡ length s
     → (i j : ℕ) → j < 8 → unseen m k i j ≡ false → bit j (get_or (spell_content m k (info_of m k s)) i 0) ≡ bit j (get_or s i 0)
 content_bits m s o k e l i j h u =

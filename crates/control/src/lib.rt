@@ -9,14 +9,14 @@ ghost use Rattle.control.specs.Spell.{numbered, received, sent, sequenced, unnum
 
 // How the sequence numbers of I and S frames are counted: modulo 8, in one control octet, or modulo 128, in two. A frame does not tell
 // which; the caller knows it.
-#[derive(Clone, Copy)]
+#[derive(Clone, Copy, Debug, PartialEq, Eq)]
 pub enum Mode {
     Short,
     Long,
 }
 
 // What a control field tells beside its kind: N(R), N(S) and the P/F bit. S frames have no N(S), and nobody asks for theirs.
-#[derive(Clone, Copy)]
+#[derive(Clone, Copy, Debug, PartialEq, Eq)]
 pub struct Fields {
     pub receive: u8,
     pub send: u8,

@@ -2,6 +2,7 @@
 use Prim.Native.Nat.{ℕ, ◌+◌, ◌-◌, ◌≤◌, ◌<◌}
 use mathlib.Core.Path.{◌≡◌, refl, sym, ◌∙◌}
 use mathlib.Core.Bool.{Bool, true, false, false≢true, cond}
+use Rattle.std.specs.Prelude.{Result, Ok, Err}
 use mathlib.Core.List.{List}
 use native.Mathlib.Omega.{arith}
 use borrow.Author.Tests.{ltb-false, eqb-false}
@@ -12,12 +13,12 @@ use Rattle.octets.proofs.First.{first_le, first_passes}
 use Rattle.parse.specs.Content.{content_of}
 use Rattle.content.specs.declared.FrameContent.{FrameContent}
 use Rattle.control.specs.declared.Mode.{Mode}
-use Rattle.parse.specs.declared.ContentAnswer.{ContentAnswer}
-use Rattle.parse.specs.declared.ContentAnswer.TheVariants as content
+use Rattle.parse.specs.declared.ContentError.{ContentError}
 use Rattle.decode.specs.Answer.{is_accepted}
 use Rattle.decode.specs.Read.{nonzero, start_of, end_of, repeaters_of, frame_at, refused_with, accepted_with, with_content, decode_field, decode}
 use Rattle.decode.specs.declared.Decoded.{Decoded}
 use Rattle.decode.specs.declared.DecodeAnswer.{DecodeAnswer}
+use Rattle.decode.proofs.Read.{error_refused}
 
 pub record Accepts (m : Mode) (s : List ℕ) (d : Decoded) : Type 0 where
   pub count : ℕ
@@ -27,7 +28,7 @@ pub record Accepts (m : Mode) (s : List ℕ) (d : Decoded) : Type 0 where
   pub long : 14 ≤ end_of s + 1
   pub counted : repeaters_of 0 (end_of s) ≡ count
   pub few : count ≤ 8
-  pub read : content_of m (drop (end_of s + 1) s) ≡ content.Accepted kind
+  pub read : content_of m (drop (end_of s + 1) s) ≡ Ok kind
   pub made : d ≡ accepted_with m (frame_at s 0 count kind) (end_of s + 1) (length s)
 
 module _ (m : Mode) (s : List ℕ) where
@@ -43,16 +44,11 @@ module _ (m : Mode) (s : List ℕ) where
   unless false a d h g = g refl
 
   by-content : (n : ℕ) → start_of s ≡ 0 → end_of s < length s → 14 ≤ end_of s + 1 → repeaters_of 0 (end_of s) ≡ n → n ≤ 8
-      → (a : ContentAnswer) → content_of m (drop (end_of s + 1) s) ≡ a → If (with_content m s 0 n (end_of s + 1) a)
+      → (a : Result FrameContent ContentError) → content_of m (drop (end_of s + 1) s) ≡ a → If (with_content m s 0 n (end_of s + 1) a)
   unfolding with_content If
-  by-content n st ei lo co fe (content.Accepted k) e =
+  by-content n st ei lo co fe (Ok k) e =
       λ _. record { count = n; kind = k; first = rw st at (first_passes nonzero s 0 (rw st (omega arith))); end_in = ei; long = lo; counted = co; few = fe; read = e; made = refl }
-  by-content n st ei lo co fe content.ContentZeroLength e = refuse _ refl
-  by-content n st ei lo co fe content.MissingPidField e = refuse _ refl
-  by-content n st ei lo co fe content.UnrecognisedUFieldType e = refuse _ refl
-  by-content n st ei lo co fe content.WrongSizeFrmrInfo e = refuse _ refl
-  by-content n st ei lo co fe content.FrameRejectInLongMode e = refuse _ refl
-  by-content n st ei lo co fe content.MissingControlOctet e = refuse _ refl
+  by-content n st ei lo co fe (Err x) e = refuse _ (error_refused x)
 
   by_tests : If (decode m s)
   unfolding decode decode_field

@@ -3,6 +3,7 @@
 use Prim.Native.Nat.{ℕ, zero, suc, ◌+◌, ◌*◌, ◌%◌, ◌/◌, ◌≤◌, ◌<◌}
 use mathlib.Core.Path.{◌≡◌, refl, ap, ◌∙◌}
 use mathlib.Core.Bool.{true, false, false≢true, not}
+use Rattle.std.specs.Prelude.{Result, Ok, Err}
 use mathlib.Core.List.{List, [], ◌∷◌}
 use native.Mathlib.Nat.{mod-eq_of_lt}
 use native.Mathlib.Omega.{arith}
@@ -15,13 +16,13 @@ use Rattle.octets.specs.First.{first}
 use Rattle.octets.proofs.Bits.{bit_test}
 use Rattle.octets.proofs.First.{first_is, first_beyond, first_sooner, first-same}
 use Rattle.content.specs.declared.FrameContent.{FrameContent}
-use Rattle.parse.specs.declared.ContentAnswer.{ContentAnswer}
-use Rattle.parse.specs.declared.ContentAnswer.TheVariants as content
+use Rattle.parse.specs.declared.ContentError.{ContentError}
+use Rattle.parse.specs.declared.ContentError.TheVariants as content
 use Rattle.decode.specs.Answer.{number_of, is_accepted}
 use Rattle.decode.specs.declared.DecodeAnswer.{DecodeAnswer}
 use Rattle.decode.specs.declared.DecodeAnswer.TheVariants as answer
 use Rattle.search.specs.Search.{masked}
-use Rattle.decode.specs.Read.{nonzero, start_of, end_of, entry_at, place_at, route_at, refusal_of}
+use Rattle.decode.specs.Read.{nonzero, start_of, end_of, entry_at, place_at, route_at, error_of, refusal_of}
 
 -- a route of one repeater more
 pub route_next : (s : List ℕ) (at i : ℕ) → i < 8 → set (route_at s at i) i (entry_at s (at + 7 * i)) ≡ route_at s at (i + 1)
@@ -76,15 +77,19 @@ told-refused answer.LeadingNullBytes h = refl
 told-refused answer.FrameRejectInLongMode h = refl
 told-refused answer.MissingControlOctet h = refl
 
--- and of the content's answer
-pub told-content : (a : ContentAnswer) → ((k : FrameContent) → a ≡ content.Accepted k → ⊥) → is_accepted (refusal_of a) ≡ false
-told-content (content.Accepted k) h = absurd (h k refl)
-told-content content.ContentZeroLength h = refl
-told-content content.MissingPidField h = refl
-told-content content.UnrecognisedUFieldType h = refl
-told-content content.WrongSizeFrmrInfo h = refl
-told-content content.FrameRejectInLongMode h = refl
-told-content content.MissingControlOctet h = refl
+-- a refusal of the content is one
+pub error_refused : (x : ContentError) → is_accepted (error_of x) ≡ false
+error_refused content.ContentZeroLength = refl
+error_refused content.MissingPidField = refl
+error_refused content.UnrecognisedUFieldType = refl
+error_refused content.WrongSizeFrmrInfo = refl
+error_refused content.FrameRejectInLongMode = refl
+error_refused content.MissingControlOctet = refl
+
+-- what a match on the content's answer tells
+pub told-content : (a : Result FrameContent ContentError) → ((k : FrameContent) → a ≡ Ok k → ⊥) → is_accepted (refusal_of a) ≡ false
+told-content (Ok k) h = absurd (h k refl)
+told-content (Err x) h = error_refused x
 
 -- a decode is accepted where its number is 0
 pub zero-accepted : (a : DecodeAnswer) → eqb (number_of a) 0 ≡ is_accepted a

@@ -2,14 +2,15 @@
 use Prim.Native.Nat.{ℕ, ◌+◌, ◌-◌}
 use mathlib.Core.Path.{◌≡◌, refl}
 use mathlib.Core.Bool.{false, true≢false}
+use Rattle.std.specs.Prelude.{Result, Ok, Err}
 use mathlib.Core.List.{List}
 use lib.Dec.{eqb, ltb}
 use lib.ListN.{length, drop}
 use Rattle.octets.proofs.Choice.{either}
 use Rattle.control.specs.declared.Mode.{Mode}
 use Rattle.parse.specs.Content.{content_of}
-use Rattle.parse.specs.declared.ContentAnswer.{ContentAnswer}
-use Rattle.parse.specs.declared.ContentAnswer.TheVariants as content
+use Rattle.content.specs.declared.FrameContent.{FrameContent}
+use Rattle.parse.specs.declared.ContentError.{ContentError}
 use Rattle.decode.specs.Answer.{is_accepted}
 use Rattle.decode.specs.Read.{start_of, end_of, repeaters_of, refused_with, accepted_with, with_content, decode_field, decode}
 use Rattle.decode.specs.declared.Decoded.{Decoded}
@@ -22,15 +23,10 @@ bare : (a : DecodeAnswer) → Bare (refused_with a)
 unfolding refused_with
 bare a e = refl
 
-bare-content : (m : Mode) (s : List ℕ) (start n control : ℕ) (a : ContentAnswer) → Bare (with_content m s start n control a)
+bare-content : (m : Mode) (s : List ℕ) (start n control : ℕ) (a : Result FrameContent ContentError) → Bare (with_content m s start n control a)
 unfolding with_content accepted_with
-bare-content m s start n control (content.Accepted k) e = absurd (true≢false e)
-bare-content m s start n control content.ContentZeroLength e = bare _ e
-bare-content m s start n control content.MissingPidField e = bare _ e
-bare-content m s start n control content.UnrecognisedUFieldType e = bare _ e
-bare-content m s start n control content.WrongSizeFrmrInfo e = bare _ e
-bare-content m s start n control content.FrameRejectInLongMode e = bare _ e
-bare-content m s start n control content.MissingControlOctet e = bare _ e
+bare-content m s start n control (Ok k) e = absurd (true≢false e)
+bare-content m s start n control (Err x) e = bare _ e
 
 pub refused_is : (m : Mode) (s : List ℕ) → is_accepted (decode m s).answer ≡ false → decode m s ≡ refused_with (decode m s).answer
 unfolding decode decode_field

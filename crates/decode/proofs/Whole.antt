@@ -2,6 +2,7 @@
 use Prim.Native.Nat.{ℕ, ◌+◌, ◌*◌, ◌≤◌, ◌<◌}
 use mathlib.Core.Path.{◌≡◌, refl, ap, sym, ◌∙◌}
 use mathlib.Core.Bool.{true, false, true≢false, false≢true, cond}
+use Rattle.std.specs.Prelude.{Result, Ok, Err}
 use mathlib.Core.List.{List}
 use native.Mathlib.Omega.{arith}
 use borrow.Author.Tests.{ne_eqb, eqb-false, lt-ltb, le-leb, ltb-true, leb-true}
@@ -10,17 +11,17 @@ use lib.ListN.{length, get_or, drop}
 use Rattle.octets.proofs.Choice.{by, both}
 use Rattle.octets.proofs.First.{first_le}
 use Rattle.control.specs.declared.Mode.{Mode}
-use Rattle.parse.specs.Content.{content_of, number_of}
-use Rattle.parse.specs.declared.ContentAnswer.{ContentAnswer}
-use Rattle.parse.specs.declared.ContentAnswer.TheVariants as content
+use Rattle.parse.specs.Content.{content_of}
+use Rattle.content.specs.declared.FrameContent.{FrameContent}
+use Rattle.parse.specs.declared.ContentError.{ContentError}
 use Rattle.decode.specs.Answer.{is_accepted}
 use Rattle.decode.specs.Read.{nonzero, start_of, end_of, frame_at, refused_with, accepted_with, refusal_of, with_content, decode_field, decode}
-use Rattle.decode.specs.Outline.{refusal_by, null_answer, refused_outline, outline_by, outline_of, holds, decode_by}
+use Rattle.decode.specs.Outline.{null_answer, refused_outline, outline_by, outline_of, holds, decode_by}
 use Rattle.decode.specs.declared.DecodeAnswer.{DecodeAnswer}
 use Rattle.decode.specs.declared.DecodeAnswer.TheVariants as answer
 use Rattle.decode.specs.declared.Decoded.{Decoded}
 use Rattle.decode.specs.declared.Outline.{Outline}
-use Rattle.decode.proofs.Read.{some_first, start_first, start-past}
+use Rattle.decode.proofs.Read.{some_first, start_first, start-past, error_refused}
 use Rattle.decode.proofs.Accepts.{accepts}
 use Rattle.decode.proofs.Refusals.{refused_is}
 
@@ -46,38 +47,19 @@ pub null_outline : (m : Mode) (s : List ℕ) → nonzero (get_or s 0 0) ≡ fals
 null_outline m s e =
     rw (null-decode m s e) (outline-refused (end_of s) (null_answer s) (by (eqb (start_of s) (length s)) (λ n. rw n refl) (λ n. rw n refl)))
 
-pub refusal_by_lem : (a : ContentAnswer) → refusal_by (number_of a) ≡ refusal_of a
-refusal_by_lem (content.Accepted k) = refl
-refusal_by_lem content.ContentZeroLength = refl
-refusal_by_lem content.MissingPidField = refl
-refusal_by_lem content.UnrecognisedUFieldType = refl
-refusal_by_lem content.WrongSizeFrmrInfo = refl
-refusal_by_lem content.FrameRejectInLongMode = refl
-refusal_by_lem content.MissingControlOctet = refl
-
 -- content that is refused leaves nothing else
-pub refused-content : (m : Mode) (s : List ℕ) (start n control : ℕ) (a : ContentAnswer) → is_accepted (refusal_of a) ≡ false
+pub refused-content : (m : Mode) (s : List ℕ) (start n control : ℕ) (a : Result FrameContent ContentError) → is_accepted (refusal_of a) ≡ false
     → refused_with (refusal_of a) ≡ with_content m s start n control a
 unfolding with_content
-refused-content m s start n control (content.Accepted k) e = absurd (true≢false e)
-refused-content m s start n control content.ContentZeroLength e = refl
-refused-content m s start n control content.MissingPidField e = refl
-refused-content m s start n control content.UnrecognisedUFieldType e = refl
-refused-content m s start n control content.WrongSizeFrmrInfo e = refl
-refused-content m s start n control content.FrameRejectInLongMode e = refl
-refused-content m s start n control content.MissingControlOctet e = refl
+refused-content m s start n control (Ok k) e = absurd (true≢false e)
+refused-content m s start n control (Err x) e = refl
 
 -- content that is accepted leaves the count as it was
-pub accepted-content : (m : Mode) (s : List ℕ) (start end n control : ℕ) (a : ContentAnswer) → is_accepted (refusal_of a) ≡ true
+pub accepted-content : (m : Mode) (s : List ℕ) (start end n control : ℕ) (a : Result FrameContent ContentError) → is_accepted (refusal_of a) ≡ true
     → ◌≡◌ {A = Outline} (record { answer = answer.Accepted; end = end; route_count = n }) (outline_by end (with_content m s start n control a))
 unfolding with_content accepted_with frame_at
-accepted-content m s start end n control (content.Accepted k) e = refl
-accepted-content m s start end n control content.ContentZeroLength e = absurd (false≢true e)
-accepted-content m s start end n control content.MissingPidField e = absurd (false≢true e)
-accepted-content m s start end n control content.UnrecognisedUFieldType e = absurd (false≢true e)
-accepted-content m s start end n control content.WrongSizeFrmrInfo e = absurd (false≢true e)
-accepted-content m s start end n control content.FrameRejectInLongMode e = absurd (false≢true e)
-accepted-content m s start end n control content.MissingControlOctet e = absurd (false≢true e)
+accepted-content m s start end n control (Ok k) e = refl
+accepted-content m s start end n control (Err x) e = absurd (false≢true (sym (error_refused x) ∙ e))
 
 -- where the octets hold an address field, its groups and what follows it lie within them
 pub room : (len end n : ℕ) → holds len end n ≡ true → (n ≤ 8) × (14 + 7 * n ≤ len) × (end + 1 ≤ len)

@@ -6,7 +6,7 @@ use Rattle.frame.specs.Frame.{default_frame}
 use Rattle.decode.specs.Answer.{is_accepted}
 use Rattle.decode.specs.Read.{start_of, end_of, refused_with, with_content, decode}
 use Rattle.decode.specs.declared.DecodeAnswer.{DecodeAnswer}
-use Rattle.decode.specs.declared.DecodeAnswer.TheVariants.{Accepted, OnlyNullBytes, LeadingNullBytes, MissingPidField, UnrecognisedUFieldType, WrongSizeFrmrInfo, FrameTooShort, FrameRejectInLongMode, MissingControlOctet}
+use Rattle.decode.specs.declared.DecodeAnswer.TheVariants.{OnlyNullBytes, LeadingNullBytes, FrameTooShort}
 use Rattle.decode.specs.declared.Decoded.{Decoded}
 use Rattle.decode.specs.declared.Outline.{Outline}
 
@@ -41,14 +41,3 @@ decode_by m s o =
 -- the answer where the first octet is not there or null
 abbrev pub null_answer : List ℕ → DecodeAnswer
 null_answer s = cond (eqb (start_of s) (length s)) OnlyNullBytes LeadingNullBytes
-
--- the frame's answer by the number of the content's
-abbrev pub refusal_by : ℕ → DecodeAnswer
-refusal_by n =
-    cond (eqb n 0) Accepted
-    (cond (eqb n 5) MissingPidField
-    (cond (eqb n 7) UnrecognisedUFieldType
-    (cond (eqb n 8) WrongSizeFrmrInfo
-    (cond (eqb n 11) FrameRejectInLongMode
-    (cond (eqb n 12) MissingControlOctet
-    (FrameTooShort 0))))))

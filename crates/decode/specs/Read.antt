@@ -1,14 +1,14 @@
 -- Reading a frame: document 01's rules 1, 2, 4 and 5, and the numbers in their order, document 02's 10 (M-108), 11 and 12 (M-109) among
 -- them.
-use Rattle.std.specs.Prelude.{ℕ, ◌+◌, ◌-◌, ◌*◌, ◌/◌, Bool, true, false, cond, not, List, [], ◌∷◌, eqb, ltb, length, take, drop}
+use Rattle.std.specs.Prelude.{ℕ, ◌+◌, ◌-◌, ◌*◌, ◌/◌, Bool, true, false, cond, not, Result, Ok, Err, List, [], ◌∷◌, eqb, ltb, length, take, drop}
 use Rattle.octets.specs.Octet.{bit}
 use Rattle.octets.specs.First.{first}
 use Rattle.group.specs.Group.{address_of, mark_of}
 use Rattle.group.specs.declared.ParsedAddress.{ParsedAddress}
 use Rattle.control.specs.declared.Mode.{Mode}
 use Rattle.content.specs.declared.FrameContent.{FrameContent}
-use Rattle.parse.specs.declared.ContentAnswer.{ContentAnswer}
-use Rattle.parse.specs.declared.ContentAnswer.TheVariants as content
+use Rattle.parse.specs.declared.ContentError.{ContentError}
+use Rattle.parse.specs.declared.ContentError.TheVariants as content
 use Rattle.parse.specs.Content.{content_of}
 use Rattle.content.specs.Spell.{has_info, front}
 use Rattle.frame.specs.Frame.{no_entry, default_frame}
@@ -82,24 +82,23 @@ accepted_with m f control len = record {
 }
 
 -- what the content's refusal is to the frame
-abbrev pub refusal_of : ContentAnswer → DecodeAnswer
-refusal_of (content.Accepted k) = answer.Accepted
-refusal_of content.ContentZeroLength = answer.FrameTooShort 0
-refusal_of content.MissingPidField = answer.MissingPidField
-refusal_of content.UnrecognisedUFieldType = answer.UnrecognisedUFieldType
-refusal_of content.WrongSizeFrmrInfo = answer.WrongSizeFrmrInfo
-refusal_of content.FrameRejectInLongMode = answer.FrameRejectInLongMode
-refusal_of content.MissingControlOctet = answer.MissingControlOctet
+abbrev pub error_of : ContentError → DecodeAnswer
+error_of content.ContentZeroLength = answer.FrameTooShort 0
+error_of content.MissingPidField = answer.MissingPidField
+error_of content.UnrecognisedUFieldType = answer.UnrecognisedUFieldType
+error_of content.WrongSizeFrmrInfo = answer.WrongSizeFrmrInfo
+error_of content.FrameRejectInLongMode = answer.FrameRejectInLongMode
+error_of content.MissingControlOctet = answer.MissingControlOctet
+
+-- and its answer
+abbrev pub refusal_of : Result FrameContent ContentError → DecodeAnswer
+refusal_of (Ok k) = answer.Accepted
+refusal_of (Err e) = error_of e
 
 -- rule 5: with the content's answer in hand
-unfoldable pub with_content : Mode → List ℕ → ℕ → ℕ → ℕ → ContentAnswer → Decoded
-with_content m s start n control (content.Accepted k) = accepted_with m (frame_at s start n k) control (length s)
-with_content m s start n control content.ContentZeroLength = refused_with (refusal_of content.ContentZeroLength)
-with_content m s start n control content.MissingPidField = refused_with (refusal_of content.MissingPidField)
-with_content m s start n control content.UnrecognisedUFieldType = refused_with (refusal_of content.UnrecognisedUFieldType)
-with_content m s start n control content.WrongSizeFrmrInfo = refused_with (refusal_of content.WrongSizeFrmrInfo)
-with_content m s start n control content.FrameRejectInLongMode = refused_with (refusal_of content.FrameRejectInLongMode)
-with_content m s start n control content.MissingControlOctet = refused_with (refusal_of content.MissingControlOctet)
+unfoldable pub with_content : Mode → List ℕ → ℕ → ℕ → ℕ → Result FrameContent ContentError → Decoded
+with_content m s start n control (Ok k) = accepted_with m (frame_at s start n k) control (length s)
+with_content m s start n control (Err e) = refused_with (error_of e)
 
 -- the number of repeaters of an address field from `start` to `end`
 abbrev pub repeaters_of : ℕ → ℕ → ℕ

@@ -5,11 +5,12 @@
 ghost use Rattle.std.specs.Prelude.{◌≡◌, ◌≤◌, ◌<◌, length, get_or, drop};
 ghost use Rattle.parse.specs.Content.{content_of};
 ghost use Rattle.decode.specs.Answer.{report_of};
-ghost use Rattle.decode.specs.Outline.{refusal_by, null_answer, refused_outline, outline_by, outline_of};
-ghost use Rattle.decode.specs.Read.{nonzero, refusal_of, decode_field};
+ghost use Rattle.decode.specs.Outline.{null_answer, refused_outline, outline_by, outline_of};
+ghost use Rattle.decode.specs.Read.{nonzero, error_of, refusal_of, decode_field};
 
 use control::Mode;
 use frame::Ax25Frame;
+use parse::ContentError;
 
 #[derive(Clone, Copy)]
 pub enum DecodeAnswer {
@@ -66,18 +67,17 @@ impl DecodeAnswer {
     }
 }
 
-// The frame's answer by the number of the content's.
-pub fn refusal(number: u32) -> DecodeAnswer
-    ensures { result ≡ refusal_by number }
+// What the content's refusal is to the frame.
+pub fn refusal(error: ContentError) -> DecodeAnswer
+    ensures { result ≡ error_of error }
 {
-    match number {
-        0 => DecodeAnswer::Accepted,
-        5 => DecodeAnswer::MissingPidField,
-        7 => DecodeAnswer::UnrecognisedUFieldType,
-        8 => DecodeAnswer::WrongSizeFrmrInfo,
-        11 => DecodeAnswer::FrameRejectInLongMode,
-        12 => DecodeAnswer::MissingControlOctet,
-        _ => DecodeAnswer::FrameTooShort { len: 0 },
+    match error {
+        ContentError::ContentZeroLength => DecodeAnswer::FrameTooShort { len: 0 },
+        ContentError::MissingPidField => DecodeAnswer::MissingPidField,
+        ContentError::UnrecognisedUFieldType => DecodeAnswer::UnrecognisedUFieldType,
+        ContentError::WrongSizeFrmrInfo => DecodeAnswer::WrongSizeFrmrInfo,
+        ContentError::FrameRejectInLongMode => DecodeAnswer::FrameRejectInLongMode,
+        ContentError::MissingControlOctet => DecodeAnswer::MissingControlOctet,
     }
 }
 
@@ -86,7 +86,10 @@ fn content_answer(mode: Mode, bytes: &[u8], control: usize) -> DecodeAnswer
     requires { control ≤ length bytes.now }
     ensures { result ≡ refusal_of (content_of mode (drop control bytes.now)) }
 {
-    refusal(parse::number_of(mode, &bytes[control..]))
+    match parse::judge(mode, &bytes[control..]) {
+        Ok(()) => DecodeAnswer::Accepted,
+        Err(error) => refusal(error),
+    }
 }
 
 fn refused_outline(answer: DecodeAnswer) -> Outline

@@ -5,7 +5,7 @@ use mathlib.Core.Bool.{Bool, cond}
 use mathlib.Core.List.{List, [], ◌∷◌, ◌++◌}
 use native.Mathlib.Omega.{arith}
 use lib.Dec.{eqb, ltb}
-use lib.ListN.{length, length-append, length-drop}
+use lib.ListN.{length, length-append}
 use Rattle.octets.specs.Octet.{Octets}
 use Rattle.octets.proofs.Choice.{either}
 use Rattle.address.specs.Address.{PlainAddress}
@@ -27,37 +27,34 @@ use Rattle.reason.specs.Reason.{reason_of}
 use Rattle.reason.specs.declared.Reason.{Reason}
 use Rattle.spelling.specs.Canonical.{canonical}
 use Rattle.words.specs.Ascii.{ascii}
-use Rattle.words.specs.Words.{character, mark_text, kind_text, control_text, pid_text, yes_no, reason_text}
-use Rattle.words.proofs.Laws.{character-short, mark-short, kind-short, pid-short, yes_no-short, reason-short}
-use Rattle.dump.specs.Text.{four_digits, leading, decimal, characters, ssid_text, address_text, entry_text, route_text}
+use Rattle.words.specs.Words.{decimal, character, mark_text, kind_text, control_text, pid_text, yes_no, reason_text}
+use Rattle.words.proofs.Laws.{decimal-short, character-short, mark-short, kind-short, pid-short, yes_no-short, reason-short}
+use Rattle.dump.specs.Text.{characters, ssid_text, address_text, entry_text, route_text}
 use Rattle.dump.specs.Dump.{station_lines, content_lines, spelling_lines, frame_text, detail_text, refusal_text, decoded_text, dump_text}
-
-pub decimal-short : (n : ℕ) → length (decimal n) ≤ 4
-decimal-short n = omega (arith, length-drop (leading n) (four_digits n))
 
 characters-short : (s : List ℕ) → length (characters s) ≤ 3 * length s
 unfolding characters
 characters-short [] = omega arith
 characters-short (c ∷ s) = omega (arith, length-append (character c) (characters s), character-short c, characters-short s)
 
-ssid-short : (s : ℕ) → length (ssid_text s) ≤ 5
+ssid-short : (s : ℕ) → length (ssid_text s) ≤ 6
 unfolding ssid_text
 ssid-short s =
-    either (λ (t : List ℕ). length t ≤ 5) (eqb s 0) (λ e. omega arith) (λ e. omega (arith, length-append (ascii "-") (decimal s), decimal-short s))
+    either (λ (t : List ℕ). length t ≤ 6) (eqb s 0) (λ e. omega arith) (λ e. omega (arith, length-append (ascii "-") (decimal s), decimal-short s))
 
-address-short : (a : Address) → PlainAddress a → length (address_text a) ≤ 23
+address-short : (a : Address) → PlainAddress a → length (address_text a) ≤ 24
 unfolding address_text
 address-short a p =
     omega (arith, p.six, length-append (characters (trimmed a.callsign)) (ssid_text a.ssid), characters-short (trimmed a.callsign), trimmed-length a.callsign, used_le a.callsign, ssid-short a.ssid)
 
-entry-short : (e : RouteEntry) → PlainAddress e.repeater → length (entry_text e) ≤ 24
+entry-short : (e : RouteEntry) → PlainAddress e.repeater → length (entry_text e) ≤ 25
 unfolding entry_text
 entry-short e p =
     let star : length (cond e.has_repeated (ascii "*") []) ≤ 1 =
     either (λ (t : List ℕ). length t ≤ 1) e.has_repeated (λ q. omega arith) (λ q. omega arith) in
     omega (arith, length-append (address_text e.repeater) (cond e.has_repeated (ascii "*") []), address-short e.repeater p, star)
 
-route-short : (route : List RouteEntry) (n : ℕ) → ((i : ℕ) → i < n → PlainAddress (repeater_at route i).repeater) → length (route_text route n) ≤ 25 * n
+route-short : (route : List RouteEntry) (n : ℕ) → ((i : ℕ) → i < n → PlainAddress (repeater_at route i).repeater) → length (route_text route n) ≤ 26 * n
 unfolding route_text
 route-short route zero p = omega arith
 route-short route (suc n) p =
@@ -78,7 +75,7 @@ contents-short k =
     let c : List ℕ = ascii "pid=" ++ (pid_text k ++ ascii "\n") in
     omega (arith, length-append a (b ++ c), length-append b c, line-long (ascii "kind=") (kind_text k), line-long (ascii "control=") (control_text k), line-long (ascii "pid=") (pid_text k), kind-short k, pid-short k)
 
-stations-short : (f : Ax25Frame) → Stations f → f.route_count ≤ 8 → length (station_lines f) ≤ 295
+stations-short : (f : Ax25Frame) → Stations f → f.route_count ≤ 8 → length (station_lines f) ≤ 298
 unfolding station_lines
 stations-short f p h =
     let a : List ℕ = ascii "destination=" ++ (address_text f.destination ++ ascii "\n") in
@@ -105,10 +102,10 @@ frame-short d c r p h =
     omega (arith, length-append a (f ++ (k ++ (i ++ y))), length-append f (k ++ (i ++ y)), length-append k (i ++ y), length-append i y, line-long (ascii "answer=") (decimal 0), decimal-short 0, stations-short d.frame p h, contents-short d.frame.content, line-long (ascii "info_length=") (decimal d.info_len), decimal-short d.info_len, spellings-short c r)
 
 -- a line with a number
-number_short : (key : List ℕ) (n : ℕ) → length key ≤ 12 → length (key ++ (decimal n ++ ascii "\n")) ≤ 17
+number_short : (key : List ℕ) (n : ℕ) → length key ≤ 12 → length (key ++ (decimal n ++ ascii "\n")) ≤ 18
 number_short key n h = omega (arith, h, line-long key (decimal n), decimal-short n)
 
-detail-short : (a : DecodeAnswer) → length (detail_text a) ≤ 34
+detail-short : (a : DecodeAnswer) → length (detail_text a) ≤ 36
 detail-short answer.Accepted = omega arith
 detail-short answer.OnlyNullBytes = omega arith
 detail-short answer.NoEndToAddressField = omega arith

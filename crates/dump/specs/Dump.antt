@@ -1,4 +1,5 @@
--- What the dumper prints (document 01, Loader calls and dumper): key=value lines in a fixed order. It reads in the short mode.
+-- What the dumper prints (document 01, Loader calls and dumper): key=value lines in a fixed order. It reads in the short mode. No number is
+-- over 4,096, so `decimal`, the last five digits, shows all of each.
 use Rattle.std.specs.Prelude.{ℕ, Bool, cond, List, [], ◌++◌, ltb, length}
 use Prim.Native.String.{String}
 use Rattle.control.specs.declared.Mode.TheVariants.{Short}
@@ -13,8 +14,8 @@ use Rattle.reason.specs.Reason.{reason_of}
 use Rattle.reason.specs.declared.Reason.{Reason}
 use Rattle.spelling.specs.Canonical.{canonical}
 use Rattle.words.specs.Ascii.{ascii}
-use Rattle.words.specs.Words.{mark_text, kind_text, control_text, pid_text, yes_no, reason_text}
-use Rattle.dump.specs.Text.{decimal, address_text, route_text}
+use Rattle.words.specs.Words.{decimal, mark_text, kind_text, control_text, pid_text, yes_no, reason_text}
+use Rattle.dump.specs.Text.{address_text, route_text}
 use Rattle.dump.specs.declared.DumpAnswer.{DumpAnswer}
 use Rattle.dump.specs.declared.DumpAnswer.TheVariants.{Done, NoRoom}
 use Rattle.dump.specs.declared.Dumped.{Dumped}

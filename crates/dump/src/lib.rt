@@ -1,18 +1,20 @@
 // What the dumper prints of an octet string, as octets in a lent buffer.
 #![tactic(auto)]
 
-ghost use Rattle.std.specs.Prelude.{◌≡◌, true, ◌+◌, ◌≤◌, length};
+ghost use Rattle.std.specs.Prelude.{◌≡◌, true, ◌++◌, ◌≤◌, length};
 ghost use Rattle.octets.specs.Splice.{splice};
 ghost use Rattle.decode.specs.Answer.{is_accepted};
-ghost use Rattle.dump.specs.Text.{Put};
-ghost use Rattle.dump.specs.Dump.{frame_text, detail_text, refusal_text, decoded_text, dump_text, dumped, dump_number};
+ghost use Rattle.words.specs.Room.{cut};
+ghost use Rattle.dump.specs.Dump.{station_lines, content_lines, spelling_lines, frame_text, refusal_text, decoded_text, dump_text, dumped, dump_number};
 
+use content::FrameContent;
 use control::Mode;
 use decode::{DecodeAnswer, Decoded};
+use frame::Ax25Frame;
 use reason::Reason;
+use words::page::Page;
 
-mod append; // append.rt: words, numbers and addresses, one after the other
-mod lines; // lines.rt: the lines of a frame
+mod append; // append.rt: addresses and a route
 
 #[derive(Clone, Copy)]
 pub enum DumpAnswer {
@@ -38,73 +40,89 @@ impl DumpAnswer {
     }
 }
 
-fn put_frame(out: &mut [u8], decoded: Decoded, canonical: bool, reason: Reason) -> usize
-    requires { (decoded.frame.route_count ≤ 8) × (length (frame_text decoded canonical reason) ≤ length out.old) }
-    ensures { Put out.old out.new 0 result (frame_text decoded canonical reason) }
+fn put_stations(page: &mut Page<512>, frame: Ax25Frame)
+    requires { frame.route_count ≤ 8 }
+    ensures { page.new ≡ cut 512 (page.old ++ station_lines frame) }
 {
-    let frame = decoded.frame;
-    let content = frame.content;
-    let at = lines::put_number_line(out, 0, b"answer=", 0);
-    let at = lines::put_station_lines(out, at, frame);
-    let at = lines::put_content_lines(out, at, content);
-    let at = lines::put_number_line(out, at, b"info_length=", decoded.info_len);
-    lines::put_spelling_lines(out, at, canonical, reason)
+    append::put_address(page, b"destination=", frame.destination);
+    append::put_address(page, b"\nsource=", frame.source);
+    append::put_route(page, b"\nroute=", &frame.route[..frame.route_count]);
+    page.put(b"\nmark=");
+    page.put(words::mark(frame.command_or_response));
+    page.put(b"\n");
 }
 
-fn put_details(out: &mut [u8], at: usize, answer: DecodeAnswer) -> usize
-    requires { at + length (detail_text answer) ≤ length out.old }
-    ensures { Put out.old out.new at result (detail_text answer) }
+fn put_content(page: &mut Page<512>, content: FrameContent)
+    ensures { page.new ≡ cut 512 (page.old ++ content_lines content) }
 {
+    page.put(b"kind=");
+    page.put(words::kind(content));
+    page.put(b"\ncontrol=");
+    page.put(&words::control(content));
+    page.put(b"\npid=");
+    page.put_pid(content);
+    page.put(b"\n");
+}
+
+fn put_spelling(page: &mut Page<512>, canonical: bool, reason: Reason)
+    ensures { page.new ≡ cut 512 (page.old ++ spelling_lines canonical reason) }
+{
+    page.put(b"canonical=");
+    page.put(words::yes_no(canonical));
+    page.put(b"\nreason=");
+    page.put(words::reason(reason));
+    page.put(b"\n");
+}
+
+fn put_frame(page: &mut Page<512>, decoded: Decoded, canonical: bool, reason: Reason)
+    requires { decoded.frame.route_count ≤ 8 }
+    ensures { page.new ≡ cut 512 (page.old ++ frame_text decoded canonical reason) }
+{
+    let frame = decoded.frame;
+    page.put_number(b"answer=", 0, b"\n");
+    put_stations(page, frame);
+    put_content(page, frame.content);
+    page.put_number(b"info_length=", decoded.info_len, b"\n");
+    put_spelling(page, canonical, reason);
+}
+
+fn put_refusal(page: &mut Page<512>, answer: DecodeAnswer)
+    ensures { page.new ≡ cut 512 (page.old ++ refusal_text answer) }
+{
+    page.put_number(b"answer=", answer.number() as usize, b"\n");
     match answer {
-        DecodeAnswer::Accepted => at,
-        DecodeAnswer::OnlyNullBytes => at,
-        DecodeAnswer::NoEndToAddressField => at,
         DecodeAnswer::AddressFieldTooShort { start, end } => {
-            let next = lines::put_number_line(out, at, b"start=", start);
-            lines::put_number_line(out, next, b"end=", end)
+            page.put_number(b"start=", start, b"\n");
+            page.put_number(b"end=", end, b"\n");
         }
-        DecodeAnswer::FrameTooShort { len } => lines::put_number_line(out, at, b"length=", len),
-        DecodeAnswer::MissingPidField => at,
-        DecodeAnswer::UnrecognisedUFieldType => at,
-        DecodeAnswer::WrongSizeFrmrInfo => at,
-        DecodeAnswer::TooManyRepeaters => at,
-        DecodeAnswer::LeadingNullBytes => at,
-        DecodeAnswer::FrameRejectInLongMode => at,
-        DecodeAnswer::MissingControlOctet => at,
+        DecodeAnswer::FrameTooShort { len } => page.put_number(b"length=", len, b"\n"),
+        _ => {}
     }
 }
 
-fn put_refusal(out: &mut [u8], answer: DecodeAnswer) -> usize
-    requires { length (refusal_text answer) ≤ length out.old }
-    ensures { Put out.old out.new 0 result (refusal_text answer) }
-{
-    let number = answer.number();
-    let at = lines::put_number_line(out, 0, b"answer=", number as usize);
-    put_details(out, at, answer)
-}
-
-fn put_decoded(out: &mut [u8], decoded: Decoded, canonical: bool, reason: Reason) -> usize
-    requires { (is_accepted decoded.answer ≡ true → decoded.frame.route_count ≤ 8) × (length (decoded_text decoded canonical reason) ≤ length out.old) }
-    ensures { Put out.old out.new 0 result (decoded_text decoded canonical reason) }
+fn put_decoded(page: &mut Page<512>, decoded: Decoded, canonical: bool, reason: Reason)
+    requires { is_accepted decoded.answer ≡ true → decoded.frame.route_count ≤ 8 }
+    ensures { page.new ≡ cut 512 (page.old ++ decoded_text decoded canonical reason) }
 {
     let answer = decoded.answer;
     let DecodeAnswer::Accepted = answer else {
-        return put_refusal(out, answer);
+        put_refusal(page, answer);
+        return;
     };
-    put_frame(out, decoded, canonical, reason)
+    put_frame(page, decoded, canonical, reason);
 }
 
-fn put_dump(out: &mut [u8], input: &[u8]) -> usize
-    requires { 512 ≤ length out.old }
-    ensures { Put out.old out.new 0 result (dump_text input.now) }
+fn put_dump(page: &mut Page<512>, input: &[u8])
+    ensures { page.new ≡ cut 512 (page.old ++ dump_text input.now) }
 {
     if 4096 < input.len() {
-        return lines::put_number_line(out, 0, b"answer=", 50);
+        page.put_number(b"answer=", 50, b"\n");
+        return;
     }
     let decoded = reading::from_bytes(Mode::Short, input);
     let canonical = spelling::is_canonical(Mode::Short, input);
     let reason = reason::reason_of(Mode::Short, input);
-    put_decoded(out, decoded, canonical, reason)
+    put_decoded(page, decoded, canonical, reason);
 }
 
 // The text, written at the start of `out`. Where there is no room for all of it, `out` is left alone.
@@ -113,17 +131,16 @@ pub fn dump(input: &[u8], out: &mut [u8]) -> Dumped
     ensures out_after { out.new ≡ splice out.old 0 (dump_text input.now) }
     ensures length_in_bounds { result.length ≤ length out.new }
 {
-    let mut text = [0; 512];
-    let length = put_dump(&mut text, input);
-    if out.len() < length {
-        return Dumped {
+    let mut page = Page::new();
+    put_dump(&mut page, input);
+    match page.write_to(out) {
+        Some(length) => Dumped {
+            answer: DumpAnswer::Done,
+            length,
+        },
+        None => Dumped {
             answer: DumpAnswer::NoRoom,
             length: 0,
-        };
-    }
-    lent_buffer::put(out, 0, &text[..length]);
-    Dumped {
-        answer: DumpAnswer::Done,
-        length,
+        },
     }
 }

@@ -1,23 +1,22 @@
--- The texts case by case, their lengths, and three of them put one after the other.
+-- The texts case by case, and their lengths.
 use Prim.Native.Nat.{ℕ, ◌+◌, ◌≤◌, ◌<◌}
-use mathlib.Core.Path.{◌≡◌, refl, ◌∙◌}
+use mathlib.Core.Path.{◌≡◌, refl}
 use mathlib.Core.Bool.{true, false}
 use mathlib.Core.List.{List, [], ◌++◌}
-use native.Mathlib.Nat.{zero-add}
 use native.Mathlib.Omega.{arith}
 use borrow.Author.Tests.{eq-eqb, ne_eqb, lt-ltb, le-ltb}
-use lib.ListN.{length, take, length-append}
-use Rattle.octets.specs.Splice.{splice}
-use Rattle.octets.proofs.Splice.{splice-length}
+use lib.Dec.{eqb}
+use lib.ListN.{length, length-append}
 use Rattle.link.specs.Step.{step_of, sender_of}
+use Rattle.link.specs.declared.Sender.{Sender}
+use Rattle.link.specs.declared.Sender.TheVariants.{A, B, Neither}
 use Rattle.link_record.specs.Record.{number_of}
+use Rattle.octets.proofs.Choice.{either}
 use Rattle.link_record.specs.declared.Link.{Link}
 use Rattle.words.specs.Ascii.{ascii}
 use Rattle.words.specs.Words.{decimal, line}
-use Rattle.words.specs.Put.{Put, behind}
 use Rattle.words.proofs.Laws.{decimal-short}
-use Rattle.words.proofs.Put.{put_fits, fits_one, fits_two, fits_three, put_then, put_three, text_of}
-use Rattle.following.specs.Following.{answer_text, stops, gap_line, gap_text, offered_text, first_totals, last_totals, totals_text}
+use Rattle.following.specs.Following.{answer_text, stops, from_text, gap_line, gap_text, offered_text, first_totals, last_totals, totals_text}
 
 -- ---- what is printed
 pub answer_none : (n : ℕ) → n ≡ 0 → answer_text n ≡ []
@@ -67,34 +66,15 @@ last-short l n =
 pub totals-short : (l : Link) (n : ℕ) → length (totals_text l n) ≤ 96
 totals-short l n = omega (arith, length-append (first_totals l) (last_totals l n), first_short l, last-short l n)
 
--- ---- three texts where all of them fit
-pub puts_three : (l : List ℕ) (at : ℕ) (a b c : List ℕ) → at + length (a ++ (b ++ c)) ≤ length l
-    → {m n o : List ℕ} {r q e : ℕ}
-    → (m ≡ splice l at a) × (r ≡ behind (length l) at a)
-    → (n ≡ splice m r b) × (q ≡ behind (length m) r b)
-    → (o ≡ splice n q c) × (e ≡ behind (length n) q c)
-    → Put l o at e (a ++ (b ++ c))
-puts_three l at a b c fits {m} {n} {o} {r} {q} {e} x y z =
-    let p : Put l m at r a = put_fits l m at r a (fits_one l at a b c fits) x.0 x.1 in
-    let s : Put m n r q b = put_fits m n r q b (fits_two l at a b c fits p) y.0 y.1 in
-    let t : Put n o q e c = put_fits n o q e c (fits_three l at a b c fits p s) z.0 z.1 in
-    put_three l at a b c fits p s t
+pub answer_short : (n : ℕ) → length (answer_text n) ≤ 32
+unfolding answer_text
+answer_short n = either (λ (t : List ℕ). length t ≤ 32) (eqb n 0) (λ _. omega arith) (λ _. omega (arith, line-short (ascii "answer=") n))
 
--- the totals, made in a buffer that holds them
-pub record Made (o : List ℕ) (q : ℕ) (t : List ℕ) : Type 0 where
-  pub long : q ≡ length t
-  pub text : take q o ≡ t
-  pub within : q ≤ length o
+from-short : (s : Sender) → length (from_text s) ≤ 8
+from-short A = omega arith
+from-short B = omega arith
+from-short Neither = omega arith
 
-pub made : (l : Link) (n : ℕ) (z : List ℕ) {m o : List ℕ} {r q : ℕ} → Put z m 0 r (first_totals l) → Put m o r q (last_totals l n) → 96 ≤ length z
-    → Made o q (totals_text l n)
-made l n z {m} {o} {r} {q} p s h =
-    let t : List ℕ = totals_text l n in
-    let fits : 0 + length t ≤ length z = omega (arith, totals-short l n, h) in
-    let all : Put z o 0 q t = put_then z 0 (first_totals l) (last_totals l n) fits p s in
-    let short : length t ≤ length z = omega (arith, fits) in
-    record {
-      long = all.1 ∙ zero-add (length t);
-      text = text_of z o q t all short;
-      within = rw (all.0, all.1, splice-length) fits;
-    }
+pub gap_short : (place : ℕ) (s : Sender) → length (gap_line place s) ≤ 32
+gap_short place s =
+    omega (arith, length-append (ascii "gap=") (decimal place ++ from_text s), length-append (decimal place) (from_text s), decimal-short place, from-short s)

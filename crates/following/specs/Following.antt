@@ -11,7 +11,7 @@ use Rattle.link.specs.declared.Sender.{Sender}
 use Rattle.link.specs.declared.Sender.TheVariants.{A, B, Neither}
 use Rattle.words.specs.Ascii.{ascii}
 use Rattle.words.specs.Words.{decimal, line}
-use Rattle.words.specs.Put.{behind}
+use Rattle.words.specs.Room.{behind}
 use Rattle.following.specs.declared.Begun.{Begun}
 use Rattle.following.specs.declared.Followed.{Followed}
 

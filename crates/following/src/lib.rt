@@ -1,14 +1,15 @@
 // What `follow` prints of a recorded link, as octets in a lent buffer: of the texts that name its two stations, of each frame, and at the end.
 #![tactic(auto)]
 
-ghost use Rattle.std.specs.Prelude.{◌≡◌, ◌+◌, ◌≤◌, length};
+ghost use Rattle.std.specs.Prelude.{◌≡◌, ◌≤◌, length};
 ghost use Rattle.octets.specs.Splice.{splice};
-ghost use Rattle.words.specs.Put.{Put, behind};
-ghost use Rattle.following.specs.Following.{answer_text, refused_by, begin_text, begun, stops, gap_line, gap_text, offered_text, follow_text, followed, first_totals, last_totals, totals_text};
+ghost use Rattle.words.specs.Room.{behind};
+ghost use Rattle.following.specs.Following.{answer_text, refused_by, begin_text, begun, stops, from_text, gap_line, gap_text, offered_text, follow_text, followed, totals_text};
 
 use link::Sender;
 use link_record::{Link, LinkAnswer};
 use text::AddressAnswer;
+use words::page::Page;
 
 // What the two texts come to: whether both are read, the record of the link between their stations, and how many octets are printed.
 #[derive(Clone, Copy)]
@@ -30,10 +31,11 @@ fn put_answer(out: &mut [u8], number: u32) -> usize
     ensures out_after { out.new ≡ splice out.old 0 (answer_text number) }
     ensures value { result ≡ behind (length out.old) 0 (answer_text number) }
 {
-    if number == 0 {
-        return 0;
+    let mut page: Page<32> = Page::new();
+    if number != 0 {
+        page.put_number(b"answer=", number as usize, b"\n");
     }
-    words::put_number(out, 0, b"answer=", number as usize, b"\n")
+    page.write_to(out).unwrap_or(0)
 }
 
 fn refused_by(a: AddressAnswer, b: AddressAnswer) -> u32
@@ -71,13 +73,17 @@ pub fn begin(a: &[u8], b: &[u8], out: &mut [u8]) -> Begun
 fn stops(answer: LinkAnswer) -> bool
     ensures { result ≡ stops answer }
 {
-    match answer {
-        LinkAnswer::Offered => false,
-        LinkAnswer::NotEncodable => true,
-        LinkAnswer::EqualStations => true,
-        LinkAnswer::Unsound => true,
-        LinkAnswer::Full => true,
-        LinkAnswer::Refused(_) => false,
+    !matches!(answer, LinkAnswer::Offered | LinkAnswer::Refused(_))
+}
+
+// Whose frame a gap is, behind its place.
+fn from(sender: Sender) -> &'static [u8]
+    ensures { result.now ≡ from_text sender }
+{
+    match sender {
+        Sender::A => b" from=A\n",
+        Sender::B => b" from=B\n",
+        Sender::Neither => b"\n",
     }
 }
 
@@ -85,12 +91,9 @@ fn put_gap_line(out: &mut [u8], place: u32, sender: Sender) -> usize
     ensures out_after { out.new ≡ splice out.old 0 (gap_line place sender) }
     ensures value { result ≡ behind (length out.old) 0 (gap_line place sender) }
 {
-    let place = place as usize;
-    match sender {
-        Sender::A => words::put_number(out, 0, b"gap=", place, b" from=A\n"),
-        Sender::B => words::put_number(out, 0, b"gap=", place, b" from=B\n"),
-        Sender::Neither => words::put_number(out, 0, b"gap=", place, b"\n"),
-    }
+    let mut page: Page<32> = Page::new();
+    page.put_number(b"gap=", place as usize, from(sender));
+    page.write_to(out).unwrap_or(0)
 }
 
 fn put_gap(out: &mut [u8], before: Link, after: Link, frame: &[u8]) -> usize
@@ -135,37 +138,18 @@ pub fn follow(link: Link, stopped: bool, frame: &[u8], out: &mut [u8]) -> Follow
     }
 }
 
-// The first three lines of the totals, and the last three.
-fn put_first(out: &mut [u8], link: Link) -> usize
-    requires { length (first_totals link) ≤ length out.old }
-    ensures { Put out.old out.new 0 result (first_totals link) }
-{
-    let at = words::put_number(out, 0, b"offered=", link.offered as usize, b"\n");
-    let at = words::put_number(out, at, b"in_order=", link.in_order as usize, b"\n");
-    words::put_number(out, at, b"repeated=", link.repeated as usize, b"\n")
-}
-
-fn put_last(out: &mut [u8], at: usize, link: Link, dropped: u16) -> usize
-    requires { at + length (last_totals link dropped) ≤ length out.old }
-    ensures { Put out.old out.new at result (last_totals link dropped) }
-{
-    let at = words::put_number(out, at, b"gaps=", link.gaps as usize, b"\n");
-    let at = words::put_number(out, at, b"outside=", link.outside as usize, b"\n");
-    words::put_number(out, at, b"dropped=", dropped as usize, b"\n")
-}
-
 // The totals, written at the start of `out`; gives their length. Where there is no room for all of them, `out` is left alone.
 pub fn totals(link: Link, dropped: u16, out: &mut [u8]) -> usize
     ensures value { result ≡ behind (length out.old) 0 (totals_text link dropped) }
     ensures out_after { out.new ≡ splice out.old 0 (totals_text link dropped) }
     ensures upper_bound { result ≤ length out.new }
 {
-    let mut text = [0; 96];
-    let at = put_first(&mut text, link);
-    let length = put_last(&mut text, at, link, dropped);
-    if out.len() < length {
-        return 0;
-    }
-    lent_buffer::put(out, 0, &text[..length]);
-    length
+    let mut page: Page<96> = Page::new();
+    page.put_number(b"offered=", link.offered as usize, b"\n");
+    page.put_number(b"in_order=", link.in_order as usize, b"\n");
+    page.put_number(b"repeated=", link.repeated as usize, b"\n");
+    page.put_number(b"gaps=", link.gaps as usize, b"\n");
+    page.put_number(b"outside=", link.outside as usize, b"\n");
+    page.put_number(b"dropped=", dropped as usize, b"\n");
+    page.write_to(out).unwrap_or(0)
 }

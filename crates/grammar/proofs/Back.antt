@@ -18,7 +18,7 @@ use Rattle.group.proofs.Laws.{group-length, read-written, mark-written}
 use Rattle.content.specs.Spell.{has_info, front}
 use Rattle.control.specs.declared.Mode.{Mode}
 use Rattle.parse.specs.Content.{content_of}
-use Rattle.parse.specs.declared.ContentAnswer.TheVariants.{Accepted}
+use Rattle.std.specs.Prelude.{Ok}
 use Rattle.content_as_written.proofs.Laws.{content-back, content_some}
 use Rattle.decode.specs.Read.{start_of, end_of, group_at, parsed_at, entry_at, place_at, route_at, command_of, frame_at, accepted_with, with_content, decode_field, decode, info_in}
 use Rattle.frame.specs.Spell.{repeater_at, groups_of, destination_mark, source_mark, address_field, spell, marked, Plain, place_in_use, route_in_use, in_use}
@@ -121,7 +121,7 @@ module _ (mode : Mode) (f : Ax25Frame) (i : List ℕ) (p : Plain mode f i) where
   unfolding frame_at in_use route_at route_in_use
   frame_back = simp (dest-back, src-back, mark-back f.command_or_response p.mark, place-back)
 
-  accepts : content_of mode (front mode f.content ++ i) ≡ Accepted f.content
+  accepts : content_of mode (front mode f.content ++ i) ≡ Ok f.content
   accepts = content-back mode f.content i p.content p.bare
 
   pub decode-spell : decode mode (spell mode f i) ≡ accepted_with mode (in_use f) (14 + 7 * n) (length (spell mode f i))

@@ -15,8 +15,9 @@ use Rattle.content.specs.Spell.{has_info, front}
 use Rattle.content.specs.declared.FrameContent.{FrameContent}
 use Rattle.control.specs.declared.Mode.{Mode}
 use Rattle.parse.specs.Content.{content_of}
-use Rattle.parse.specs.declared.ContentAnswer.{ContentAnswer}
-use Rattle.parse.specs.declared.ContentAnswer.TheVariants as content
+use Rattle.std.specs.Prelude.{Result, Ok, Err}
+use Rattle.parse.specs.declared.ContentError.{ContentError}
+use Rattle.parse.specs.declared.ContentError.TheVariants as content
 use Rattle.parse.proofs.Read.{zero-length}
 use Rattle.decode.specs.Answer.{Report, report_of, number_of}
 use Rattle.decode.specs.Numbers.{no_start, leading_null, no_end, short_field, no_content, many_repeaters, reported}
@@ -63,16 +64,16 @@ module _ (mode : Mode) (s : List ℕ) (k : ℕ) where
   unfolding refused_with
   refused-drop a = refl
 
-  content-drop : (n at : ℕ) (a : ContentAnswer) → 0 < at → (a ≡ content.ContentZeroLength → ⊥)
+  content-drop : (n at : ℕ) (a : Result FrameContent ContentError) → 0 < at → (a ≡ Err content.ContentZeroLength → ⊥)
       → with_content mode s k n (k + at) a ≡ moved k (length s) (with_content mode t 0 n at a)
   unfolding with_content
-  content-drop n at (content.Accepted c) h z = accepted-drop n at c h
-  content-drop n at content.ContentZeroLength h z = absurd (z refl)
-  content-drop n at content.MissingPidField h z = refused-drop _
-  content-drop n at content.UnrecognisedUFieldType h z = refused-drop _
-  content-drop n at content.WrongSizeFrmrInfo h z = refused-drop _
-  content-drop n at content.FrameRejectInLongMode h z = refused-drop _
-  content-drop n at content.MissingControlOctet h z = refused-drop _
+  content-drop n at (Ok c) h z = accepted-drop n at c h
+  content-drop n at (Err content.ContentZeroLength) h z = absurd (z refl)
+  content-drop n at (Err content.MissingPidField) h z = refused-drop _
+  content-drop n at (Err content.UnrecognisedUFieldType) h z = refused-drop _
+  content-drop n at (Err content.WrongSizeFrmrInfo) h z = refused-drop _
+  content-drop n at (Err content.FrameRejectInLongMode) h z = refused-drop _
+  content-drop n at (Err content.MissingControlOctet) h z = refused-drop _
 
   -- an address field that starts at k is read as the one at the start of what follows k octets
   pub field-drop : (end : ℕ) → k + end < length s → decode_field mode s k (k + end) ≡ moved k (length s) (decode_field mode t 0 end)

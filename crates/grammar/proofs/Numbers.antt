@@ -16,8 +16,10 @@ use Rattle.content.specs.Refused.{long_frmr, stray_info, stray_pid}
 use Rattle.control.specs.declared.Mode.{Mode}
 use Rattle.parse.specs.Numbers.{lacks_control, lacks_pid, strange_u, frmr_in_long, wrong_frmr}
 use Rattle.parse.proofs.Numbers.{numbers, rows_some}
-use Rattle.parse.specs.declared.ContentAnswer.{ContentAnswer}
-use Rattle.parse.specs.declared.ContentAnswer.TheVariants.{Accepted, ContentZeroLength, MissingPidField, UnrecognisedUFieldType, WrongSizeFrmrInfo, FrameRejectInLongMode, MissingControlOctet}
+use Rattle.std.specs.Prelude.{Result, Ok, Err}
+use Rattle.content.specs.declared.FrameContent.{FrameContent}
+use Rattle.parse.specs.declared.ContentError.{ContentError}
+use Rattle.parse.specs.declared.ContentError.TheVariants.{ContentZeroLength, MissingPidField, UnrecognisedUFieldType, WrongSizeFrmrInfo, FrameRejectInLongMode, MissingControlOctet}
 use Rattle.decode.specs.Answer.{Report, number, report_of, number_of}
 use Rattle.frame.specs.Frame.{write_number}
 use Rattle.frame.specs.Spell.{spell}
@@ -29,16 +31,16 @@ use Rattle.decode.specs.declared.Decoded.{Decoded}
 use Rattle.decode.proofs.Read.{start-past}
 
 -- the content's answer by its number
-content_report : (mode : Mode) (s : List ℕ) (start n control : ℕ) (a : ContentAnswer)
+content_report : (mode : Mode) (s : List ℕ) (start n control : ℕ) (a : Result FrameContent ContentError)
     → report_of (with_content mode s start n control a).answer ≡ number (content.number_of a)
 unfolding with_content refused_with accepted_with
-content_report mode s start n control (Accepted k) = refl
-content_report mode s start n control ContentZeroLength = refl
-content_report mode s start n control MissingPidField = refl
-content_report mode s start n control UnrecognisedUFieldType = refl
-content_report mode s start n control WrongSizeFrmrInfo = refl
-content_report mode s start n control FrameRejectInLongMode = refl
-content_report mode s start n control MissingControlOctet = refl
+content_report mode s start n control (Ok k) = refl
+content_report mode s start n control (Err ContentZeroLength) = refl
+content_report mode s start n control (Err MissingPidField) = refl
+content_report mode s start n control (Err UnrecognisedUFieldType) = refl
+content_report mode s start n control (Err WrongSizeFrmrInfo) = refl
+content_report mode s start n control (Err FrameRejectInLongMode) = refl
+content_report mode s start n control (Err MissingControlOctet) = refl
 
 -- octets that are not all null start past the first exactly where that is null
 pub leads : (s : List ℕ) → eqb (start_of s) (length s) ≡ false → ltb 0 (start_of s) ≡ leading_null s

@@ -12,7 +12,7 @@ use Rattle.content.specs.Spell.{has_info, front}
 use Rattle.content.specs.declared.FrameContent.{FrameContent}
 use Rattle.control.specs.declared.Mode.{Mode}
 use Rattle.parse.specs.Content.{content_of}
-use Rattle.parse.specs.declared.ContentAnswer.TheVariants.{Accepted}
+use Rattle.std.specs.Prelude.{Ok}
 use Rattle.content_as_written.proofs.Laws.{content_fits}
 use Rattle.decode.specs.Answer.{is_accepted}
 use Rattle.decode.specs.Read.{end_of, group_at, parsed_at, command_of, frame_at, accepted_with, decode, info_in}
@@ -25,7 +25,7 @@ pub record Parts (mode : Mode) (s : List ℕ) (d : Decoded) : Type 0 where
   pub destination : d.frame.destination ≡ address_of (group_at s 0)
   pub source : d.frame.source ≡ address_of (group_at s 7)
   pub mark : d.frame.command_or_response ≡ command_of (mark_set (get_or s 6 0)) (mark_set (get_or s 13 0))
-  pub content : content_of mode (drop (end_of s + 1) s) ≡ Accepted d.frame.content
+  pub content : content_of mode (drop (end_of s + 1) s) ≡ Ok d.frame.content
   -- of the content this many octets, which stand in the input: those before the info, then the info
   pub kept : end_of s + 1 + kept_of mode d.frame.content (length s - (end_of s + 1)) ≤ length s
   pub before : length (front mode d.frame.content) ≤ kept_of mode d.frame.content (length s - (end_of s + 1))

@@ -9,7 +9,7 @@ use lib.ListN.{length, drop}
 use Rattle.octets.proofs.Choice.{by}
 use Rattle.content.specs.declared.FrameContent.TheVariants as kind
 use Rattle.control.specs.declared.Mode.{Mode}
-use Rattle.parse.specs.declared.ContentAnswer.TheVariants as content
+use Rattle.std.specs.Prelude.{Ok}
 use Rattle.parse.proofs.Read.{never_unknown}
 use Rattle.decode.specs.Answer.{is_accepted}
 use Rattle.frame.specs.Frame.{write_number, simple_ui, default_frame}
@@ -43,7 +43,7 @@ default_known u = let z : ◌≡◌ {A = ℕ} 0 1 = cc u in omega arith
 pub decoded_known : (mode : Mode) (s : List ℕ) → (decode mode s).frame.content ≡ kind.UnknownContent → ⊥
 decoded_known mode s u =
     by (is_accepted (decode mode s).answer)
-    (λ e. let a = accepts mode s e in never_unknown mode (drop (end_of s + 1) s) (a.read ∙ ap content.Accepted (sym (made_kind mode s a) ∙ u)))
+    (λ e. let a = accepts mode s e in never_unknown mode (drop (end_of s + 1) s) (a.read ∙ ap Ok (sym (made_kind mode s a) ∙ u)))
     (λ e. default_known (sym (ap (λ (f : Ax25Frame). f.content) (refused_parts mode s e).0) ∙ u))
 
 -- a refused write writes nothing

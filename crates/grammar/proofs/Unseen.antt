@@ -18,7 +18,7 @@ use Rattle.content.specs.Spell.{has_info, front, spell_content}
 use Rattle.content.specs.declared.FrameContent.{FrameContent}
 use Rattle.control.specs.declared.Mode.{Mode}
 use Rattle.parse.specs.Content.{content_of}
-use Rattle.parse.specs.declared.ContentAnswer.TheVariants.{Accepted}
+use Rattle.std.specs.Prelude.{Ok}
 use Rattle.content_as_written.specs.AsWritten.{info_of}
 use Rattle.content_as_written.specs.Unseen.{unseen}
 use Rattle.content_as_written.proofs.Laws.{content_fits, content_kept}
@@ -110,7 +110,7 @@ spelled_alike mode s o e m l =
 
 -- what is read of another input, as long, that has the octets of the address field, and content that is read as the same
 module _ (mode : Mode) (s t : List ℕ) (a : Accepts mode s (decode mode s)) (l : length t ≡ length s) (field : (p : ℕ) → p < end_of s + 1 → get_or t p 0 ≡ get_or s p 0)
-    (c : content_of mode (drop (end_of s + 1) t) ≡ Accepted a.kind) where
+    (c : content_of mode (drop (end_of s + 1) t) ≡ Ok a.kind) where
   same_start : start_of t ≡ start_of s
   same_start =
       let inside = a.end_in in

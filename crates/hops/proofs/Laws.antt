@@ -11,6 +11,8 @@ use borrow.Author.Tests.{eq-eqb, ne_eqb, eqb-true, eqb-false, le-ltb, lt-ltb, lt
 use lib.Count.{ones, ones_step}
 use lib.Dec.{eqb, ltb, eqb-suc-suc}
 use lib.ListN.{length, length-drop, length-set, get_or, set, drop, get_or-eq_default}
+use lib.Pointwise.{pointwise}
+use mir.Val.{bool_byte}
 use lib.Pow.{shr-shr, pow_mono}
 use lib.Seq.{drop-cons, get_or-drop, get_or-set_same, get_or-set_other, ext_get_or}
 use Rattle.octets.specs.All.{all}
@@ -29,6 +31,19 @@ use Rattle.frame.specs.declared.RouteEntry.{RouteEntry}
 use Rattle.frame.specs.declared.Ax25Frame.{Ax25Frame}
 use Rattle.hops.specs.Hops.{marked_at, marks, set_of, hop_set, hops_used, due_place, broken, first_clear}
 use Rattle.hops.specs.Station.{same_station}
+
+-- a mark as an octet
+pub flagged : (b : Bool) → bool_byte b ≡ flag 0 b
+flagged true = refl
+flagged false = refl
+
+-- what `==` of two arrays tells
+pub same_is : (s t : List ℕ) → same s t ≡ pointwise eqb s t
+unfolding same
+same_is [] [] = refl
+same_is [] (y ∷ t) = refl
+same_is (x ∷ s) [] = refl
+same_is (x ∷ s) (y ∷ t) = rw (same_is s t) refl
 
 set_below : (ms : List Bool) → set_of ms < 2 ^ length ms
 unfolding set_of

@@ -10,26 +10,14 @@ ghost use Rattle.hops.specs.Station.{same_station};
 use address::Address;
 use frame::Ax25Frame;
 
-// One where both hold.
-fn both(used: bool, marked: bool) -> u8
-    ensures { result ≡ flag 0 (used && marked) }
-{
-    if used { if marked { 1 } else { 0 } } else { 0 }
-}
-
 // Bit i for a marked place i below the route count. The set is built from the top place down.
 pub fn hop_set(frame: Ax25Frame) -> u8
     ensures { result ≡ hop_set frame }
 {
-    let count = frame.route_count;
-    let route = frame.route;
     let mut set: u8 = 0;
-    let mut i: usize = 8;
-    while i > 0 {
-        i -= 1;
-        let entry = route[i];
-        let mark = both(i < count, entry.has_repeated);
-        set = set * 2 + mark;
+    for i in (0..8).rev() {
+        let mark = i < frame.route_count && frame.route[i].has_repeated;
+        set = set * 2 + u8::from(mark);
     }
     set
 }
@@ -54,27 +42,9 @@ pub fn due_place(frame: Ax25Frame) -> usize
     first_clear(hop_set(frame)) as usize
 }
 
-fn same_callsign(a: [u8; 6], b: [u8; 6]) -> bool
-    ensures { result ≡ same a b }
-{
-    let mut i = 0;
-    while i < 6 {
-        if a[i] != b[i] {
-            return false;
-        }
-        i += 1;
-    }
-    true
-}
-
 // The reserved bits are the network's, and tell nothing of the station.
 pub fn same_station(a: Address, b: Address) -> bool
     ensures { result ≡ same_station a b }
 {
-    if a.ssid != b.ssid {
-        return false;
-    }
-    let left = a.callsign;
-    let right = b.callsign;
-    same_callsign(left, right)
+    a.ssid == b.ssid && a.callsign == b.callsign
 }

@@ -1,8 +1,9 @@
 -- Each number is given exactly when its row of the table holds.
 use Prim.Native.Nat.{ℕ, ◌<◌}
-use mathlib.Core.Path.{◌≡◌, refl}
-use mathlib.Core.Bool.{Bool, true, false, cond}
+use mathlib.Core.Path.{◌≡◌}
+use mathlib.Core.Bool.{true, false, cond}
 use mathlib.Core.List.{List}
+use Rattle.std.specs.Prelude.{Result}
 use native.Mathlib.Omega.{arith}
 use borrow.Author.Tests.{eq-eqb, ne_eqb, eqb-true, eqb-false}
 use lib.Dec.{eqb, ltb}
@@ -15,10 +16,9 @@ use Rattle.control.specs.declared.Mode.TheVariants.{Short, Long}
 use Rattle.content.specs.declared.FrameContent.{FrameContent}
 use Rattle.parse.specs.Content.{i_of, s_of, ui_of, frmr_of, u_of, content_of, number_of}
 use Rattle.parse.specs.Numbers.{is_i, is_s, is_u, is_ui, is_frmr, lacks_control, lacks_pid, strange_u, frmr_in_long, wrong_frmr, rows}
-use Rattle.parse.specs.declared.ContentAnswer.{ContentAnswer}
-use Rattle.parse.specs.declared.ContentAnswer.TheVariants.{Accepted, MissingPidField}
+use Rattle.parse.specs.declared.ContentError.{ContentError}
 
-abbrev Right : Mode → List ℕ → ContentAnswer → Type 0
+abbrev Right : Mode → List ℕ → Result FrameContent ContentError → Type 0
 Right m s a = number_of a ≡ rows m s
 
 -- what the low bits exclude
@@ -100,29 +100,3 @@ pub rows_some : (m : Mode) (s : List ℕ) → 0 < length s
     ≡ cond (lacks_control m s) 12 (cond (lacks_pid m s) 5 (cond (strange_u s) 7 (cond (frmr_in_long m s) 11 (cond (wrong_frmr m s) 8 0))))
 unfolding rows
 rows_some m s h = simp (ne_eqb (length s) 0 (λ e. omega arith))
-
--- 5 where the PID is missing
-numbered_pid : (b : Bool) (k : FrameContent) → number_of (cond b MissingPidField (Accepted k)) ≡ cond b 5 0
-numbered_pid true k = refl
-numbered_pid false k = refl
-
-pub pid-ui : (s : List ℕ) → number_of (ui_of s) ≡ cond (ltb (length s) 2) 5 0
-unfolding ui_of
-pid-ui s = numbered_pid (ltb (length s) 2) _
-
--- and of the short I frame; of the long one 12 before it, and of the long S frame 12 alone
-pub pid_i : (s : List ℕ) → number_of (i_of Short s) ≡ cond (ltb (length s) 2) 5 0
-unfolding i_of
-pid_i s = numbered_pid (ltb (length s) 2) _
-
-pub long_i : (s : List ℕ) → number_of (i_of Long s) ≡ cond (ltb (length s) 2) 12 (cond (ltb (length s) 3) 5 0)
-unfolding i_of
-long_i s = by (ltb (length s) 2) (λ l. rw l refl) (λ l. by (ltb (length s) 3) (λ k. rw (l, k) refl) (λ k. rw (l, k) refl))
-
-pub long_s : (s : List ℕ) → number_of (s_of Long s) ≡ cond (ltb (length s) 2) 12 0
-unfolding s_of
-long_s s = by (ltb (length s) 2) (λ l. rw l refl) (λ l. rw l refl)
-
-pub short-frmr : (s : List ℕ) → number_of (frmr_of Short s) ≡ cond (eqb (length s) 4) 0 8
-unfolding frmr_of
-short-frmr s = by (eqb (length s) 4) (λ l. rw l refl) (λ l. rw l refl)

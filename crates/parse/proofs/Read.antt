@@ -3,6 +3,7 @@ use Prim.Native.Nat.{ℕ, ◌+◌, ◌≤◌, ◌<◌}
 use mathlib.Core.Path.{◌≡◌, refl, subst}
 use mathlib.Core.Bool.{Bool, false}
 use mathlib.Core.List.{List}
+use Rattle.std.specs.Prelude.{Result, Ok, Err}
 use native.Mathlib.Omega.{arith}
 use borrow.Author.Tests.{eqb-true, eqb-false, ltb-false}
 use lib.Dec.{eqb, ltb}
@@ -20,8 +21,8 @@ use Rattle.control.specs.declared.Mode.{Mode}
 use Rattle.control.specs.declared.Mode.TheVariants.{Short, Long}
 use Rattle.content.specs.declared.FrameContent.{FrameContent}
 use Rattle.content.specs.declared.FrameContent.TheVariants as kind
-use Rattle.parse.specs.declared.ContentAnswer.{ContentAnswer}
-use Rattle.parse.specs.declared.ContentAnswer.TheVariants.{Accepted, ContentZeroLength, MissingPidField, UnrecognisedUFieldType, WrongSizeFrmrInfo, FrameRejectInLongMode, MissingControlOctet}
+use Rattle.parse.specs.declared.ContentError.{ContentError}
+use Rattle.parse.specs.declared.ContentError.TheVariants.{ContentZeroLength, MissingPidField, UnrecognisedUFieldType, WrongSizeFrmrInfo, FrameRejectInLongMode, MissingControlOctet}
 
 pub data Reads (m : Mode) (s : List ℕ) : FrameContent → Type 0 where
   i_frame : controls m + 1 ≤ length s → field 0 1 (get_or s 0 0) ≡ 0 → Reads m s (kind.Information (i_fields_of m s))
@@ -48,14 +49,14 @@ pub data Reads (m : Mode) (s : List ℕ) : FrameContent → Type 0 where
   test_frame : 0 < length s → u_kind (get_or s 0 0) ≡ test → Reads m s (kind.Test (record { poll_or_final = poll_of (get_or s 0 0) }))
 
 -- the case of an answer that accepts, and of the one for nothing
-abbrev Case : Mode → List ℕ → ContentAnswer → Type 0
-Case m s (Accepted k) = Reads m s k
-Case m s ContentZeroLength = length s ≡ 0
-Case m s MissingPidField = Unit {0}
-Case m s UnrecognisedUFieldType = Unit {0}
-Case m s WrongSizeFrmrInfo = Unit {0}
-Case m s FrameRejectInLongMode = Unit {0}
-Case m s MissingControlOctet = Unit {0}
+abbrev Case : Mode → List ℕ → Result FrameContent ContentError → Type 0
+Case m s (Ok k) = Reads m s k
+Case m s (Err ContentZeroLength) = length s ≡ 0
+Case m s (Err MissingPidField) = Unit {0}
+Case m s (Err UnrecognisedUFieldType) = Unit {0}
+Case m s (Err WrongSizeFrmrInfo) = Unit {0}
+Case m s (Err FrameRejectInLongMode) = Unit {0}
+Case m s (Err MissingControlOctet) = Unit {0}
 
 -- the low two bits leave four S kinds
 last_kind : (c : ℕ) → field 0 2 c ≡ 1 → eqb (s_kind c) rr ≡ false → eqb (s_kind c) rnr ≡ false → eqb (s_kind c) rej ≡ false → s_kind c ≡ srej
@@ -116,14 +117,14 @@ module _ (m : Mode) (s : List ℕ) where
       either (Case m s) (eqb (field 0 1 c) 0) (λ e. i_case m s (eqb-true (field 0 1 c) 0 e))
       (λ _. either (Case m s) (eqb (field 0 2 c) 1) (λ e. s_case m s some (eqb-true (field 0 2 c) 1 e)) (λ _. u_case some)))
 
-  pub accepted : (k : FrameContent) → content_of m s ≡ Accepted k → Reads m s k
+  pub accepted : (k : FrameContent) → content_of m s ≡ Ok k → Reads m s k
   accepted k e = subst (Case m s) e content_case
 
-  pub zero-length : content_of m s ≡ ContentZeroLength → length s ≡ 0
+  pub zero-length : content_of m s ≡ Err ContentZeroLength → length s ≡ 0
   zero-length e = subst (Case m s) e content_case
 
 -- what stands before the info is something, and no more than was read
-pub sized : (m : Mode) (s : List ℕ) (k : FrameContent) → content_of m s ≡ Accepted k → (0 < length (front m k)) × (length (front m k) ≤ length s)
+pub sized : (m : Mode) (s : List ℕ) (k : FrameContent) → content_of m s ≡ Ok k → (0 < length (front m k)) × (length (front m k) ≤ length s)
 sized m s k e = held (accepted m s k e)
   where
     by_control : (r : ℕ) (on : Bool) (low : ℕ) → controls m ≤ length s
@@ -150,5 +151,5 @@ sized m s k e = held (accepted m s k e)
     held (test_frame n t) = (omega arith, n)
 
 -- nothing reads as `UnknownContent`
-pub never_unknown : (m : Mode) (s : List ℕ) → content_of m s ≡ Accepted kind.UnknownContent → ⊥
+pub never_unknown : (m : Mode) (s : List ℕ) → content_of m s ≡ Ok kind.UnknownContent → ⊥
 never_unknown m s e = let h = (sized m s kind.UnknownContent e).0 in omega arith

@@ -1,6 +1,6 @@
 -- Reading content: which kind the control field tells, the fields of each kind, and what is refused (document 01, Reading 5 to 7; document
 -- 02, M-109).
-use Rattle.std.specs.Prelude.{ℕ, Bool, cond, List, eqb, ltb, length, get_or}
+use Rattle.std.specs.Prelude.{ℕ, Bool, Result, Ok, Err, cond, List, eqb, ltb, length, get_or}
 use Rattle.octets.specs.Octet.{field, bit}
 use Rattle.protocol.specs.Pid.{pid_of}
 use Rattle.control.specs.Mode.{controls}
@@ -15,8 +15,8 @@ use Rattle.content.specs.declared.FrameReject.{FrameReject}
 use Rattle.content.specs.declared.FrameContent.{FrameContent}
 use Rattle.content.specs.declared.FrameContent.TheVariants as kind
 use Rattle.parse.specs.Report.{Report, number}
-use Rattle.parse.specs.declared.ContentAnswer.{ContentAnswer}
-use Rattle.parse.specs.declared.ContentAnswer.TheVariants.{Accepted, ContentZeroLength, MissingPidField, UnrecognisedUFieldType, WrongSizeFrmrInfo, FrameRejectInLongMode, MissingControlOctet}
+use Rattle.parse.specs.declared.ContentError.{ContentError}
+use Rattle.parse.specs.declared.ContentError.TheVariants.{ContentZeroLength, MissingPidField, UnrecognisedUFieldType, WrongSizeFrmrInfo, FrameRejectInLongMode, MissingControlOctet}
 
 -- I: control field, PID, info
 abbrev pub i_fields_of : Mode → List ℕ → Information
@@ -28,12 +28,12 @@ i_fields_of m s = record {
 }
 
 -- 12 where the second control octet is missing, then 5 where the PID is
-unfoldable pub i_of : Mode → List ℕ → ContentAnswer
-i_of Short s = cond (ltb (length s) 2) MissingPidField (Accepted (kind.Information (i_fields_of Short s)))
+unfoldable pub i_of : Mode → List ℕ → Result FrameContent ContentError
+i_of Short s = cond (ltb (length s) 2) (Err MissingPidField) (Ok (kind.Information (i_fields_of Short s)))
 i_of Long s =
-    cond (ltb (length s) 2) MissingControlOctet
-    (cond (ltb (length s) 3) MissingPidField
-    (Accepted (kind.Information (i_fields_of Long s))))
+    cond (ltb (length s) 2) (Err MissingControlOctet)
+    (cond (ltb (length s) 3) (Err MissingPidField)
+    (Ok (kind.Information (i_fields_of Long s))))
 
 -- S: the control field alone, a tail ignored (docs/DIFFERENCES.md, A4). The low four bits tell the kind. With low bits 01 they are one of
 -- four, and the fourth, D hex, is SREJ
@@ -48,16 +48,16 @@ abbrev pub s_frame_of : Mode → List ℕ → FrameContent
 s_frame_of m s = s_kind_of (get_or s 0 0) (receive_in m s) (poll_in m s)
 
 -- 12 where the second control octet is missing
-unfoldable pub s_of : Mode → List ℕ → ContentAnswer
-s_of Short s = Accepted (s_frame_of Short s)
-s_of Long s = cond (ltb (length s) 2) MissingControlOctet (Accepted (s_frame_of Long s))
+unfoldable pub s_of : Mode → List ℕ → Result FrameContent ContentError
+s_of Short s = Ok (s_frame_of Short s)
+s_of Long s = cond (ltb (length s) 2) (Err MissingControlOctet) (Ok (s_frame_of Long s))
 
 -- UI: control, PID, info
 abbrev pub ui_fields_of : List ℕ → UnnumberedInformation
 ui_fields_of s = record { pid = pid_of (get_or s 1 0); poll_or_final = poll_of (get_or s 0 0) }
 
-unfoldable pub ui_of : List ℕ → ContentAnswer
-ui_of s = cond (ltb (length s) 2) MissingPidField (Accepted (kind.UnnumberedInformation (ui_fields_of s)))
+unfoldable pub ui_of : List ℕ → Result FrameContent ContentError
+ui_of s = cond (ltb (length s) 2) (Err MissingPidField) (Ok (kind.UnnumberedInformation (ui_fields_of s)))
 
 -- the response bit of FRMR's copy of the sequence numbers: bit 4
 unfoldable pub response_of : ℕ → CommandResponse
@@ -79,43 +79,55 @@ frmr_fields_of s = record {
 }
 
 -- exactly four octets, and in the short mode alone
-unfoldable pub frmr_of : Mode → List ℕ → ContentAnswer
-frmr_of Short s = cond (eqb (length s) 4) (Accepted (kind.FrameReject (frmr_fields_of s))) WrongSizeFrmrInfo
-frmr_of Long s = FrameRejectInLongMode
+unfoldable pub frmr_of : Mode → List ℕ → Result FrameContent ContentError
+frmr_of Short s = cond (eqb (length s) 4) (Ok (kind.FrameReject (frmr_fields_of s))) (Err WrongSizeFrmrInfo)
+frmr_of Long s = Err FrameRejectInLongMode
 
 -- U: the control octet c alone, a tail ignored (docs/DIFFERENCES.md, A4), save for FRMR, for UI, and for XID and TEST, whose info it is
-unfoldable pub u_of : Mode → ℕ → List ℕ → ContentAnswer
+unfoldable pub u_of : Mode → ℕ → List ℕ → Result FrameContent ContentError
 u_of m c s =
-    cond (eqb (u_kind c) sabm) (Accepted (kind.SetAsynchronousBalancedMode (record { poll = poll_of c })))
-    (cond (eqb (u_kind c) sabme) (Accepted (kind.SetAsynchronousBalancedModeExtended (record { poll = poll_of c })))
-    (cond (eqb (u_kind c) disc) (Accepted (kind.Disconnect (record { poll = poll_of c })))
-    (cond (eqb (u_kind c) dm) (Accepted (kind.DisconnectedMode (record { final_bit = poll_of c })))
-    (cond (eqb (u_kind c) ua) (Accepted (kind.UnnumberedAcknowledge (record { final_bit = poll_of c })))
+    cond (eqb (u_kind c) sabm) (Ok (kind.SetAsynchronousBalancedMode (record { poll = poll_of c })))
+    (cond (eqb (u_kind c) sabme) (Ok (kind.SetAsynchronousBalancedModeExtended (record { poll = poll_of c })))
+    (cond (eqb (u_kind c) disc) (Ok (kind.Disconnect (record { poll = poll_of c })))
+    (cond (eqb (u_kind c) dm) (Ok (kind.DisconnectedMode (record { final_bit = poll_of c })))
+    (cond (eqb (u_kind c) ua) (Ok (kind.UnnumberedAcknowledge (record { final_bit = poll_of c })))
     (cond (eqb (u_kind c) frmr) (frmr_of m s)
     (cond (eqb (u_kind c) ui) (ui_of s)
-    (cond (eqb (u_kind c) xid) (Accepted (kind.ExchangeIdentification (record { poll_or_final = poll_of c })))
-    (cond (eqb (u_kind c) test) (Accepted (kind.Test (record { poll_or_final = poll_of c })))
-    UnrecognisedUFieldType))))))))
+    (cond (eqb (u_kind c) xid) (Ok (kind.ExchangeIdentification (record { poll_or_final = poll_of c })))
+    (cond (eqb (u_kind c) test) (Ok (kind.Test (record { poll_or_final = poll_of c })))
+    (Err UnrecognisedUFieldType)))))))))
 
 -- content from its control octet on: low bit 0 is I, low bits 01 are S, low bits 11 are U. None at all has a number too
 -- (docs/DIFFERENCES.md, B5)
-unfoldable pub content_of : Mode → List ℕ → ContentAnswer
+unfoldable pub content_of : Mode → List ℕ → Result FrameContent ContentError
 content_of m s =
-    cond (eqb (length s) 0) ContentZeroLength
+    cond (eqb (length s) 0) (Err ContentZeroLength)
     (cond (eqb (field 0 1 (get_or s 0 0)) 0) (i_of m s)
     (cond (eqb (field 0 2 (get_or s 0 0)) 1) (s_of m s)
     (u_of m (get_or s 0 0) s)))
 
--- the number of an answer and its details (document 01, Numbers; 11 and 12 are document 02's, M-109). Of 4 the detail is the length:
--- content that is empty has length 0
-abbrev pub report_of : ContentAnswer → Report
-report_of (Accepted k) = number 0
-report_of ContentZeroLength = record { number = 4; start = 0; end = 0; len = 0 }
-report_of MissingPidField = number 5
-report_of UnrecognisedUFieldType = number 7
-report_of WrongSizeFrmrInfo = number 8
-report_of FrameRejectInLongMode = number 11
-report_of MissingControlOctet = number 12
+-- the number of a refusal and its details (document 01, Numbers; 11 and 12 are document 02's, M-109). Of 4 the detail is the length: content
+-- that is empty has length 0
+abbrev pub error_report : ContentError → Report
+error_report ContentZeroLength = record { number = 4; start = 0; end = 0; len = 0 }
+error_report MissingPidField = number 5
+error_report UnrecognisedUFieldType = number 7
+error_report WrongSizeFrmrInfo = number 8
+error_report FrameRejectInLongMode = number 11
+error_report MissingControlOctet = number 12
 
-abbrev pub number_of : ContentAnswer → ℕ
+abbrev pub error_number : ContentError → ℕ
+error_number e = (error_report e).number
+
+-- and of an answer: 0 where the content is accepted
+abbrev pub report_of : Result FrameContent ContentError → Report
+report_of (Ok k) = number 0
+report_of (Err e) = error_report e
+
+abbrev pub number_of : Result FrameContent ContentError → ℕ
 number_of a = (report_of a).number
+
+-- an answer without the content that was read
+abbrev pub judged : Result FrameContent ContentError → Result Unit ContentError
+judged (Ok k) = Ok tt
+judged (Err e) = Err e

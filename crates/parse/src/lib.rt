@@ -1,22 +1,24 @@
-// Reading content: the control octet tells the kind, and each kind has its fields.
+// Reading content: the control octet tells the kind, and each kind has its fields. What is refused is judged first, by the octets alone.
 #![tactic(auto)]
 
-ghost use Rattle.std.specs.Prelude.{◌≡◌, cond, ltb, length, get_or};
-ghost use Rattle.parse.specs.Content.{i_of, s_kind_of, s_of, u_of, ui_of, frmr_of, content_of, report_of, number_of};
+ghost use Rattle.std.specs.Prelude.{◌≡◌, ◌≤◌, ◌<◌, ◌+◌, Ok, Err, cond, ltb, length, get_or};
+ghost use Rattle.control.specs.Mode.{controls};
+ghost use Rattle.control.specs.Control.{fields_in};
+ghost use Rattle.parse.specs.Content.{i_of, s_kind_of, s_of, u_of, ui_of, frmr_of, content_of, error_number, judged};
 
+use answer::Numbered;
 use content::{
     CommandResponse, Disconnect, DisconnectedMode, ExchangeIdentification, FrameContent,
     FrameReject, Information, ReceiveNotReady, ReceiveReady, Reject, SelectiveReject,
     SetAsynchronousBalancedMode, SetAsynchronousBalancedModeExtended, Test, UnnumberedAcknowledge,
     UnnumberedInformation,
 };
-use control::Mode;
+use control::{Fields, Mode};
 use protocol::ProtocolIdentifier;
 
-// What reading content gives.
-#[derive(Clone, Copy)]
-pub enum ContentAnswer {
-    Accepted(FrameContent),
+// Why content is refused.
+#[derive(Clone, Copy, Debug, PartialEq, Eq)]
+pub enum ContentError {
     ContentZeroLength,
     MissingPidField,
     UnrecognisedUFieldType,
@@ -25,73 +27,135 @@ pub enum ContentAnswer {
     MissingControlOctet,
 }
 
-impl ContentAnswer {
-    pub fn number(self) -> u32
-        ensures { result ≡ (report_of self).number }
-    {
+impl Numbered for ContentError {
+    ghost number_of = { error_number };
+
+    fn number(self) -> u32 {
         match self {
-            ContentAnswer::Accepted(_) => 0,
-            ContentAnswer::ContentZeroLength => 4,
-            ContentAnswer::MissingPidField => 5,
-            ContentAnswer::UnrecognisedUFieldType => 7,
-            ContentAnswer::WrongSizeFrmrInfo => 8,
-            ContentAnswer::FrameRejectInLongMode => 11,
-            ContentAnswer::MissingControlOctet => 12,
+            ContentError::ContentZeroLength => 4,
+            ContentError::MissingPidField => 5,
+            ContentError::UnrecognisedUFieldType => 7,
+            ContentError::WrongSizeFrmrInfo => 8,
+            ContentError::FrameRejectInLongMode => 11,
+            ContentError::MissingControlOctet => 12,
         }
     }
 }
 
-// UI content, and I content of the short mode, is at least this long.
-const CONTROL_AND_PID: usize = 2;
+// How many control octets a U frame has, in both modes.
+const U_CONTROL: usize = 1;
 
-// I and S content of the long mode has so many control octets,
-const LONG_CONTROL: usize = 2;
+// FRMR content is its control octet and exactly 24 bits.
+const FRMR_LENGTH: usize = 4;
 
-// and its I content is at least this long.
-const LONG_CONTROL_AND_PID: usize = 3;
-
-fn parse_short_i_frame(bytes: &[u8]) -> ContentAnswer
-    ensures { result ≡ i_of Mode.Short bytes.now }
+// I and S content has all its control octets.
+fn judge_control(mode: Mode, bytes: &[u8]) -> Result<(), ContentError>
+    ensures { result ≡ cond (ltb (length bytes.now) (controls mode)) (Err ContentError.MissingControlOctet) (Ok tt) }
 {
-    if bytes.len() < CONTROL_AND_PID {
-        return ContentAnswer::MissingPidField;
+    if bytes.len() < mode.controls() {
+        return Err(ContentError::MissingControlOctet);
     }
-    let fields = control::short_fields(bytes[0]);
-    let pid = ProtocolIdentifier::from_byte(bytes[1]);
-    ContentAnswer::Accepted(FrameContent::Information(Information {
-        pid,
-        receive_sequence: fields.receive,
-        send_sequence: fields.send,
-        poll: fields.poll,
-    }))
+    Ok(())
 }
 
-fn parse_long_i_frame(bytes: &[u8]) -> ContentAnswer
-    ensures { result ≡ i_of Mode.Long bytes.now }
+// A PID follows so many octets.
+fn judge_pid(bytes: &[u8], before: usize) -> Result<(), ContentError>
+    ensures { result ≡ cond (ltb (length bytes.now) (before + 1)) (Err ContentError.MissingPidField) (Ok tt) }
 {
-    if bytes.len() < LONG_CONTROL {
-        return ContentAnswer::MissingControlOctet;
+    if bytes.len() <= before {
+        return Err(ContentError::MissingPidField);
     }
-    if bytes.len() < LONG_CONTROL_AND_PID {
-        return ContentAnswer::MissingPidField;
-    }
-    let fields = control::long_fields(bytes[0], bytes[1]);
-    let pid = ProtocolIdentifier::from_byte(bytes[2]);
-    ContentAnswer::Accepted(FrameContent::Information(Information {
-        pid,
-        receive_sequence: fields.receive,
-        send_sequence: fields.send,
-        poll: fields.poll,
-    }))
+    Ok(())
 }
 
-fn parse_i_frame(mode: Mode, bytes: &[u8]) -> ContentAnswer
-    ensures { result ≡ i_of mode bytes.now }
+fn judge_i(mode: Mode, bytes: &[u8]) -> Result<(), ContentError>
+    requires { 0 < length bytes.now }
+    ensures { result ≡ judged (i_of mode bytes.now) }
+{
+    judge_control(mode, bytes)?;
+    judge_pid(bytes, mode.controls())
+}
+
+fn judge_s(mode: Mode, bytes: &[u8]) -> Result<(), ContentError>
+    requires { 0 < length bytes.now }
+    ensures { result ≡ judged (s_of mode bytes.now) }
+{
+    judge_control(mode, bytes)
+}
+
+fn judge_ui(bytes: &[u8]) -> Result<(), ContentError>
+    ensures { result ≡ judged (ui_of bytes.now) }
+{
+    judge_pid(bytes, U_CONTROL)
+}
+
+fn judge_frmr(mode: Mode, bytes: &[u8]) -> Result<(), ContentError>
+    ensures { result ≡ judged (frmr_of mode bytes.now) }
 {
     match mode {
-        Mode::Short => parse_short_i_frame(bytes),
-        Mode::Long => parse_long_i_frame(bytes),
+        Mode::Short => if bytes.len() == FRMR_LENGTH {
+            Ok(())
+        } else {
+            Err(ContentError::WrongSizeFrmrInfo)
+        },
+        Mode::Long => Err(ContentError::FrameRejectInLongMode),
     }
+}
+
+// The kind is told by the control octet without its P/F bit. FRMR and UI alone look at what follows it.
+fn judge_u(mode: Mode, c: u8, bytes: &[u8]) -> Result<(), ContentError>
+    ensures { result ≡ judged (u_of mode c bytes.now) }
+{
+    let kind = c & 0b1110_1111;
+    match kind {
+        0b0010_1111 | 0b0110_1111 | 0b0100_0011 | 0b0000_1111 | 0b0110_0011 => Ok(()),
+        0b1000_0111 => judge_frmr(mode, bytes),
+        0b0000_0011 => judge_ui(bytes),
+        0b1010_1111 | 0b1110_0011 => Ok(()),
+        _ => Err(ContentError::UnrecognisedUFieldType),
+    }
+}
+
+// Whether the content is refused, and why, without taking it apart.
+pub fn judge(mode: Mode, bytes: &[u8]) -> Result<(), ContentError>
+    ensures { result ≡ judged (content_of mode bytes.now) }
+{
+    if bytes.is_empty() {
+        return Err(ContentError::ContentZeroLength);
+    }
+    let c = bytes[0];
+    let format = c & 0b0000_0011;
+    match format {
+        0b0000_0001 => judge_s(mode, bytes),
+        0b0000_0011 => judge_u(mode, c, bytes),
+        _ => judge_i(mode, bytes),
+    }
+}
+
+// The fields of an I or S control field.
+fn fields_of(mode: Mode, bytes: &[u8]) -> Fields
+    requires { controls mode ≤ length bytes.now }
+    ensures { result ≡ fields_in mode bytes.now }
+{
+    match mode {
+        Mode::Short => control::short_fields(bytes[0]),
+        Mode::Long => control::long_fields(bytes[0], bytes[1]),
+    }
+}
+
+fn parse_i_frame(mode: Mode, bytes: &[u8]) -> Result<FrameContent, ContentError>
+    requires { 0 < length bytes.now }
+    ensures { result ≡ i_of mode bytes.now }
+{
+    judge_i(mode, bytes)?;
+    let fields = fields_of(mode, bytes);
+    let pid = ProtocolIdentifier::from_byte(bytes[mode.controls()]);
+    Ok(FrameContent::Information(Information {
+        pid,
+        receive_sequence: fields.receive,
+        send_sequence: fields.send,
+        poll: fields.poll,
+    }))
 }
 
 // These all have the same layout; the low four bits of the control octet c tell the kind.
@@ -120,39 +184,22 @@ fn s_kind_of(c: u8, receive_sequence: u8, poll_or_final: bool) -> FrameContent
 }
 
 // What follows the control field is ignored.
-fn parse_long_s_frame(c: u8, bytes: &[u8]) -> ContentAnswer
-    requires { c ≡ get_or bytes.now 0 0 }
-    ensures { result ≡ s_of Mode.Long bytes.now }
-{
-    if bytes.len() < LONG_CONTROL {
-        return ContentAnswer::MissingControlOctet;
-    }
-    let fields = control::long_fields(c, bytes[1]);
-    ContentAnswer::Accepted(s_kind_of(c, fields.receive, fields.poll))
-}
-
-fn parse_s_frame(mode: Mode, c: u8, bytes: &[u8]) -> ContentAnswer
-    requires { c ≡ get_or bytes.now 0 0 }
+fn parse_s_frame(mode: Mode, bytes: &[u8]) -> Result<FrameContent, ContentError>
+    requires { 0 < length bytes.now }
     ensures { result ≡ s_of mode bytes.now }
 {
-    match mode {
-        Mode::Short => {
-            let fields = control::short_fields(c);
-            ContentAnswer::Accepted(s_kind_of(c, fields.receive, fields.poll))
-        }
-        Mode::Long => parse_long_s_frame(c, bytes),
-    }
+    judge_s(mode, bytes)?;
+    let fields = fields_of(mode, bytes);
+    Ok(s_kind_of(bytes[0], fields.receive, fields.poll))
 }
 
-fn parse_ui_frame(bytes: &[u8]) -> ContentAnswer
+fn parse_ui_frame(bytes: &[u8]) -> Result<FrameContent, ContentError>
     ensures { result ≡ ui_of bytes.now }
 {
-    if bytes.len() < CONTROL_AND_PID {
-        return ContentAnswer::MissingPidField;
-    }
+    judge_ui(bytes)?;
     let c = bytes[0];
-    let pid = ProtocolIdentifier::from_byte(bytes[1]);
-    ContentAnswer::Accepted(FrameContent::UnnumberedInformation(UnnumberedInformation {
+    let pid = ProtocolIdentifier::from_byte(bytes[U_CONTROL]);
+    Ok(FrameContent::UnnumberedInformation(UnnumberedInformation {
         pid,
         poll_or_final: (c & 0b0001_0000) != 0,
     }))
@@ -168,176 +215,73 @@ fn response_of(response: bool) -> CommandResponse
     }
 }
 
-fn parse_short_frmr_frame(bytes: &[u8]) -> ContentAnswer
-    ensures { result ≡ frmr_of Mode.Short bytes.now }
+fn parse_frmr_frame(mode: Mode, bytes: &[u8]) -> Result<FrameContent, ContentError>
+    ensures { result ≡ frmr_of mode bytes.now }
 {
-    // Exactly 24 bits follow the control octet.
-    if bytes.len() != 4 {
-        return ContentAnswer::WrongSizeFrmrInfo;
-    }
+    judge_frmr(mode, bytes)?;
     let c = bytes[0];
     let flags = bytes[1];
     // N(R), N(S) and, for the P/F bit, the response bit.
     let copy = control::short_fields(bytes[2]);
-    let rejected_control_field_raw = bytes[3];
-    let command_response = response_of(copy.poll);
-    ContentAnswer::Accepted(FrameContent::FrameReject(FrameReject {
+    Ok(FrameContent::FrameReject(FrameReject {
         final_bit: (c & 0b0001_0000) != 0,
-        rejected_control_field_raw,
+        rejected_control_field_raw: bytes[3],
         z: (flags & 0b0000_1000) != 0,
         y: (flags & 0b0000_0100) != 0,
         x: (flags & 0b0000_0010) != 0,
         w: (flags & 0b0000_0001) != 0,
         receive_sequence: copy.receive,
         send_sequence: copy.send,
-        command_response,
+        command_response: response_of(copy.poll),
     }))
 }
 
-fn parse_frmr_frame(mode: Mode, bytes: &[u8]) -> ContentAnswer
-    ensures { result ≡ frmr_of mode bytes.now }
-{
-    match mode {
-        Mode::Short => parse_short_frmr_frame(bytes),
-        Mode::Long => ContentAnswer::FrameRejectInLongMode,
-    }
-}
-
-// The kind is told by the control octet without its P/F bit. FRMR and UI alone look at what follows it.
-fn parse_u_frame(mode: Mode, c: u8, bytes: &[u8]) -> ContentAnswer
+// The kind is told by the control octet without its P/F bit.
+fn parse_u_frame(mode: Mode, c: u8, bytes: &[u8]) -> Result<FrameContent, ContentError>
     ensures { result ≡ u_of mode c bytes.now }
 {
     let poll_or_final = (c & 0b0001_0000) != 0;
     let kind = c & 0b1110_1111;
     match kind {
-        0b0010_1111 => ContentAnswer::Accepted(FrameContent::SetAsynchronousBalancedMode(
-            SetAsynchronousBalancedMode {
-                poll: poll_or_final,
-            },
-        )),
-        0b0110_1111 => ContentAnswer::Accepted(FrameContent::SetAsynchronousBalancedModeExtended(
+        0b0010_1111 => Ok(FrameContent::SetAsynchronousBalancedMode(SetAsynchronousBalancedMode {
+            poll: poll_or_final,
+        })),
+        0b0110_1111 => Ok(FrameContent::SetAsynchronousBalancedModeExtended(
             SetAsynchronousBalancedModeExtended {
                 poll: poll_or_final,
             },
         )),
-        0b0100_0011 => ContentAnswer::Accepted(FrameContent::Disconnect(Disconnect {
+        0b0100_0011 => Ok(FrameContent::Disconnect(Disconnect {
             poll: poll_or_final,
         })),
-        0b0000_1111 => ContentAnswer::Accepted(FrameContent::DisconnectedMode(DisconnectedMode {
+        0b0000_1111 => Ok(FrameContent::DisconnectedMode(DisconnectedMode {
             final_bit: poll_or_final,
         })),
-        0b0110_0011 => ContentAnswer::Accepted(FrameContent::UnnumberedAcknowledge(
-            UnnumberedAcknowledge {
-                final_bit: poll_or_final,
-            },
-        )),
+        0b0110_0011 => Ok(FrameContent::UnnumberedAcknowledge(UnnumberedAcknowledge {
+            final_bit: poll_or_final,
+        })),
         0b1000_0111 => parse_frmr_frame(mode, bytes),
         0b0000_0011 => parse_ui_frame(bytes),
-        0b1010_1111 => ContentAnswer::Accepted(FrameContent::ExchangeIdentification(
-            ExchangeIdentification { poll_or_final },
-        )),
-        0b1110_0011 => ContentAnswer::Accepted(FrameContent::Test(Test { poll_or_final })),
-        _ => ContentAnswer::UnrecognisedUFieldType,
+        0b1010_1111 => Ok(FrameContent::ExchangeIdentification(ExchangeIdentification {
+            poll_or_final,
+        })),
+        0b1110_0011 => Ok(FrameContent::Test(Test { poll_or_final })),
+        _ => Err(ContentError::UnrecognisedUFieldType),
     }
 }
 
 // The content of the frame, starting from the control octet.
-pub fn parse_content(mode: Mode, bytes: &[u8]) -> ContentAnswer
+pub fn parse_content(mode: Mode, bytes: &[u8]) -> Result<FrameContent, ContentError>
     ensures { result ≡ content_of mode bytes.now }
 {
-    if bytes.len() == 0 {
-        return ContentAnswer::ContentZeroLength;
+    if bytes.is_empty() {
+        return Err(ContentError::ContentZeroLength);
     }
     let c = bytes[0];
-    let low = c & 0b0000_0001;
-    if low == 0b0000_0000 {
-        return parse_i_frame(mode, bytes);
-    }
     let format = c & 0b0000_0011;
-    if format == 0b0000_0001 {
-        return parse_s_frame(mode, c, bytes);
+    match format {
+        0b0000_0001 => parse_s_frame(mode, bytes),
+        0b0000_0011 => parse_u_frame(mode, c, bytes),
+        _ => parse_i_frame(mode, bytes),
     }
-    parse_u_frame(mode, c, bytes)
-}
-
-// UI needs a PID, and so does I of the short mode.
-fn pid_number(bytes: &[u8]) -> u32
-    ensures { result ≡ cond (ltb (length bytes.now) 2) 5 0 }
-{
-    if bytes.len() < CONTROL_AND_PID { 5 } else { 0 }
-}
-
-// I and S of the long mode need a second control octet.
-fn control_number(bytes: &[u8]) -> u32
-    ensures { result ≡ cond (ltb (length bytes.now) 2) 12 0 }
-{
-    if bytes.len() < LONG_CONTROL { 12 } else { 0 }
-}
-
-fn i_number(mode: Mode, bytes: &[u8]) -> u32
-    ensures { result ≡ number_of (i_of mode bytes.now) }
-{
-    match mode {
-        Mode::Short => pid_number(bytes),
-        Mode::Long => if bytes.len() == LONG_CONTROL {
-            5
-        } else {
-            control_number(bytes)
-        },
-    }
-}
-
-fn s_number(mode: Mode, bytes: &[u8]) -> u32
-    ensures { result ≡ number_of (s_of mode bytes.now) }
-{
-    match mode {
-        Mode::Short => 0,
-        Mode::Long => control_number(bytes),
-    }
-}
-
-fn frmr_number(mode: Mode, bytes: &[u8]) -> u32
-    ensures { result ≡ number_of (frmr_of mode bytes.now) }
-{
-    match mode {
-        Mode::Short => if bytes.len() == 4 { 0 } else { 8 },
-        Mode::Long => 11,
-    }
-}
-
-fn u_number(mode: Mode, c: u8, bytes: &[u8]) -> u32
-    ensures { result ≡ number_of (u_of mode c bytes.now) }
-{
-    let bits = c & 0b1110_1111;
-    match bits {
-        0b0010_1111 => 0,
-        0b0110_1111 => 0,
-        0b0100_0011 => 0,
-        0b0000_1111 => 0,
-        0b0110_0011 => 0,
-        0b1000_0111 => frmr_number(mode, bytes),
-        0b0000_0011 => pid_number(bytes),
-        0b1010_1111 => 0,
-        0b1110_0011 => 0,
-        _ => 7,
-    }
-}
-
-// The number of the content's answer, without taking the content apart.
-pub fn number_of(mode: Mode, bytes: &[u8]) -> u32
-    ensures { result ≡ (report_of (content_of mode bytes.now)).number }
-{
-    if bytes.len() == 0 {
-        return 4;
-    }
-    let c = bytes[0];
-    let low = c & 0b0000_0001;
-    if low == 0b0000_0000 {
-        return i_number(mode, bytes);
-    }
-    let format = c & 0b0000_0011;
-    if format == 0b0000_0001 {
-        return s_number(mode, bytes);
-    }
-    u_number(mode, c, bytes)
 }

@@ -1,8 +1,8 @@
 -- A call that is lent too little, one that refuses, and any other.
-use Rattle.std.specs.Prelude.{ℕ, Bool, cond, List, [], ◌∷◌, eqb, ltb, length}
+use Rattle.std.specs.Prelude.{ℕ, Bool, Result, Ok, Err, cond, List, [], ◌∷◌, eqb, ltb, length}
 use Rattle.octets.specs.Splice.{splice}
-use Rattle.parse.specs.declared.ContentAnswer.{ContentAnswer}
-use Rattle.parse.specs.declared.ContentAnswer.TheVariants.{Accepted, ContentZeroLength, MissingPidField, UnrecognisedUFieldType, WrongSizeFrmrInfo, FrameRejectInLongMode, MissingControlOctet}
+use Rattle.content.specs.declared.FrameContent.{FrameContent}
+use Rattle.parse.specs.declared.ContentError.{ContentError}
 use Rattle.frame.specs.declared.Ax25Frame.{Ax25Frame}
 use Rattle.hops.specs.Hops.{hop_set, hops_used, due_place}
 use Rattle.flat.specs.Laid.{content_flat}
@@ -24,14 +24,9 @@ abbrev pub leaves_by : Bool → ℕ → List ℕ → List ℕ → List ℕ
 leaves_by short n l part = cond short l (cond (eqb n 0) (splice l 0 part) l)
 
 -- content that was read, flat; a refusal has none
-abbrev pub read_flat : ContentAnswer → List ℕ
-read_flat (Accepted k) = content_flat k
-read_flat ContentZeroLength = []
-read_flat MissingPidField = []
-read_flat UnrecognisedUFieldType = []
-read_flat WrongSizeFrmrInfo = []
-read_flat FrameRejectInLongMode = []
-read_flat MissingControlOctet = []
+abbrev pub read_flat : Result FrameContent ContentError → List ℕ
+read_flat (Ok k) = content_flat k
+read_flat (Err e) = []
 
 -- the hops of a frame: hop set, hops used, due place
 abbrev pub hops_of : Ax25Frame → List ℕ

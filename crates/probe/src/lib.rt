@@ -22,10 +22,10 @@ ghost use Rattle.flat.specs.Given.{address_at, content_at, frame_from};
 ghost use Rattle.probe.specs.Places.{places_of};
 ghost use Rattle.probe.specs.Calls.{lacks, answers, leaves, leaves_by, read_flat, hops_of};
 
+use answer::Numbered;
 use control::Mode;
 use decode::Decoded;
 use frame::Ax25Frame;
-use parse::ContentAnswer;
 
 mod places; // places.rt: the places of a decode
 
@@ -239,22 +239,12 @@ pub extern "C" fn probe_content(mode: u32, input: &[u8], flat: &mut [u8]) -> u32
     if flat.len() < CONTENT {
         return NO_ROOM;
     }
-    let answer = parse::parse_content(Mode::of_number(mode), input);
-    put_read(flat, answer);
-    answer.number()
-}
-
-fn put_read(out: &mut [u8], answer: ContentAnswer)
-    ensures { out.new ≡ splice out.old 0 (read_flat answer) }
-{
-    match answer {
-        ContentAnswer::Accepted(content) => flat::laid::put_content(out, content),
-        ContentAnswer::ContentZeroLength => (),
-        ContentAnswer::MissingPidField => (),
-        ContentAnswer::UnrecognisedUFieldType => (),
-        ContentAnswer::WrongSizeFrmrInfo => (),
-        ContentAnswer::FrameRejectInLongMode => (),
-        ContentAnswer::MissingControlOctet => (),
+    match parse::parse_content(Mode::of_number(mode), input) {
+        Ok(content) => {
+            flat::laid::put_content(flat, content);
+            0
+        }
+        Err(error) => error.number(),
     }
 }
 

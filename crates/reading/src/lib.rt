@@ -11,7 +11,6 @@ use content::FrameContent;
 use control::Mode;
 use decode::{DecodeAnswer, Decoded, Outline};
 use frame::Ax25Frame;
-use parse::ContentAnswer;
 
 fn refused(answer: DecodeAnswer) -> Decoded
     ensures { result ≡ refused_with answer }
@@ -77,12 +76,13 @@ fn decode_content(mode: Mode, bytes: &[u8], count: usize, control: usize) -> Dec
     requires { (count ≤ 8) × (14 + 7 * count ≤ length bytes.now) × (control ≤ length bytes.now) }
     ensures { result ≡ with_content mode bytes.now 0 count control (content_of mode (drop control bytes.now)) }
 {
-    let answer = parse::parse_content(mode, &bytes[control..]);
-    let ContentAnswer::Accepted(content) = answer else {
-        return refused(decode::refusal(answer.number()));
-    };
-    let frame = address_field::parse_frame(bytes, count, content);
-    accepted(mode, frame, control, bytes.len())
+    match parse::parse_content(mode, &bytes[control..]) {
+        Ok(content) => {
+            let frame = address_field::parse_frame(bytes, count, content);
+            accepted(mode, frame, control, bytes.len())
+        }
+        Err(error) => refused(decode::refusal(error)),
+    }
 }
 
 // Whether `len` octets hold an address field up to `end` with so many repeaters.

@@ -55,7 +55,7 @@ impl Reason {
 fn is_marked(to: bool, from: bool) -> bool
     ensures { result ≡ marked (command_of to from) }
 {
-    if to { !from } else { from }
+    to != from
 }
 
 // The first that holds.

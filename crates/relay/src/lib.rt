@@ -44,9 +44,7 @@ fn hop_set_at(bytes: &[u8], at: usize, n: usize) -> u8
     ensures { result ≡ set_of (marks (route_at bytes.now at n) n) }
 {
     let mut set: u8 = 0;
-    let mut i = n;
-    while i > 0 {
-        i -= 1;
+    for i in (0..n).rev() {
         let mark = bytes[at + 7 * i + 6] >> 7;
         set = set * 2 + mark;
     }
@@ -58,15 +56,7 @@ fn is_ours(own: Address, bytes: &[u8], at: usize) -> bool
     requires { at + 7 ≤ length bytes.now }
     ensures { result ≡ same_station own (parsed_at bytes.now at).address }
 {
-    let due = group::parse_address([
-        bytes[at],
-        bytes[at + 1],
-        bytes[at + 2],
-        bytes[at + 3],
-        bytes[at + 4],
-        bytes[at + 5],
-        bytes[at + 6],
-    ]);
+    let due = address_field::parse_group(bytes, at);
     hops::same_station(own, due.address)
 }
 
@@ -75,8 +65,7 @@ fn set_mark(bytes: &mut [u8], last: usize)
     requires { last < length bytes.old }
     ensures { bytes.new ≡ set bytes.old last (or_mark (get_or bytes.old last 0)) }
 {
-    let octet = bytes[last];
-    bytes[last] = octet | 0b1000_0000;
+    bytes[last] |= 0b1000_0000;
 }
 
 // A frame that decodes, with so many repeaters.
@@ -121,17 +110,15 @@ pub fn relay(own: Address, bytes: &mut [u8]) -> RelayAnswer
 fn character_at(callsign: &[u8], k: usize) -> u8
     ensures { result ≡ get_or callsign.now k 32 }
 {
-    if k >= callsign.len() {
-        return b' ';
-    }
-    callsign[k]
+    callsign.get(k).copied().unwrap_or(b' ')
 }
 
 // The station with this callsign, padded with spaces, and this SSID.
 fn station_of(callsign: &[u8], ssid: u8) -> Address
     ensures { result ≡ station_of callsign.now ssid }
 {
-    let padded = [
+    // Written out: with `array::from_fn` the proof that each character stands in its place did not close.
+    let callsign = [
         character_at(callsign, 0),
         character_at(callsign, 1),
         character_at(callsign, 2),
@@ -140,7 +127,7 @@ fn station_of(callsign: &[u8], ssid: u8) -> Address
         character_at(callsign, 5),
     ];
     Address {
-        callsign: padded,
+        callsign,
         ssid,
         reserved: address::RESERVED_ONES,
     }

@@ -13,7 +13,6 @@ ghost use Rattle.respelling.specs.Reencode.{due, reencode, reencoded, report_of}
 use content::FrameContent;
 use control::Mode;
 use decode::{DecodeAnswer, Outline};
-use parse::ContentAnswer;
 
 #[derive(Clone, Copy)]
 pub enum ReencodeAnswer {
@@ -46,12 +45,7 @@ fn content_at(mode: Mode, bytes: &[u8], control: usize) -> FrameContent
     requires { (is_accepted (decode mode bytes.now).answer ≡ true) × (control ≡ end_of bytes.now + 1) }
     ensures { result ≡ (decode mode bytes.now).frame.content }
 {
-    let answer = parse::parse_content(mode, &bytes[control..]);
-    // Never met: the content of an accepted input is accepted.
-    let ContentAnswer::Accepted(content) = answer else {
-        return FrameContent::UnknownContent;
-    };
-    content
+    parse::parse_content(mode, &bytes[control..]).unwrap()
 }
 
 // How many of the `rest` octets after the address field are kept.
@@ -82,7 +76,7 @@ pub fn reencoded_length(mode: Mode, bytes: &[u8]) -> usize
 fn written_mark(to: bool, from: bool) -> bool
     ensures { result ≡ destination_mark (command_of to from) }
 {
-    if to { true } else { !from }
+    to || !from
 }
 
 // The groups of the repeaters; the last alone has the end bit.
@@ -90,12 +84,10 @@ fn put_route(out: &mut [u8], bytes: &[u8], count: usize)
     requires { (count ≤ 8) × (14 + 7 * count ≤ length bytes.now) × (14 + 7 * count ≤ length out.old) }
     ensures { out.new ≡ splice out.old 14 (groups_of (route_at bytes.now 14 count) count count) }
 {
-    let mut i = 0;
-    while i < count {
+    for i in 0..count {
         let at = 14 + 7 * i;
         let mark = group::mark_set(bytes[at + 6]);
         placing::respell(out, at, bytes, at, mark, i + 1 == count);
-        i += 1;
     }
 }
 

@@ -1,11 +1,13 @@
--- What a word holds, and how long the words are at most.
-use Prim.Native.Nat.{ℕ, ◌≤◌}
+-- How long the words are at most.
+use Prim.Native.Nat.{ℕ, ◌+◌, ◌/◌, ◌%◌, ◌≤◌, ◌<◌}
 use mathlib.Core.Path.{◌≡◌, refl}
-use mathlib.Core.Bool.{Bool, true, false}
+use mathlib.Core.Bool.{Bool, true, false, cond}
 use mathlib.Core.List.{List, [], ◌∷◌}
 use native.Mathlib.Omega.{arith}
-use lib.ListN.{length, length-drop}
-use Rattle.octets.proofs.Choice.{either}
+use borrow.Author.Tests.{lt-ltb}
+use lib.Dec.{ltb}
+use lib.ListN.{length, drop, length-drop}
+use Rattle.octets.proofs.Choice.{by, either}
 use Rattle.text.specs.Text.{alphanumeric}
 use Rattle.content.specs.declared.FrameContent.{FrameContent}
 use Rattle.content.specs.declared.FrameContent.TheVariants as kind
@@ -13,27 +15,20 @@ use Rattle.frame.specs.declared.Mark.{Mark}
 use Rattle.frame.specs.declared.Mark.TheVariants.{Command, Response, Absent}
 use Rattle.reason.specs.declared.Reason.{Reason}
 use Rattle.reason.specs.declared.Reason.TheVariants as reason
-use Rattle.words.specs.declared.Word.{Word}
-use Rattle.words.specs.Words.{five_digits, leading, decimal, character, mark_text, kind_text, has_pid, pid_text, yes_no, reason_text, word_of, text_in}
-
--- a word holds a text of up to eight characters
-pub word_text : (t : List ℕ) → length t ≤ 8 → text_in (word_of t) ≡ t
-word_text [] h = refl
-word_text (a ∷ []) h = refl
-word_text (a ∷ b ∷ []) h = refl
-word_text (a ∷ b ∷ c ∷ []) h = refl
-word_text (a ∷ b ∷ c ∷ d ∷ []) h = refl
-word_text (a ∷ b ∷ c ∷ d ∷ e ∷ []) h = refl
-word_text (a ∷ b ∷ c ∷ d ∷ e ∷ f ∷ []) h = refl
-word_text (a ∷ b ∷ c ∷ d ∷ e ∷ f ∷ g ∷ []) h = refl
-word_text (a ∷ b ∷ c ∷ d ∷ e ∷ f ∷ g ∷ i ∷ []) h = refl
-word_text (a ∷ b ∷ c ∷ d ∷ e ∷ f ∷ g ∷ i ∷ j ∷ s) h = absurd (omega arith)
-
-pub word_is : (w : Word) (t : List ℕ) → w ≡ word_of t → length t ≤ 8 → (w.length ≤ 8) × (text_in w ≡ t)
-word_is w t e h = rw e (h, word_text t h)
+use Rattle.words.specs.Words.{five_digits, leading, decimal, character, mark_text, kind_text, has_pid, pid_text, yes_no, reason_text}
 
 pub decimal-short : (n : ℕ) → length (decimal n) ≤ 5
 decimal-short n = omega (arith, length-drop (leading n) (five_digits n))
+
+-- of a number that has no more, the last four digits
+pub decimal_four : (n : ℕ) → n < 10000
+    → decimal n ≡ drop (cond (ltb n 10) 3 (cond (ltb n 100) 2 (cond (ltb n 1000) 1 0)))
+    ((48 + n / 1000 % 10) ∷ (48 + n / 100 % 10) ∷ (48 + n / 10 % 10) ∷ (48 + n % 10) ∷ [])
+unfolding leading
+decimal_four n h =
+    by (ltb n 10)
+    (λ a. rw a refl)
+    (λ a. by (ltb n 100) (λ b. rw (a, b) refl) (λ b. by (ltb n 1000) (λ c. rw (a, b, c) refl) (λ c. rw (a, b, c, lt-ltb n 10000 h) refl)))
 
 pub character-short : (c : ℕ) → length (character c) ≤ 3
 unfolding character

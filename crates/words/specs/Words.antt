@@ -1,6 +1,6 @@
 -- The words of the dumper's lines (document 01, Loader calls and dumper): hex, an address character, mark, kind, control and PID in the short
--- mode, yes and no, reasons; of what `follow` prints decimal and a line; and how a word is held.
-use Rattle.std.specs.Prelude.{ℕ, ◌+◌, ◌/◌, ◌%◌, Bool, true, false, cond, List, [], ◌∷◌, ◌++◌, ltb, length, get_or, take, drop}
+-- mode, yes and no, reasons; decimal, and a line.
+use Rattle.std.specs.Prelude.{ℕ, ◌+◌, ◌/◌, ◌%◌, Bool, true, false, cond, List, [], ◌∷◌, ◌++◌, ltb, get_or, drop}
 use Prim.Native.String.{String}
 use Rattle.text.specs.Text.{alphanumeric}
 use Rattle.content.specs.Spell.{front}
@@ -12,7 +12,6 @@ use Rattle.frame.specs.declared.Mark.TheVariants.{Command, Response, Absent}
 use Rattle.reason.specs.declared.Reason.{Reason}
 use Rattle.reason.specs.declared.Reason.TheVariants as reason
 use Rattle.words.specs.Ascii.{ascii}
-use Rattle.words.specs.declared.Word.{Word}
 
 -- a lower-case hex digit: 0 to 9, then a to f
 unfoldable pub hex_digit : ℕ → ℕ
@@ -97,17 +96,6 @@ reason_text reason.Marks = ascii "marks"
 reason_text reason.Tail = ascii "tail"
 reason_text reason.Fixed = ascii "fixed"
 reason_text reason.Refused = ascii "-"
-
--- a word of up to eight characters, zeros after it: what a function can return of a text by value
-abbrev pub word_of : List ℕ → Word
-word_of t = record {
-  letters = get_or t 0 0 ∷ get_or t 1 0 ∷ get_or t 2 0 ∷ get_or t 3 0 ∷ get_or t 4 0 ∷ get_or t 5 0 ∷ get_or t 6 0 ∷ get_or t 7 0 ∷ [];
-  length = length t;
-}
-
--- the text of a word
-abbrev pub text_in : Word → List ℕ
-text_in w = take w.length w.letters
 
 -- a key, its value and a line feed
 abbrev pub line : String → List ℕ → List ℕ

@@ -4,4 +4,4 @@ use Rattle.address_field.proofs.parse_groups.Goals as goal
 
 pub returns : goal.returns
 unfolding frame_at
-returns c = simp (c.command_of-command_or_response.ensures, c.parse_route-route.ensures, c.parse_group-from.ensures, c.parse_group-to.ensures)
+returns c = simp (c.command_of.ensures, c.parse_route.ensures, c.parse_group-from.ensures, c.parse_group-to.ensures)

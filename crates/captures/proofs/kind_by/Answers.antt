@@ -2,28 +2,27 @@
 -- frame's.
 use Prim.Native.Nat.{ℕ, ◌+◌, ◌≤◌}
 use mathlib.Core.Path.{◌≡◌, refl, ap, sym, ◌∙◌}
-use mathlib.Core.Bool.{true, false, false≢true}
+use mathlib.Core.Bool.{true, false}
 use mathlib.Core.List.{List}
 use native.Mathlib.Omega.{arith}
 use lib.ListN.{length}
 use Rattle.octets.proofs.Splice.{part_from}
 use Rattle.control.specs.declared.Mode.{Mode}
-use Rattle.parse.specs.declared.ContentAnswer.{ContentAnswer}
-use Rattle.parse.specs.declared.ContentAnswer.TheVariants.{Accepted}
+use Rattle.std.specs.Prelude.{Ok}
 use Rattle.frame.specs.declared.Ax25Frame.{Ax25Frame}
 use Rattle.decode.specs.Answer.{is_accepted}
 use Rattle.decode.specs.declared.DecodeAnswer.TheVariants as read
 use Rattle.decode.specs.Outline.{outline_of}
-use Rattle.decode.specs.Read.{end_of, refusal_of, decode}
+use Rattle.decode.specs.Read.{end_of, decode}
 use Rattle.decode.specs.declared.Outline.{Outline}
 use Rattle.decode.proofs.Accepts.{accepts}
-use Rattle.decode.proofs.Read.{told-refused, told-content}
+use Rattle.decode.proofs.Read.{told-refused}
 use Rattle.grammar.proofs.Refused.{refused_parts}
 use Rattle.grammar.proofs.Parts.{parts}
 use Rattle.captures.specs.Capture.{kind_of}
 use borrow.Author.Rules.{rules}
 use Rattle.captures.proofs.kind_by.Goals as goal
-use Rattle.captures.proofs.kind_by.Goals.{After-parse_content-read}
+use Rattle.captures.proofs.kind_by.Goals.{After-parse_content}
 
 -- of an outline that accepts: the part is accepted, and its address field ends where the outline says, inside it
 module _ (m : Mode) (s : List ℕ) (o : Outline) (e : o ≡ outline_of m s) (is : o.answer ≡ read.Accepted) where
@@ -37,13 +36,13 @@ module _ (m : Mode) (s : List ℕ) (o : Outline) (e : o ≡ outline_of m s) (is 
   ends = rw end-told (omega (arith, (accepts m s accepted).end_in))
 
 -- the content that was read is the frame's
-content-read : (c : After-parse_content-read) →
+content-read : (c : After-parse_content) →
     let a = c.args in
-    c.parse_content-read.result ≡ Accepted (decode a.mode a.part.now).frame.content
+    c.parse_content.result ≡ Ok (decode a.mode a.part.now).frame.content
 content-read c =
     let end = end-told _ _ _ c.requires c.in-Accepted.is in
     let known = accepted _ _ _ c.requires c.in-Accepted.is in
-    c.parse_content-read.ensures ∙ simp (part_from, end) (parts _ _ (λ k. search rules) known).content
+    c.parse_content.ensures ∙ simp (part_from, end) (parts _ _ (λ k. search rules) known).content
 
 pub returns-in_default : goal.returns-in_default
 returns-in_default c =
@@ -60,11 +59,8 @@ slice_bounds-parse_content-count c = ends _ _ _ c.requires c.in-Accepted.is
 pub slice_bounds-parse_content-start : goal.slice_bounds-parse_content-start
 slice_bounds-parse_content-start c = ends _ _ _ c.requires c.in-Accepted.is
 
-pub returns-in_default-read : goal.returns-in_default-read
-returns-in_default-read c = absurd (false≢true (sym (told-content c.parse_content-read.result c.in_default-read.not-Accepted) ∙ ap (λ (a : ContentAnswer). is_accepted (refusal_of a)) (content-read (goal.at.returns-in_default-read c).After-parse_content-read)))
+pub unwrap-content-requires : goal.unwrap-content-requires
+unwrap-content-requires c = search (rules, content-read (goal.at.unwrap-content-requires c).After-parse_content)
 
 pub returns : goal.returns
-returns c =
-    let d = c.args in
-    let same : c.in-Accepted-read.content ≡ (decode d.mode d.part.now).frame.content = cc (sym c.in-Accepted-read.is ∙ content-read (goal.at.returns c).After-parse_content-read) in
-    c.kind_of.ensures ∙ ap kind_of same
+returns c = search (rules, content-read (goal.at.returns c).After-parse_content)

@@ -1,5 +1,4 @@
 -- `flags` joins four bits, each at its own place, so that they add up.
-use borrow.Author.Rules.{rules}
 use Rattle.control.proofs.Masks.{flags-or}
 use Rattle.control.proofs.flags.Goals as goal
 

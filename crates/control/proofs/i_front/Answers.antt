@@ -1,6 +1,5 @@
 -- By the mode: one octet with both numbers, or one for each.
 use mathlib.Core.Path.{refl}
-use borrow.Author.Rules.{rules}
 use Rattle.control.proofs.i_front.Goals as goal
 
 pub returns-in-Short : goal.returns-in-Short

@@ -1,6 +1,5 @@
 -- N(S) modulo 8 at its place fits the low four bits.
 use mathlib.Core.Path.{refl}
-use borrow.Author.Rules.{rules}
 use Rattle.control.proofs.Masks.{sent-low}
 use Rattle.control.proofs.i_octet.Goals as goal
 

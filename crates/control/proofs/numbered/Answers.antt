@@ -1,5 +1,4 @@
 -- `numbered` joins three parts that share no bit, so that they add up.
-use borrow.Author.Rules.{rules}
 use Rattle.control.proofs.Masks.{numbered-or}
 use Rattle.control.proofs.numbered.Goals as goal
 

@@ -1,6 +1,5 @@
 -- `received` joins two parts that share no bit, so that they add up.
 use Rattle.control.proofs.Masks.{received-or}
-use borrow.Author.Rules.{rules}
 use Rattle.control.proofs.received.Goals as goal
 
 pub returns : goal.returns

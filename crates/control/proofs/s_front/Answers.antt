@@ -1,7 +1,6 @@
 -- By the mode: one octet with all, or the type and then N(R).
 use mathlib.Core.Path.{refl}
 use lib.Bits.{and_mask}
-use borrow.Author.Rules.{rules}
 use Rattle.control.proofs.s_front.Goals as goal
 
 pub returns-in-Short : goal.returns-in-Short

@@ -1,6 +1,5 @@
 -- `sent` keeps the low three or seven bits, which fit one place higher.
 use Rattle.control.proofs.Masks.{sent-short, sent-long}
-use borrow.Author.Rules.{rules}
 use Rattle.control.proofs.sent.Goals as goal
 
 pub returns-in-Short : goal.returns-in-Short

@@ -1,5 +1,4 @@
 -- `unnumbered` joins two parts that share no bit, so that they add up.
-use borrow.Author.Rules.{rules}
 use Rattle.control.proofs.Masks.{unnumbered-or}
 use Rattle.control.proofs.unnumbered.Goals as goal
 

@@ -1,33 +1,26 @@
--- The number, then the details.
-use Prim.Native.Nat.{ℕ, ◌+◌, ◌≤◌}
-use mathlib.Core.List.{List, ◌++◌}
-use lib.ListN.{length}
-use Rattle.decode.specs.Answer.{number_of}
+use Rattle.std.proofs.Common.{◌≡◌, ◌++◌, refl, ap}
+use Rattle.std.proofs.lemmas.List.{append_assoc}
 use Rattle.decode.specs.declared.DecodeAnswer.{DecodeAnswer}
-use Rattle.dump.specs.Text.{decimal}
-use Rattle.dump.specs.Dump.{line, detail_text, refusal_text}
-use Rattle.dump.proofs.Laws.{from_zero, fits-first, fits_next, put_then}
+use Rattle.decode.specs.Answer.{number_of}
+use Rattle.words.specs.Ascii.{ascii}
+use Rattle.words.specs.Words.{decimal}
+use Rattle.words.proofs.Room.{cut_then}
+use Rattle.dump.specs.Dump.{detail_text, refusal_text}
+use Rattle.dump.proofs.Laws.{no_details}
 use Rattle.dump.proofs.put_refusal.Goals as goal
 
-abbrev head : DecodeAnswer → List ℕ
-head a = line "answer=" (decimal (number_of a))
-
-room : (a : DecodeAnswer) (l : List ℕ) → length (refusal_text a) ≤ length l → 0 + length (head a ++ detail_text a) ≤ length l
+refusal_parts : (a : DecodeAnswer) → refusal_text a ≡ ascii "answer=" ++ (decimal (number_of a) ++ (ascii "\n" ++ detail_text a))
 unfolding refusal_text
-room a l h = from_zero (refusal_text a) l h
+refusal_parts a = rw (append_assoc (decimal (number_of a)) (ascii "\n")) refl
 
-pub put_number_line-at-requires : goal.put_number_line-at-requires
-put_number_line-at-requires c =
-    let g = c.args in
-    rw c.number-number.ensures (fits-first g.out.now 0 (head g.answer) (detail_text g.answer) (room g.answer _ c.requires))
+pub returns-in-AddressFieldTooShort : goal.returns-in-AddressFieldTooShort
+returns-in-AddressFieldTooShort c =
+    rw (c.put_number-in-AddressFieldTooShort-2.ensures, c.put_number-in-AddressFieldTooShort.ensures, c.put_number.ensures, c.number.ensures, refusal_parts, ap detail_text c.in-AddressFieldTooShort.is) (simp (cut_then, append_assoc))
 
-pub put_details-requires : goal.put_details-requires
-put_details-requires c =
-    let a = c.args.answer in
-    fits_next _ 0 (head a) _ (room a _ c.requires) (rw c.number-number.ensures at c.put_number_line-at.ensures)
+pub returns-in-FrameTooShort : goal.returns-in-FrameTooShort
+returns-in-FrameTooShort c =
+    rw (c.put_number-in-FrameTooShort.ensures, c.put_number.ensures, c.number.ensures, refusal_parts, ap detail_text c.in-FrameTooShort.is) (simp (cut_then, append_assoc))
 
-pub returns : goal.returns
-unfolding refusal_text
-returns c =
-    let a = c.args.answer in
-    put_then _ 0 (head a) _ (room a _ c.requires) (rw c.number-number.ensures at c.put_number_line-at.ensures) c.put_details.ensures
+pub returns-in_default : goal.returns-in_default
+returns-in_default c =
+    rw (c.put_number.ensures, c.number.ensures, refusal_parts, no_details c.args.answer c.in_default.not-AddressFieldTooShort c.in_default.not-FrameTooShort) refl

@@ -1,6 +1,6 @@
 use mathlib.Core.Path.{refl}
 use Rattle.octets.proofs.Splice.{splice-length}
-use Rattle.words.proofs.Put.{behind-most}
+use Rattle.words.proofs.Room.{behind-most}
 use Rattle.following.proofs.begin.Goals as goal
 
 pub returns : goal.returns

@@ -3,7 +3,7 @@ use mathlib.Core.Bool.{true, false}
 use native.Mathlib.Omega.{arith}
 use Rattle.octets.proofs.Splice.{splice_none, splice-length}
 use Rattle.link.specs.Step.{step_of}
-use Rattle.words.proofs.Put.{behind-most}
+use Rattle.words.proofs.Room.{behind-most}
 use Rattle.following.specs.Following.{stops, follow_text, followed}
 use Rattle.following.proofs.Laws.{offered-stops, offered_goes}
 use Rattle.following.proofs.follow.Goals as goal

@@ -1,6 +1,6 @@
 use mathlib.Core.Path.{sym}
 use Rattle.octets.proofs.Splice.{splice_none}
-use Rattle.words.proofs.Put.{behind_none}
+use Rattle.words.proofs.Room.{behind_none}
 use Rattle.following.proofs.Laws.{gap_none, gap_some}
 use Rattle.following.proofs.put_gap.Goals as goal
 

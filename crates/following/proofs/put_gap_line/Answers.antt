@@ -1,14 +1,16 @@
+use Rattle.std.proofs.Common.{◌≡◌, ◌∙◌}
+use Rattle.words.proofs.Room.{cut_none, place_behind}
+use Rattle.following.specs.Following.{gap_line}
+use Rattle.following.proofs.Laws.{gap_short}
 use Rattle.following.proofs.put_gap_line.Goals as goal
+use Rattle.following.proofs.put_gap_line.Goals.{After-write_to}
 
-pub returns-in-A : goal.returns-in-A
-returns-in-A c = record { out_after = rw c.in-A.is c.put_number.ensures.out_after; value = rw c.in-A.is c.put_number.ensures.value }
+text : (c : After-write_to) → c.put_number.new.self ≡ gap_line c.args.place c.args.sender
+text c = rw (c.put_number.ensures, c.new-page.ensures, c.from.ensures) (cut_none _ _ (gap_short c.args.place c.args.sender))
 
-pub returns-in-B : goal.returns-in-B
-returns-in-B c =
-    let put = c.put_number-in-B.ensures in
-    record { out_after = rw c.in-B.is put.out_after; value = rw c.in-B.is put.value }
+pub returns-clause-out_after : goal.returns-clause-out_after
+returns-clause-out_after c = rw (← text (goal.at.returns-clause-out_after c).After-write_to) c.write_to.ensures.out_after
 
-pub returns-in-Neither : goal.returns-in-Neither
-returns-in-Neither c =
-    let put = c.put_number-in-Neither.ensures in
-    record { out_after = rw c.in-Neither.is put.out_after; value = rw c.in-Neither.is put.value }
+pub returns-clause-value : goal.returns-clause-value
+returns-clause-value c =
+    c.unwrap_or.ensures ∙ rw (c.write_to.ensures.value, text (goal.at.returns-clause-value c).After-write_to) (place_behind _ _)

@@ -1,49 +1,29 @@
--- The text is made in a buffer that always holds it, and then written as a whole.
-use Prim.Native.Nat.{◌+◌, ◌≤◌, ◌<◌}
-use mathlib.Core.Path.{refl, sym, ◌∙◌}
-use native.Mathlib.Nat.{zero-add}
-use native.Mathlib.Omega.{arith}
-use borrow.Author.Rules.{rules}
-use lib.ListN.{length}
-use lib.Seq.{length-take-le}
-use Rattle.octets.proofs.Splice.{splice_out, splice-length}
-use Rattle.words.proofs.Put.{behind_in, behind_out}
-use Rattle.following.specs.Following.{totals_text}
-use Rattle.following.proofs.Laws.{first_short, last-short, made}
+-- The page holds all of the text, and is written as a whole.
+use Rattle.std.proofs.Common.{◌≡◌, ◌∙◌}
+use Rattle.std.proofs.lemmas.List.{append_assoc}
+use Rattle.octets.proofs.Splice.{splice-length}
+use Rattle.words.proofs.Room.{cut_then, cut_none, place_behind, behind-most}
+use Rattle.words.specs.Room.{cut}
+use Rattle.following.specs.Following.{first_totals, last_totals, totals_text}
+use Rattle.following.proofs.Laws.{totals-short}
 use Rattle.following.proofs.totals.Goals as goal
+use Rattle.following.proofs.totals.Goals.{After-write_to}
 
-pub put_first-at-requires : goal.put_first-at-requires
-put_first-at-requires c = omega (arith, first_short c.args.link)
+all : (c : After-write_to) → c.put_number-6.new.self ≡ cut 96 (totals_text c.args.link c.args.dropped)
+unfolding first_totals last_totals
+all c =
+    rw (c.put_number-6.ensures, c.put_number-5.ensures, c.put_number-4.ensures, c.put_number-3.ensures, c.put_number-2.ensures, c.put_number.ensures, c.new-page.ensures) (simp (cut_then, append_assoc))
 
-pub put_last-length-requires : goal.put_last-length-requires
-put_last-length-requires c =
-    let put = c.put_first-at.ensures in
-    let g = c.args in
-    rw (put.0, splice-length, put.1) (omega (arith, first_short g.link, last-short g.link g.dropped))
+text : (c : After-write_to) → c.put_number-6.new.self ≡ totals_text c.args.link c.args.dropped
+text c = all c ∙ cut_none _ _ (totals-short c.args.link c.args.dropped)
 
-pub returns-then-out-length : goal.returns-then-out-length
-returns-then-out-length c =
-    let g = c.args in
-    let n = (made g.link g.dropped _ c.put_first-at.ensures c.put_last-length.ensures (search rules)).long in
-    let t = totals_text g.link g.dropped in
-    let h : length g.out.now < 0 + length t = omega (arith, n, c.if-out-length.true) in
-    record { value = sym (behind_out _ _ t h); out_after = sym (splice_out _ _ t h); upper_bound = omega arith }
+pub returns-clause-out_after : goal.returns-clause-out_after
+returns-clause-out_after c = rw (← text (goal.at.returns-clause-out_after c).After-write_to) c.write_to.ensures.out_after
 
-pub slice_bounds-text-end : goal.slice_bounds-text-end
-slice_bounds-text-end c = (made c.args.link c.args.dropped _ c.put_first-at.ensures c.put_last-length.ensures (search rules)).within
+pub returns-clause-value : goal.returns-clause-value
+returns-clause-value c =
+    c.unwrap_or.ensures ∙ rw (c.write_to.ensures.value, text (goal.at.returns-clause-value c).After-write_to) (place_behind _ _)
 
-pub slice_bounds-put-end : goal.slice_bounds-put-end
-slice_bounds-put-end c = sym (length-take-le _ _ (made c.args.link c.args.dropped _ c.put_first-at.ensures c.put_last-length.ensures (search rules)).within)
-
-pub returns : goal.returns
-returns c =
-    let g = c.args in
-    let w = made g.link g.dropped _ c.put_first-at.ensures c.put_last-length.ensures (search rules) in
-    let put = c.put.ensures in
-    let t = totals_text g.link g.dropped in
-    let h : 0 + length t ≤ length g.out.now = omega (arith, w.long, c.if-out-length.false) in
-    record {
-      value = w.long ∙ sym (behind_in _ 0 t h ∙ zero-add (length t));
-      out_after = put ∙ rw w.text refl;
-      upper_bound = rw (put, splice-length, w.long) (omega (arith, h));
-    }
+pub returns-clause-upper_bound : goal.returns-clause-upper_bound
+returns-clause-upper_bound c =
+    rw (c.write_to.ensures.out_after, splice-length, c.unwrap_or.ensures, c.write_to.ensures.value, place_behind) (behind-most _ _)

@@ -1,39 +1,42 @@
-use Prim.Native.Nat.{ℕ, ◌+◌, ◌-◌, ◌*◌, ◌≤◌, ◌<◌}
-use mathlib.Core.Path.{◌≡◌, refl, ◌∙◌}
-use native.Mathlib.Omega.{arith}
-use mathlib.Core.Bool.{◌&&◌}
-use lib.Dec.{ltb}
-use lib.ListN.{drop}
-use Rattle.octets.specs.Octet.{flag}
-use Rattle.frame.specs.Spell.{repeater_at}
-use Rattle.frame.specs.declared.Ax25Frame.{Ax25Frame}
+-- A turn more is one place more, as `set_turn` has it.
+use Rattle.std.proofs.Common.{◌≡◌, ◌∙◌, refl, ◌+◌, ◌-◌, ◌*◌, ◌<◌, arith}
+use Rattle.std.specs.Prelude.{drop}
 use Rattle.hops.specs.Hops.{marked_at, marks, set_of, hop_set}
-use Rattle.hops.proofs.Laws.{set_turn}
-use borrow.Author.Rules.{rules}
+use borrow.Author.Tests.{lt-ltb, le-ltb}
+use Rattle.hops.proofs.Laws.{set_turn, flagged}
 use Rattle.hops.proofs.hop_set.Goals as goal
-
--- one place more, with the mark as `both` gave it
-step : (f : Ax25Frame) (i set mark : ℕ) → 0 < i → (i ≤ 8) × (set ≡ set_of (drop i (marks f.route f.route_count)))
-    → mark ≡ flag 0 (ltb (i - 1) f.route_count && (repeater_at f.route (i - 1)).has_repeated)
-    → (set * 2 + mark ≡ set_of (drop (i - 1) (marks f.route f.route_count))) × (set * 2 + mark < 256)
-unfolding marked_at
-step f i set mark some inv e = rw e (set_turn f.route f.route_count i set some inv.0 inv.1)
+use Rattle.hops.proofs.hop_set.Goals.{After-from, then-i-frame, else-i-frame}
 
 pub loop-i-init : goal.loop-i-init
 unfolding set_of marks
-loop-i-init c = (search rules, refl)
+loop-i-init c = refl
+
+marked : (c : After-from) → c.if-i-frame.mark ≡ marked_at c.args.frame.route c.args.frame.route_count (c.loop-i.i - 1)
+unfolding marked_at
+marked c =
+    elim c.if-i-frame.branch [
+      | then-i-frame w ↦ w.mark-is ∙ rw (lt-ltb _ _ w.if-i-frame.true) refl
+      | else-i-frame w ↦ w.mark-is ∙ rw (le-ltb _ _ w.if-i-frame.false) refl
+    ]
+
+step : (c : After-from) →
+    let f = c.args.frame in
+    let i = c.loop-i.i - 1 in
+    (c.loop-i.set * 2 + c.from.result ≡ set_of (drop i (marks f.route f.route_count))) × (c.loop-i.set * 2 + c.from.result < 256)
+step c =
+    rw (c.from.ensures, marked c, flagged) (set_turn c.args.frame.route c.args.frame.route_count c.loop-i.i c.loop-i.set c.loop-i-test.true c.loop-i.auto.i c.loop-i.invariant)
 
 pub overflow_mul-set : goal.overflow_mul-set
-overflow_mul-set c = omega (arith, (step c.args.frame _ _ _ c.loop-i-test.true c.loop-i.invariant c.both-mark.ensures).1)
+overflow_mul-set c = omega (arith, (set_turn c.args.frame.route c.args.frame.route_count c.loop-i.i c.loop-i.set c.loop-i-test.true c.loop-i.auto.i c.loop-i.invariant).1)
 
 pub overflow_add-set : goal.overflow_add-set
-overflow_add-set c = omega (arith, (step c.args.frame _ _ _ c.loop-i-test.true c.loop-i.invariant c.both-mark.ensures).1)
+overflow_add-set c = omega (arith, (step c).1)
 
 pub loop-i-preserved : goal.loop-i-preserved
-loop-i-preserved c = (search rules, (step c.args.frame _ _ _ c.loop-i-test.true c.loop-i.invariant c.both-mark.ensures).0)
+loop-i-preserved c = (step c).0
 
 pub returns : goal.returns
 unfolding hop_set
 returns c =
     let e : c.loop-i.i ≡ 0 = omega arith in
-    c.loop-i.invariant.1 ∙ rw e
+    c.loop-i.invariant ∙ rw e refl

@@ -1,45 +1,31 @@
--- `parse_content` tells I, S and U apart by the low bits, and each part gives what its definition says.
-use Prim.Native.Nat.{ℕ}
+-- S, U and I by the low two bits.
+use Prim.Native.Nat.{◌<◌}
 use mathlib.Core.Path.{sym, ◌∙◌}
-use borrow.Author.Tests.{eq-eqb, ne_eqb}
-use lib.ListN.{get_or}
-use Rattle.octets.specs.Octet.{field}
+use borrow.Author.Rules.{rules}
+use lib.ListN.{length, get_or}
 use Rattle.octets.proofs.Bits.{low_mask}
 use Rattle.parse.specs.Content.{content_of}
+use Rattle.parse.proofs.Judged.{of_s, of_u, of_i}
 use Rattle.parse.proofs.parse_content.Goals as goal
 
-pub returns-then-bytes-eq0 : goal.returns-then-bytes-eq0
+pub returns-then-is_empty : goal.returns-then-is_empty
 unfolding content_of
-returns-then-bytes-eq0 c = simp (eq-eqb _ _ c.if-bytes-eq0.true)
+returns-then-is_empty c = search rules
 
-pub returns-then-low-eq0 : goal.returns-then-low-eq0
-unfolding content_of
-returns-then-low-eq0 c =
-    let n : ℕ = get_or c.args.bytes.now 0 0 in
-    simp (
-      ne_eqb _ _ c.if-bytes-eq0.false,
-      sym (low_mask n 1) ∙ c.if-low-eq0.true,
-      c.parse_i_frame.ensures,
-    )
+pub returns-in-1 : goal.returns-in-1
+returns-in-1 c =
+    let s = c.args.bytes.now in
+    let some : 0 < length s = search rules in
+    c.parse_s_frame.ensures ∙ sym (of_s c.args.mode s some (sym (low_mask (get_or s 0 0) 2) ∙ c.in-1.is))
 
-pub returns-then-format-eq1 : goal.returns-then-format-eq1
-unfolding content_of
-returns-then-format-eq1 c =
-    let n : ℕ = get_or c.args.bytes.now 0 0 in
-    simp (
-      ne_eqb _ _ c.if-bytes-eq0.false,
-      ne_eqb (field 0 1 n) 0 (λ e. c.if-low-eq0.false (low_mask n 1 ∙ e)),
-      sym (low_mask n 2) ∙ c.if-format-eq1.true,
-      c.parse_s_frame.ensures,
-    )
+pub returns-in-3 : goal.returns-in-3
+returns-in-3 c =
+    let s = c.args.bytes.now in
+    let some : 0 < length s = search rules in
+    c.parse_u_frame.ensures ∙ sym (of_u c.args.mode s some (sym (low_mask (get_or s 0 0) 2) ∙ c.in-3.is))
 
-pub returns : goal.returns
-unfolding content_of
-returns c =
-    let n : ℕ = get_or c.args.bytes.now 0 0 in
-    simp (
-      ne_eqb _ _ c.if-bytes-eq0.false,
-      ne_eqb (field 0 1 n) 0 (λ e. c.if-low-eq0.false (low_mask n 1 ∙ e)),
-      ne_eqb (field 0 2 n) 1 (λ e. c.if-format-eq1.false (low_mask n 2 ∙ e)),
-      c.parse_u_frame.ensures,
-    )
+pub returns-in_default : goal.returns-in_default
+returns-in_default c =
+    let s = c.args.bytes.now in
+    let some : 0 < length s = search rules in
+    c.parse_i_frame.ensures ∙ sym (of_i c.args.mode s some (λ e. search (rules, low_mask (get_or s 0 0) 2 ∙ e)) (λ e. search (rules, low_mask (get_or s 0 0) 2 ∙ e)))

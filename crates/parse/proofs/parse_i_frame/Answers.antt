@@ -1,9 +1,13 @@
--- By the mode.
-use mathlib.Core.Path.{refl}
+-- The fields and the PID of content that is not refused.
+use borrow.Author.Rules.{rules}
+use Rattle.parse.proofs.Judged.{i_ok}
 use Rattle.parse.proofs.parse_i_frame.Goals as goal
 
-pub returns-in-Short : goal.returns-in-Short
-returns-in-Short c = rw (c.parse_short_i_frame.ensures, c.in-Short.is) refl
+pub fields_of-fields-requires : goal.fields_of-fields-requires
+fields_of-fields-requires c = search (rules, i_ok)
 
-pub returns-in-Long : goal.returns-in-Long
-returns-in-Long c = rw (c.parse_long_i_frame.ensures, c.in-Long.is) refl
+pub bounds-bytes-controls : goal.bounds-bytes-controls
+bounds-bytes-controls c = search (rules, i_ok)
+
+pub returns : goal.returns
+returns c = search (rules, i_ok)

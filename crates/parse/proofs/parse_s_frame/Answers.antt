@@ -1,11 +1,11 @@
--- By the mode; the short control field is the first octet.
-use mathlib.Core.Path.{refl}
-use Rattle.parse.specs.Content.{s_of}
+-- The fields of content that is not refused, and the kind of the first octet.
+use mathlib.Core.Path.{sym}
+use borrow.Author.Rules.{rules}
+use Rattle.parse.proofs.Judged.{s_ok}
 use Rattle.parse.proofs.parse_s_frame.Goals as goal
 
-pub returns-in-Short : goal.returns-in-Short
-unfolding s_of
-returns-in-Short c = rw (c.s_kind_of.ensures, c.short_fields-fields.ensures, c.in-Short.is, c.requires) refl
+pub fields_of-fields-requires : goal.fields_of-fields-requires
+fields_of-fields-requires c = (s_ok c.args.mode c.args.bytes.now c.requires (search rules)).0
 
-pub returns-in-Long : goal.returns-in-Long
-returns-in-Long c = rw (c.parse_long_s_frame.ensures, c.in-Long.is) refl
+pub returns : goal.returns
+returns c = rw (c.s_kind_of.ensures, c.fields_of-fields.ensures) (sym (s_ok c.args.mode c.args.bytes.now c.requires (search rules)).1)

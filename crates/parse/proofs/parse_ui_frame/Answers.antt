@@ -1,13 +1,15 @@
--- `parse_ui_frame` gives the PID of the second octet and the P/F bit of the first, once there are two.
-use borrow.Author.Tests.{lt-ltb, le-ltb}
-use Rattle.parse.specs.Content.{ui_of}
+-- The PID of the second octet and the P/F bit of the first, of content that is not refused.
+use mathlib.Core.Path.{refl}
+use borrow.Author.Rules.{rules}
 use Rattle.control.proofs.Masks.{poll_mask}
+use Rattle.parse.proofs.Judged.{ui_ok}
 use Rattle.parse.proofs.parse_ui_frame.Goals as goal
 
-pub returns-then-bytes-lt-CONTROL_AND_PID : goal.returns-then-bytes-lt-CONTROL_AND_PID
-unfolding ui_of
-returns-then-bytes-lt-CONTROL_AND_PID c = simp (lt-ltb _ _ c.if-bytes-lt-CONTROL_AND_PID.true)
+pub bounds-bytes-0 : goal.bounds-bytes-0
+bounds-bytes-0 c = search (rules, ui_ok)
+
+pub bounds-bytes-1 : goal.bounds-bytes-1
+bounds-bytes-1 c = search (rules, ui_ok)
 
 pub returns : goal.returns
-unfolding ui_of
-returns c = simp (le-ltb _ _ c.if-bytes-lt-CONTROL_AND_PID.false, c.from_byte-pid.ensures, poll_mask)
+returns c = rw ((ui_ok c.args.bytes.now (search rules)).1, c.from_byte-pid.ensures, poll_mask) refl

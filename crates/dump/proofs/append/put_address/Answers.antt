@@ -1,8 +1,9 @@
-use mathlib.Core.Path.{sym}
-use Rattle.printing.specs.Print.{trimmed}
+use Rattle.std.proofs.Common.{sym}
+use Rattle.std.proofs.lemmas.List.{append_assoc, append-nil}
+use borrow.Author.Tests.{eq-eqb, ne_eqb}
 use Rattle.printing.proofs.Laws.{used_le, trimmed-length}
-use Rattle.dump.specs.Text.{characters, ssid_text}
-use Rattle.dump.proofs.Laws.{fits-first, fits_next, put_then, address_text_lem}
+use Rattle.words.proofs.Room.{cut_then}
+use Rattle.dump.specs.Text.{address_text, ssid_text}
 use Rattle.dump.proofs.append.put_address.Goals as goal
 
 pub slice_bounds-callsign-end : goal.slice_bounds-callsign-end
@@ -11,20 +12,12 @@ slice_bounds-callsign-end c = rw c.callsign_length-n.ensures (used_le _)
 pub slice_bounds-put_characters-end : goal.slice_bounds-put_characters-end
 slice_bounds-put_characters-end c = rw c.callsign_length-n.ensures (sym (trimmed-length _))
 
-pub put_characters-next-requires : goal.put_characters-next-requires
-put_characters-next-requires c =
-    let p = c.requires in
-    let g = c.args in
-    rw c.callsign_length-n.ensures
-    (fits-first g.out.now g.at (characters (trimmed g.address.callsign)) (ssid_text g.address.ssid) (rw (address_text_lem g.address) at (p)))
+pub returns-then-address-ne0 : goal.returns-then-address-ne0
+unfolding address_text ssid_text
+returns-then-address-ne0 c =
+    rw (c.put_number.ensures, c.put_characters.ensures, c.callsign_length-n.ensures, ne_eqb _ _ c.if-address-ne0.true) (simp (cut_then, append_assoc, append-nil))
 
-pub put_ssid-requires : goal.put_ssid-requires
-put_ssid-requires c =
-    fits_next c.args.out.now c.args.at (characters (trimmed c.args.address.callsign)) (ssid_text c.args.address.ssid)
-    (rw (address_text_lem c.args.address) at c.requires) (rw c.callsign_length-n.ensures at c.put_characters-next.ensures)
-
-pub returns : goal.returns
-returns c =
-    rw (address_text_lem c.args.address)
-    (put_then c.args.out.now c.args.at (characters (trimmed c.args.address.callsign)) (ssid_text c.args.address.ssid)
-    (rw (address_text_lem c.args.address) at c.requires) (rw c.callsign_length-n.ensures at c.put_characters-next.ensures) c.put_ssid.ensures)
+pub returns-else-address-ne0 : goal.returns-else-address-ne0
+unfolding address_text ssid_text
+returns-else-address-ne0 c =
+    rw (c.put_characters.ensures, c.callsign_length-n.ensures, eq-eqb _ _ c.if-address-ne0.false) (simp append-nil)

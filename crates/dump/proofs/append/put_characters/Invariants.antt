@@ -1,10 +1,7 @@
-use Rattle.dump.specs.Text.{characters, Put}
-use Prim.Native.Nat.{◌-◌, ◌≤◌}
-use lib.ListN.{length, take}
+use Rattle.std.proofs.Common.{◌≡◌, ◌++◌, take}
+use Rattle.words.specs.Room.{cut}
+use Rattle.dump.specs.Text.{characters}
 use Rattle.dump.proofs.append.put_characters.Given as goal
 
-abbrev pub invariant-loop-i : goal.invariant-loop-i
-invariant-loop-i l = (l.i ≤ length l.text) × Put l.initial.out l.out l.at l.next (characters (take l.i l.text))
-
-abbrev pub decreases-loop-i : goal.decreases-loop-i
-decreases-loop-i l = length l.text - l.i
+abbrev pub invariant-loop-c : goal.invariant-loop-c
+invariant-loop-c l = l.page ≡ cut 512 (l.fn.page ++ (l.key ++ characters (take l.c-index l.text)))

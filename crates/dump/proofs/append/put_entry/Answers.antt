@@ -1,29 +1,12 @@
-use mathlib.Core.Bool.{cond}
-use mathlib.Core.List.{[]}
-use Rattle.words.specs.Ascii.{ascii}
-use Rattle.dump.specs.Text.{address_text}
-use Rattle.dump.proofs.Laws.{fits-first, fits_next, put_then, entry_text_lem}
+use Rattle.std.proofs.lemmas.List.{append_assoc, append-nil}
+use Rattle.words.proofs.Room.{cut_then}
+use Rattle.dump.specs.Text.{entry_text}
 use Rattle.dump.proofs.append.put_entry.Goals as goal
 
-pub put_address-next-requires : goal.put_address-next-requires
-put_address-next-requires c =
-    let p = c.requires in
-    let g = c.args in
-    fits-first g.out.now g.at (address_text g.entry.repeater) (cond g.entry.has_repeated (ascii "*") [])
-    (rw (entry_text_lem g.entry) at (p))
+pub returns-then-entry : goal.returns-then-entry
+unfolding entry_text
+returns-then-entry c = rw (c.put.ensures, c.put_address.ensures, c.if-entry.true) (simp (cut_then, append_assoc))
 
-pub put_if-requires : goal.put_if-requires
-put_if-requires c =
-    let put-address = c.put_address-next in
-    let p = c.requires in
-    let g = c.args in
-    fits_next g.out.now g.at (address_text g.entry.repeater) (cond g.entry.has_repeated (ascii "*") [])
-    (rw (entry_text_lem g.entry) at (p)) put-address.ensures
-
-pub returns : goal.returns
-returns c =
-    let put-address = c.put_address-next in
-    let p = c.requires in
-    let g = c.args in
-    rw (entry_text_lem g.entry)
-    (put_then g.out.now g.at (address_text g.entry.repeater) (cond g.entry.has_repeated (ascii "*") []) (rw (entry_text_lem g.entry) at (p)) put-address.ensures c.put_if.ensures)
+pub returns-else-entry : goal.returns-else-entry
+unfolding entry_text
+returns-else-entry c = rw (c.put_address.ensures, c.if-entry.false) (simp append-nil)
