@@ -21,6 +21,7 @@ ghost use Rattle.kiss_stream.specs.Feed.{feed_of};
 ghost use Rattle.link_record.specs.Record.{number_of as link_number};
 ghost use Rattle.link.specs.Step.{step_of};
 
+use answer::Numbered;
 use captures::CaptureRecord;
 use control::Mode;
 use kiss_reading::KissRead;
