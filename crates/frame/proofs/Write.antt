@@ -11,21 +11,23 @@ use borrow.Author.Tests.{ltb-false, le-ltb, not-false}
 use lib.Dec.{eqb, ltb}
 use lib.ListN.{length, take, drop, length-append, length-drop}
 use Rattle.octets.specs.Splice.{splice}
-use Rattle.octets.proofs.Choice.{both, either, and_false}
+use Rattle.octets.proofs.Choice.{by, both, either, and_false}
 use Rattle.octets.proofs.Splice.{part_from, splice-length, splice-more, splice-then, splice_part}
 use Rattle.address.specs.Address.{encodable}
 use Rattle.group.specs.Group.{group_of}
 use Rattle.group.proofs.Laws.{group-length}
 use Rattle.content.specs.Spell.{front}
 use Rattle.content.specs.Refused.{long_frmr, stray_info, stray_pid}
-use Rattle.encoding.specs.Encode.{answer_of, encode_of, encoded}
+use Rattle.encoding.specs.Encode.{judged, answer_of, encode_of, encoded}
+use Rattle.content.specs.declared.FrameContent.{FrameContent}
 use Rattle.control.specs.declared.Mode.{Mode}
-use Rattle.encoding.specs.declared.EncodeAnswer.TheVariants.{Written}
+use Rattle.encoding.specs.declared.EncodeError.{EncodeError}
 use Rattle.encoding.proofs.Laws.{answer-written}
 use Rattle.frame.specs.Spell.{repeater_at, groups_of, destination_mark, source_mark, address_field, spell}
-use Rattle.frame.specs.Write.{route_encodable, frame_encodable, content_answer, write_answer, Taken, octets_by}
-use Rattle.frame.specs.declared.WriteAnswer.{WriteAnswer}
-use Rattle.frame.specs.declared.WriteAnswer.TheVariants.{Accepted, RouteTooLong, NotEncodable, FrameRejectInLongMode, InfoNotAllowed, PidOutsideClass, NoRoom}
+use Rattle.frame.specs.Write.{route_encodable, frame_encodable, content_answer, write_answer, Taken}
+use Rattle.std.specs.Prelude.{Result, Ok, Err}
+use Rattle.frame.specs.declared.WriteError.{WriteError}
+use Rattle.frame.specs.Frame.{error_of}
 use Rattle.frame.specs.declared.Mark.{Mark}
 use Rattle.frame.specs.declared.Mark.TheVariants.{Command, Response, Absent}
 use Rattle.frame.specs.declared.RouteEntry.{RouteEntry}
@@ -119,20 +121,28 @@ pub content_decides : (m : Mode) (f : Ax25Frame) (info : List ℕ) (room head : 
 unfolding write_answer
 content_decides m f info room head n e h = rw (le-ltb 8 f.route_count n, e, spell-length m f info, h)
 
+-- the content's answer, of which the frame's is the same with the frame's errors
+unfoldable pub through : Result Unit EncodeError → Result Unit WriteError
+through (Ok tt) = Ok tt
+through (Err e) = Err (error_of e)
+
+pub content_through : (m : Mode) (k : FrameContent) (info whole room : ℕ) → through (judged m k info whole room) ≡ content_answer m k info whole room
+unfolding judged content_answer through
+content_through m k info whole room =
+    by (long_frmr m k) (λ a. rw a refl)
+    (λ a. by (stray_info k info) (λ b. rw (a, b) refl)
+    (λ b. by (stray_pid k) (λ c. rw (a, b, c) refl)
+    (λ c. by (ltb room whole) (λ d. rw (a, b, c, d) refl) (λ d. rw (a, b, c, d) refl))))
+
 -- an accepted answer says that nothing was refused
-Says : Mode → Ax25Frame → List ℕ → ℕ → WriteAnswer → Type 0
-Says m f info room Accepted = Taken m f info room
-Says m f info room RouteTooLong = Unit {0}
-Says m f info room NotEncodable = Unit {0}
-Says m f info room FrameRejectInLongMode = Unit {0}
-Says m f info room InfoNotAllowed = Unit {0}
-Says m f info room PidOutsideClass = Unit {0}
-Says m f info room NoRoom = Unit {0}
+Says : Mode → Ax25Frame → List ℕ → ℕ → Result Unit WriteError → Type 0
+Says m f info room (Ok tt) = Taken m f info room
+Says m f info room (Err e) = Unit {0}
 
 says : (m : Mode) (f : Ax25Frame) (info : List ℕ) (room : ℕ) → Says m f info room (write_answer m f info room)
 unfolding write_answer content_answer Says
 says m f info room =
-    let P : WriteAnswer → Type 0 = Says m f info room in
+    let P : Result Unit WriteError → Type 0 = Says m f info room in
     either P (ltb 8 f.route_count) (λ _. tt)
     (λ a. either P (not (frame_encodable f)) (λ _. tt)
     (λ b. either P (long_frmr m f.content) (λ _. tt)
@@ -141,19 +151,9 @@ says m f info room =
     (λ d. either P (ltb room (length (spell m f info))) (λ _. tt)
     (λ e. record { count = ltb-false _ _ a; addresses = not-false _ b; known = k; info = c; pid = d; room = ltb-false _ _ e }))))))
 
-pub accepted_taken : (m : Mode) (f : Ax25Frame) (info : List ℕ) (room : ℕ) → write_answer m f info room ≡ Accepted → Taken m f info room
+pub accepted_taken : (m : Mode) (f : Ax25Frame) (info : List ℕ) (room : ℕ) → write_answer m f info room ≡ Ok tt → Taken m f info room
 unfolding Says
 accepted_taken m f info room e = subst (Says m f info room) e (says m f info room)
-
--- what a match on the answer tells
-pub told-refused : (a : WriteAnswer) (s : List ℕ) → (a ≡ Accepted → ⊥) → octets_by a s ≡ []
-told-refused Accepted s h = absurd (h refl)
-told-refused RouteTooLong s h = refl
-told-refused NotEncodable s h = refl
-told-refused FrameRejectInLongMode s h = refl
-told-refused InfoNotAllowed s h = refl
-told-refused PidOutsideClass s h = refl
-told-refused NoRoom s h = refl
 
 -- the address field, then the content in the room that is left
 module _ (m : Mode) (f : Ax25Frame) (info l : List ℕ) (t : Taken m f info (length l)) where
@@ -172,14 +172,14 @@ module _ (m : Mode) (f : Ax25Frame) (info l : List ℕ) (t : Taken m f info (len
   fits : at + (length (front m f.content) + length info) ≤ length l
   fits = omega (arith, spell-length m f info, t.room)
 
-  content-written : answer_of m f.content (length info) (length left) ≡ Written
+  content-written : answer_of m f.content (length info) (length left) ≡ Ok tt
   content-written =
       let n : length after ≡ length l = splice-length l 0 (address_field f) in
       let r : length left ≡ length after - at = rw part_from (length-drop at after) in
       answer-written m f.content (length info) (length left) t.known t.info t.pid
       (le-ltb (length left) (length (front m f.content) + length info) (omega (arith, fits)))
 
-  pub content-length : (encode_of m f.content (length info) (length left)).length ≡ length (front m f.content) + length info
+  pub content-length : encode_of m f.content (length info) (length left) ≡ Ok (length (front m f.content) + length info)
   content-length = rw content-written
 
   pub content-put : take at after ++ (splice left 0 (encoded m f.content info (length left)) ++ drop (length after - at) (drop at after))

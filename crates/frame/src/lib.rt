@@ -2,10 +2,12 @@
 #![tactic(auto)]
 
 ghost use Rattle.std.specs.Prelude.{◌≡◌, false};
-ghost use Rattle.frame.specs.Frame.{no_entry, default_frame, write_number, simple_ui};
+ghost use Rattle.frame.specs.Frame.{no_entry, default_frame, error_number, error_of, simple_ui};
 
 use address::Address;
+use answer::Numbered;
 use content::{FrameContent, UnnumberedInformation};
+use encoding::EncodeError;
 use protocol::ProtocolIdentifier;
 
 mod writing; // writing.rt: from a frame and its info to octets
@@ -41,9 +43,9 @@ pub struct Ax25Frame {
     pub content: FrameContent,
 }
 
-#[derive(Clone, Copy)]
-pub enum WriteAnswer {
-    Accepted,
+// Why a frame is not written.
+#[derive(Clone, Copy, Debug, PartialEq, Eq)]
+pub enum WriteError {
     RouteTooLong,
     NotEncodable,
     FrameRejectInLongMode,
@@ -52,25 +54,30 @@ pub enum WriteAnswer {
     NoRoom,
 }
 
-// What writing gives: how many octets of the output are the frame.
-#[derive(Clone, Copy)]
-pub struct Written {
-    pub answer: WriteAnswer,
-    pub length: usize,
+impl Numbered for WriteError {
+    ghost number_of = { error_number };
+
+    fn number(self) -> u32 {
+        match self {
+            WriteError::RouteTooLong => 21,
+            WriteError::NotEncodable => 22,
+            WriteError::FrameRejectInLongMode => 11,
+            WriteError::InfoNotAllowed => 23,
+            WriteError::PidOutsideClass => 25,
+            WriteError::NoRoom => 24,
+        }
+    }
 }
 
-impl WriteAnswer {
-    pub fn number(self) -> u32
-        ensures { result ≡ write_number self }
-    {
-        match self {
-            WriteAnswer::Accepted => 0,
-            WriteAnswer::RouteTooLong => 21,
-            WriteAnswer::NotEncodable => 22,
-            WriteAnswer::FrameRejectInLongMode => 11,
-            WriteAnswer::InfoNotAllowed => 23,
-            WriteAnswer::PidOutsideClass => 25,
-            WriteAnswer::NoRoom => 24,
+impl From<EncodeError> for WriteError {
+    ghost from_gives = { λ of_content e. e ≡ error_of of_content };
+
+    fn from(of_content: EncodeError) -> WriteError {
+        match of_content {
+            EncodeError::FrameRejectInLongMode => WriteError::FrameRejectInLongMode,
+            EncodeError::InfoNotAllowed => WriteError::InfoNotAllowed,
+            EncodeError::PidOutsideClass => WriteError::PidOutsideClass,
+            EncodeError::NoRoom => WriteError::NoRoom,
         }
     }
 }

@@ -2,10 +2,9 @@
 ghost use Rattle.std.specs.Prelude.{◌≡◌, true, ◌+◌, ◌*◌, ◌≤◌, length};
 ghost use Rattle.octets.specs.Splice.{splice};
 ghost use Rattle.frame.specs.Spell.{groups_of, destination_mark, address_field, spell};
-ghost use Rattle.frame.specs.Write.{route_encodable, frame_encodable, content_answer, write_answer, Taken, octets_written, written};
+ghost use Rattle.frame.specs.Write.{route_encodable, frame_encodable, write_answer, Taken, octets_written, written};
 
-use crate::{Ax25Frame, Mark, RouteEntry, WriteAnswer, Written};
-use content::FrameContent;
+use crate::{Ax25Frame, Mark, RouteEntry, WriteError};
 use control::Mode;
 
 // The mark of the destination; that of the source is the other.
@@ -51,44 +50,21 @@ fn frame_encodable(frame: Ax25Frame) -> bool
     route_encodable(route, frame.route_count)
 }
 
-// The answer from the content on, where `head` octets stand before the info.
-fn content_answer(
-    mode: Mode,
-    content: FrameContent,
-    head: usize,
-    carried: usize,
-    room: usize,
-) -> WriteAnswer
-    ensures { result ≡ content_answer mode content carried (head + carried) room }
-{
-    if content.long_frmr(mode) {
-        return WriteAnswer::FrameRejectInLongMode;
-    }
-    if content.stray_info(carried) {
-        return WriteAnswer::InfoNotAllowed;
-    }
-    if content.stray_pid() {
-        return WriteAnswer::PidOutsideClass;
-    }
-    if lent_buffer::lacks_room(head, carried, room) {
-        return WriteAnswer::NoRoom;
-    }
-    WriteAnswer::Accepted
-}
-
-fn write_answer(mode: Mode, frame: Ax25Frame, info: &[u8], room: usize) -> WriteAnswer
+// Whether a frame is written with its info into so much room.
+fn judge(mode: Mode, frame: Ax25Frame, info: &[u8], room: usize) -> Result<(), WriteError>
     ensures { result ≡ write_answer mode frame info.now room }
 {
     let count = frame.route_count;
     if 8 < count {
-        return WriteAnswer::RouteTooLong;
+        return Err(WriteError::RouteTooLong);
     }
     if !frame_encodable(frame) {
-        return WriteAnswer::NotEncodable;
+        return Err(WriteError::NotEncodable);
     }
     let content = frame.content;
     let head = 14 + 7 * count + content.front_len(mode);
-    content_answer(mode, content, head, info.len(), room)
+    encoding::judge(mode, content, head, info.len(), room)?;
+    Ok(())
 }
 
 // The repeaters' groups, one after the other from `at` on; the last alone has the end bit.
@@ -136,21 +112,16 @@ fn put_frame(mode: Mode, out: &mut [u8], frame: Ax25Frame, info: &[u8]) -> usize
     put_addresses(out, frame);
     let at = 14 + 7 * frame.route_count;
     let content = frame.content;
-    let after = encoding::encode(mode, content, info, &mut out[at..]);
-    at + after.length
+    at + encoding::encode(mode, content, info, &mut out[at..]).unwrap()
 }
 
 impl Ax25Frame {
-    // Encode the frame, with its info, as raw bytes for transmission.
-    pub fn to_bytes(self, mode: Mode, info: &[u8], out: &mut [u8]) -> Written
+    // Encode the frame, with its info, as raw bytes for transmission: how many there are. A refusal writes nothing.
+    pub fn to_bytes(self, mode: Mode, info: &[u8], out: &mut [u8]) -> Result<usize, WriteError>
         ensures value { result ≡ written mode self info.now (length out.old) }
         ensures out_after { out.new ≡ splice out.old 0 (octets_written mode self info.now (length out.old)) }
     {
-        let answer = write_answer(mode, self, info, out.len());
-        let WriteAnswer::Accepted = answer else {
-            return Written { answer, length: 0 };
-        };
-        let length = put_frame(mode, out, self, info);
-        Written { answer, length }
+        judge(mode, self, info, out.len())?;
+        Ok(put_frame(mode, out, self, info))
     }
 }
