@@ -54,7 +54,12 @@ pub fn old_capture(mode: Mode, capture: &[u8]) -> Decoded
 
 // Demand 1: so for the number of writing, and a refusal has length 0 and leaves the buffer as it was. Demand 2: an accepted frame
 // stands at the start of the buffer as it spells, with that length, and the octets beyond it stay.
-pub fn written(mode: Mode, frame: Ax25Frame, info: &[u8], out: &mut [u8]) -> Result<usize, WriteError>
+pub fn written(
+    mode: Mode,
+    frame: Ax25Frame,
+    info: &[u8],
+    out: &mut [u8],
+) -> Result<usize, WriteError>
     ensures first_row { FirstRow (write_table mode frame info.now (length out.old)) (write_number result) }
     ensures length_value { (write_number result ≡ 0 → ⊥) → (length_of result ≡ 0) × (out.new ≡ out.old) }
     ensures length_value_2 { write_number result ≡ 0 → (length_of result ≡ length (spell mode frame info.now))

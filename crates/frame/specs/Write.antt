@@ -12,6 +12,10 @@ use Rattle.frame.specs.declared.Ax25Frame.{Ax25Frame}
 use Rattle.frame.specs.declared.WriteError.{WriteError}
 use Rattle.frame.specs.declared.WriteError.TheVariants.{RouteTooLong, NotEncodable, FrameRejectInLongMode, InfoNotAllowed, PidOutsideClass, NoRoom}
 
+-- the repeater of an entry can be written
+abbrev pub entry_encodable : RouteEntry → Bool
+entry_encodable e = encodable e.repeater
+
 -- the first n repeaters can be written
 unfoldable pub route_encodable : List RouteEntry → ℕ → Bool
 route_encodable route zero = true

@@ -37,6 +37,7 @@ pub struct Ax25Frame {
     // Destination station
     pub destination: Address,
     // The route the frame has taken/will take: the first `route_count` places
+    // An array with a count: the customer's record has both, and C's flat record its places.
     pub route: [RouteEntry; 8],
     pub route_count: usize,
     pub command_or_response: Mark,
@@ -82,37 +83,39 @@ impl From<EncodeError> for WriteError {
     }
 }
 
-impl RouteEntry {
-    // An unused place.
-    pub fn default() -> RouteEntry
-        ensures { result ≡ no_entry }
-    {
-        let repeater = Address::default();
+// An unused place.
+impl Default for RouteEntry {
+    ghost is_default = { λ entry. entry ≡ no_entry };
+
+    #[tactic(auto, unfolding(crate::specs::Frame::no_entry))]
+    fn default() -> RouteEntry {
         RouteEntry {
-            repeater,
+            repeater: Address::default(),
             has_repeated: false,
         }
     }
 }
 
-impl Ax25Frame {
-    pub fn default() -> Ax25Frame
-        ensures { result ≡ default_frame }
-    {
-        let nobody = Address::default();
-        Ax25Frame::new_simple_ui_frame(nobody, nobody)
-    }
+// The frame that a refused decode gives.
+impl Default for Ax25Frame {
+    ghost is_default = { λ frame. frame ≡ default_frame };
 
+    #[tactic(auto, unfolding(crate::specs::Frame::default_frame))]
+    fn default() -> Ax25Frame {
+        Ax25Frame::new_simple_ui_frame(Address::default(), Address::default())
+    }
+}
+
+impl Ax25Frame {
     // A basic UnnumberedInformation (connectionless) frame. Its info is lent when it is written.
+    #[tactic(auto, unfolding(crate::specs::Frame::simple_ui, crate::specs::Frame::no_route))]
     pub fn new_simple_ui_frame(source: Address, destination: Address) -> Ax25Frame
         ensures { result ≡ simple_ui source destination }
     {
-        let unused = RouteEntry::default();
-        let route = [unused; 8];
         Ax25Frame {
             source,
             destination,
-            route,
+            route: [RouteEntry::default(); 8],
             route_count: 0,
             command_or_response: Mark::Command,
             content: FrameContent::UnnumberedInformation(UnnumberedInformation {
