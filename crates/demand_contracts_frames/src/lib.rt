@@ -7,6 +7,7 @@ ghost use Rattle.content.specs.declared.FrameContent.TheVariants.{UnknownContent
 ghost use Rattle.decode.specs.Answer.{number_of, report_of, is_accepted};
 ghost use Rattle.decode.specs.Numbers.{reported};
 ghost use Rattle.decode.specs.Read.{decode};
+ghost use Rattle.octets.specs.Outcome.{length_of};
 ghost use Rattle.frame.specs.Frame.{write_number, default_frame};
 ghost use Rattle.frame.specs.Spell.{spell};
 ghost use Rattle.grammar.specs.Stations.{Reserves};

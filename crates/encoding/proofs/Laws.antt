@@ -72,6 +72,20 @@ encode-all m k info room f none p h =
     (by (has_info k) (λ e. rw e refl) (λ e. rw (e, none e) refl)) p
     (le-ltb room (length (front m k) + length info) h)
 
+-- what is said of each answer, by the four tests
+pub judged_by : {A : Type 0} (f : Result Unit EncodeError → A) (m : Mode) (k : FrameContent) (info whole room : ℕ)
+    → f (judged m k info whole room)
+    ≡ cond (long_frmr m k) (f (Err FrameRejectInLongMode))
+    (cond (stray_info k info) (f (Err InfoNotAllowed))
+    (cond (stray_pid k) (f (Err PidOutsideClass))
+    (cond (ltb room whole) (f (Err NoRoom)) (f (Ok tt)))))
+unfolding judged
+judged_by f m k info whole room =
+    by (long_frmr m k) (λ a. rw a refl)
+    (λ a. by (stray_info k info) (λ b. rw (a, b) refl)
+    (λ b. by (stray_pid k) (λ c. rw (a, b, c) refl)
+    (λ c. by (ltb room whole) (λ d. rw (a, b, c, d) refl) (λ d. rw (a, b, c, d) refl))))
+
 -- what is written has room
 pub judged_room : (m : Mode) (k : FrameContent) (info whole room : ℕ) → judged m k info whole room ≡ Ok tt → ltb room whole ≡ false
 unfolding judged

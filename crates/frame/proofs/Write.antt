@@ -20,7 +20,7 @@ use Rattle.encoding.specs.Encode.{judged, answer_of, encode_of, encoded}
 use Rattle.content.specs.declared.FrameContent.{FrameContent}
 use Rattle.control.specs.declared.Mode.{Mode}
 use Rattle.encoding.specs.declared.EncodeError.{EncodeError}
-use Rattle.encoding.proofs.Laws.{answer-written}
+use Rattle.encoding.proofs.Laws.{answer-written, judged_by}
 use Rattle.std.specs.List.{list_all}
 use Rattle.std.proofs.lemmas.List.{get_or-take}
 use Rattle.std.proofs.lemmas.List.Folds.{list_all_more, list_all_at}
@@ -132,12 +132,8 @@ through (Ok tt) = Ok tt
 through (Err e) = Err (error_of e)
 
 pub content_through : (m : Mode) (k : FrameContent) (info whole room : ℕ) → through (judged m k info whole room) ≡ content_answer m k info whole room
-unfolding judged content_answer through
-content_through m k info whole room =
-    by (long_frmr m k) (λ a. rw a refl)
-    (λ a. by (stray_info k info) (λ b. rw (a, b) refl)
-    (λ b. by (stray_pid k) (λ c. rw (a, b, c) refl)
-    (λ c. by (ltb room whole) (λ d. rw (a, b, c, d) refl) (λ d. rw (a, b, c, d) refl))))
+unfolding content_answer through
+content_through = judged_by through
 
 -- an accepted answer says that nothing was refused
 Says : Mode → Ax25Frame → List ℕ → ℕ → Result Unit WriteError → Type 0
