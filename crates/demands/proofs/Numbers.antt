@@ -26,7 +26,7 @@ use Rattle.octets.specs.Outcome.{length_of, giving}
 use Rattle.frame.specs.declared.WriteError.{WriteError}
 use Rattle.frame.specs.declared.Ax25Frame.{Ax25Frame}
 use Rattle.grammar.proofs.Numbers.{decode-rows, write-rows}
-use Rattle.grammar.proofs.Refused.{refused-octets, accepted-octets}
+use Rattle.grammar.proofs.Refused.{refused-octets, accepted-octets, number_zero}
 use Rattle.grammar.proofs.Respell.{written_is}
 use Rattle.octets.specs.Table.{Table, given, FirstRow}
 use Rattle.demands.specs.Numbers.{decode_table, write_table, print_table, parts_table, text_table}
@@ -68,7 +68,7 @@ no_length (Ok tt) n h = absurd (h refl)
 no_length (Err e) n h = refl
 
 its_length : (a : Result Unit WriteError) (n : ℕ) → write_number a ≡ 0 → length_of (giving a n) ≡ n
-its_length a n h = rw (zero a h) refl
+its_length a n h = rw (number_zero a h) refl
 
 -- a refused write has length 0, and what it leaves in a buffer is what was there
 pub refused_write : (mode : Mode) (f : Ax25Frame) (info : List ℕ) (room : ℕ) → (write_number (write_answer mode f info room) ≡ 0 → ⊥)

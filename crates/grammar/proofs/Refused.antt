@@ -57,18 +57,18 @@ unfolding octets_written
 refused-octets mode f info room n = nothing (write_answer mode f info room) (spell mode f info) n
 
 -- an accepted one writes what the frame spells, and there is room for it
-pub zero : (a : Result Unit WriteError) → write_number a ≡ 0 → a ≡ Ok tt
-zero (Ok tt) e = refl
-zero (Err write.RouteTooLong) e = absurd (omega (arith, e))
-zero (Err write.NotEncodable) e = absurd (omega (arith, e))
-zero (Err write.FrameRejectInLongMode) e = absurd (omega (arith, e))
-zero (Err write.InfoNotAllowed) e = absurd (omega (arith, e))
-zero (Err write.PidOutsideClass) e = absurd (omega (arith, e))
-zero (Err write.NoRoom) e = absurd (omega (arith, e))
+pub number_zero : (a : Result Unit WriteError) → write_number a ≡ 0 → a ≡ Ok tt
+number_zero (Ok tt) e = refl
+number_zero (Err write.RouteTooLong) e = absurd (omega (arith, e))
+number_zero (Err write.NotEncodable) e = absurd (omega (arith, e))
+number_zero (Err write.FrameRejectInLongMode) e = absurd (omega (arith, e))
+number_zero (Err write.InfoNotAllowed) e = absurd (omega (arith, e))
+number_zero (Err write.PidOutsideClass) e = absurd (omega (arith, e))
+number_zero (Err write.NoRoom) e = absurd (omega (arith, e))
 
 pub accepted-octets : (mode : Mode) (f : Ax25Frame) (info : List ℕ) (room : ℕ) → write_number (write_answer mode f info room) ≡ 0
     → (octets_written mode f info room ≡ spell mode f info) × (length (spell mode f info) ≤ room)
 unfolding octets_written
 accepted-octets mode f info room n =
-    let e : write_answer mode f info room ≡ Ok tt = zero (write_answer mode f info room) n in
+    let e : write_answer mode f info room ≡ Ok tt = number_zero (write_answer mode f info room) n in
     (rw e refl, (accepted_taken mode f info room e).room)
