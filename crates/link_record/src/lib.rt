@@ -8,7 +8,8 @@ use address::Address;
 use answer::Numbered;
 use decode::DecodeAnswer;
 
-// The states. A number over these is read as idle.
+// The states. A number over these is read as idle. Numbers and no enum: C's struct holds a number, which stays as it is where a frame does
+// not change it, and the code only sets it and compares it.
 pub const IDLE: u32 = 0;
 
 pub const ASKED_BY_A: u32 = 1;
