@@ -6,8 +6,9 @@ ghost use Rattle.octets.specs.Splice.{splice};
 ghost use Rattle.words.specs.Room.{behind};
 ghost use Rattle.following.specs.Following.{answer_text, refused_by, begin_text, begun, stops, from_text, gap_line, gap_text, offered_text, follow_text, followed, totals_text};
 
+use answer::Numbered;
 use link_frame::Side;
-use link_record::{Link, LinkAnswer};
+use link_record::{Link, LinkError};
 use text::AddressAnswer;
 use words::page::Page;
 
@@ -64,10 +65,10 @@ pub fn begin(a: &[u8], b: &[u8], out: &mut [u8]) -> Begun
     }
 }
 
-fn stops(answer: LinkAnswer) -> bool
+fn stops(answer: Result<(), LinkError>) -> bool
     ensures { result ≡ stops answer }
 {
-    !matches!(answer, LinkAnswer::Offered | LinkAnswer::Refused(_))
+    !matches!(answer, Ok(()) | Err(LinkError::Refused(_)))
 }
 
 // Whose frame a gap is, behind its place.
