@@ -47,21 +47,9 @@ fn far(output: Stdout) {
     shown(output, &bare);
 }
 
-// Whether every octet is 0xAA.
-fn untouched(out: &[u8]) -> bool {
-    let mut i = 0;
-    while i < out.len() {
-        if out[i] != 0xAA {
-            return false;
-        }
-        i += 1;
-    }
-    true
-}
-
-// Whether what lies beyond the text is as it was.
+// Whether what lies beyond the text is as it was: 0xAA.
 fn show_rest(output: Stdout, n: usize, rest: &[u8]) {
-    if !untouched(rest) {
+    if rest.iter().any(|b| *b != 0xAA) {
         show(output, b"\n");
         return;
     }
