@@ -100,7 +100,8 @@ fn put_route(out: &mut [u8], at: usize, route: [RouteEntry; 8], count: usize)
     while i < count {
         let entry = route[i];
         let repeater = entry.repeater;
-        placing::put(
+        // Its room and its address were looked at before, so that it is not refused.
+        let _ = placing::put(
             out,
             at + 7 * i,
             repeater,
@@ -122,8 +123,9 @@ fn put_addresses(out: &mut [u8], frame: Ax25Frame)
     let source = frame.source;
     let route = frame.route;
     let to = destination_mark(mark);
-    placing::put(out, 0, destination, to, false);
-    placing::put(out, 7, source, !to, count == 0);
+    // Their room and their addresses were looked at before, so that neither is refused.
+    let _ = placing::put(out, 0, destination, to, false);
+    let _ = placing::put(out, 7, source, !to, count == 0);
     put_route(out, 14, route, count);
 }
 
