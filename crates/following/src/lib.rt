@@ -8,7 +8,7 @@ ghost use Rattle.following.specs.Following.{answer_text, refused_by, begin_text,
 
 use link::Sender;
 use link_record::{Link, LinkAnswer};
-use text::AddressAnswer;
+use text::AddressError;
 use words::page::Page;
 
 // What the two texts come to: whether both are read, the record of the link between their stations, and how many octets are printed.
@@ -38,7 +38,7 @@ fn put_answer(out: &mut [u8], number: u32) -> usize
     page.write_to(out).unwrap_or(0)
 }
 
-fn refused_by(a: AddressAnswer, b: AddressAnswer) -> u32
+fn refused_by(a: Result<Address, AddressError>, b: Result<Address, AddressError>) -> u32
     ensures { result ≡ refused_by a b }
 {
     let number = a.number();
@@ -56,11 +56,9 @@ pub fn begin(a: &[u8], b: &[u8], out: &mut [u8]) -> Begun
 {
     let first = text::from_str(a);
     let second = text::from_str(b);
-    let answer = first.answer;
-    let other = second.answer;
-    let number = refused_by(answer, other);
-    let station = first.address;
-    let partner = second.address;
+    let number = refused_by(first, second);
+    let station = first.unwrap_or(Address::default());
+    let partner = second.unwrap_or(Address::default());
     let link = link_record::fresh(station, partner);
     let length = put_answer(out, number);
     Begun {
