@@ -1,5 +1,6 @@
 -- Reading the text of an address: callsign, hyphen, SSID. The conditions of document 01's number table, and the readers.
 use Rattle.std.specs.Prelude.{ℕ, ◌+◌, ◌*◌, ◌-◌, ◌≤◌, ◌<◌, ◌≡◌, Bool, true, cond, not, ◌&&◌, ◌||◌, List, [], ◌∷◌, eqb, ltb, leb, length, get_or, take, drop, Option, Some, None, Result, Ok, Err}
+use Rattle.std.specs.Result.{result_unwrap_or}
 use Rattle.octets.specs.All.{all}
 use Rattle.octets.specs.Count.{count}
 use Rattle.octets.specs.First.{first}
@@ -110,8 +111,7 @@ padded c = upper_at c 0 ∷ upper_at c 1 ∷ upper_at c 2 ∷ upper_at c 3 ∷ u
 
 -- the address that was read: NOCALL, SSID 0, for who asks for one where that was refused
 abbrev pub address_read : Result Address AddressError → Address
-address_read (Ok a) = a
-address_read (Err e) = no_call
+address_read r = result_unwrap_or r no_call
 
 -- what reading a callsign without octets of 128 or more, and an SSID, gives
 unfoldable pub read_callsign : List ℕ → ℕ → Result Address AddressError
