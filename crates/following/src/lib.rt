@@ -6,6 +6,8 @@ ghost use Rattle.octets.specs.Splice.{splice};
 ghost use Rattle.words.specs.Room.{behind};
 ghost use Rattle.following.specs.Following.{answer_text, refused_by, begin_text, begun, stops, from_text, gap_line, gap_text, offered_text, follow_text, followed, totals_text};
 
+use address::Address;
+use answer::Numbered;
 use link_frame::Side;
 use link_record::{Link, LinkAnswer};
 use text::AddressError;

@@ -1,4 +1,6 @@
 -- How the printer comes to its definitions: the callsign's length by one pass, and the text in two parts.
+use Rattle.std.proofs.Common.{Result, Ok, Err}
+use Rattle.std.specs.Result.{result_unwrap_or}
 use Prim.Native.Nat.{ℕ, zero, suc, ◌+◌, ◌≤◌, ◌<◌}
 use mathlib.Core.Logic.{◌≢◌}
 use mathlib.Core.Path.{◌≡◌, refl, sym, ◌∙◌}
@@ -110,3 +112,8 @@ print_within a room =
 pub print_fits : (a : Address) (room : ℕ) → encodable a ≡ true → length (text_of a) ≤ room → length_of (printed a room) ≡ length (text_of a)
 unfolding printed
 print_fits a room e h = simp (e, le-ltb room (length (text_of a)) h)
+
+-- how long a text is that may be refused, as code takes it from a `Result`
+pub length-unwrapped : {E : Type 0} (r : Result ℕ E) → result_unwrap_or r 0 ≡ length_of r
+length-unwrapped (Ok n) = refl
+length-unwrapped (Err e) = refl
