@@ -1,6 +1,6 @@
 -- What is printed of an address that people write is its text, and that reads back.
 use Prim.Native.Nat.{ℕ, ◌≤◌}
-use mathlib.Core.Path.{◌≡◌, refl, ap, sym, ◌∙◌}
+use mathlib.Core.Path.{◌≡◌, refl, sym, ◌∙◌}
 use mathlib.Core.List.{List}
 use lib.ListN.{length, take, drop}
 use lib.Seq.{take_at, length-take-le}
@@ -28,12 +28,12 @@ within a out left n same e = rw (same, e) (print_within a (length out))
 pub slice_bounds-from_str-end : goal.slice_bounds-from_str-end
 slice_bounds-from_str-end c =
     let same : length c.print.new.out ≡ length c.args.out.now = search rules in
-    within _ _ _ _ same (c.unwrap_or-length.ensures ∙ rw c.print.ensures.value (length-unwrapped _))
+    within c.args.address c.args.out.now c.print.new.out c.unwrap_or-length.result same (c.unwrap_or-length.ensures ∙ rw c.print.ensures.value (length-unwrapped (printed c.args.address (length c.args.out.now))))
 
 pub slice_bounds-from_str-end-2 : goal.slice_bounds-from_str-end-2
 slice_bounds-from_str-end-2 c =
     let same : length c.print.new.out ≡ length c.args.out.now = search rules in
-    sym (length-take-le _ _ (within _ _ _ _ same (c.unwrap_or-length.ensures ∙ rw c.print.ensures.value (length-unwrapped _))))
+    sym (length-take-le _ _ (within c.args.address c.args.out.now c.print.new.out c.unwrap_or-length.result same (c.unwrap_or-length.ensures ∙ rw c.print.ensures.value (length-unwrapped (printed c.args.address (length c.args.out.now))))))
 
 pub returns : goal.returns
 returns c =
