@@ -13,9 +13,9 @@ pub(crate) fn show(output: Stdout, text: &[u8]) {
 
 fn shown(output: Stdout, input: &[u8]) {
     let mut text = [0u8; 512];
-    let dumped = dump::dump(input, &mut text);
-    let length = dumped.length;
-    show(output, &text[..length]);
+    if let Ok(length) = dump::dump(input, &mut text) {
+        show(output, &text[..length]);
+    }
     show(output, b"\n");
 }
 

@@ -9,7 +9,7 @@ ghost use Rattle.following.specs.Following.{answer_text, refused_by, begin_text,
 use address::Address;
 use answer::Numbered;
 use link_frame::Side;
-use link_record::{Link, LinkAnswer};
+use link_record::{Link, LinkError};
 use text::AddressError;
 use words::page::Page;
 
@@ -68,10 +68,10 @@ pub fn begin(a: &[u8], b: &[u8], out: &mut [u8]) -> Begun
     }
 }
 
-fn stops(answer: LinkAnswer) -> bool
+fn stops(answer: Result<(), LinkError>) -> bool
     ensures { result ≡ stops answer }
 {
-    !matches!(answer, LinkAnswer::Offered | LinkAnswer::Refused(_))
+    !matches!(answer, Ok(()) | Err(LinkError::Refused(_)))
 }
 
 // Whose frame a gap is, behind its place.

@@ -1,5 +1,5 @@
 -- A frame offered to a link (document 02, M-112): who sent it, how it is counted, and the order of the answers.
-use Rattle.std.specs.Prelude.{ℕ, ◌+◌, Bool, cond, ◌&&◌, List, Option, Some, None}
+use Rattle.std.specs.Prelude.{ℕ, ◌+◌, Bool, cond, ◌&&◌, List, Option, Some, None, Ok, Err}
 use Rattle.control.specs.declared.Mode.TheVariants.{Short}
 use Rattle.address.specs.declared.Address.{Address}
 use Rattle.content.specs.declared.FrameContent.{FrameContent}
@@ -8,10 +8,9 @@ use Rattle.decode.specs.Answer.{is_accepted}
 use Rattle.decode.specs.Read.{decode}
 use Rattle.decode.specs.declared.Decoded.{Decoded}
 use Rattle.hops.specs.Station.{same_station}
-use Rattle.link_record.specs.Record.{refusal}
+use Rattle.link_record.specs.Record.{LinkAnswer, refusal}
 use Rattle.link_record.specs.declared.Link.{Link}
-use Rattle.link_record.specs.declared.LinkAnswer.{LinkAnswer}
-use Rattle.link_record.specs.declared.LinkAnswer.TheVariants.{Offered, NotEncodable, EqualStations, Unsound, Full, Refused}
+use Rattle.link_record.specs.declared.LinkError.TheVariants.{Refused}
 use Rattle.link_frame.specs.Frame.{heard_of}
 use Rattle.link_frame.specs.declared.Heard.{Heard}
 use Rattle.link_frame.specs.declared.Side.{Side}
@@ -72,17 +71,13 @@ followed l f = followed_by (sender_in l f) f.content l
 unfoldable pub offered_to : Link → Decoded → Stepped
 offered_to l d =
     cond (is_accepted d.answer)
-    (record { answer = Offered; link = followed l d.frame })
-    (record { answer = Refused d.answer; link = counted_as None l })
+    (record { answer = Ok tt; link = followed l d.frame })
+    (record { answer = Err (Refused d.answer); link = counted_as None l })
 
 -- with the record's own refusal in hand: 22, 72, 73 and 71 change nothing
 abbrev pub step_by : LinkAnswer → Link → List ℕ → Stepped
-step_by Offered l s = offered_to l (decode Short s)
-step_by NotEncodable l s = record { answer = NotEncodable; link = l }
-step_by EqualStations l s = record { answer = EqualStations; link = l }
-step_by Unsound l s = record { answer = Unsound; link = l }
-step_by Full l s = record { answer = Full; link = l }
-step_by (Refused a) l s = record { answer = Refused a; link = l }
+step_by (Ok u) l s = offered_to l (decode Short s)
+step_by (Err e) l s = record { answer = Err e; link = l }
 
 -- the whole
 unfoldable pub step_of : Link → List ℕ → Stepped

@@ -11,12 +11,12 @@ use control::Mode;
 use decode::DecodeAnswer;
 use frame::Ax25Frame;
 use link_frame::{Side, Verdict};
-use link_record::{Link, LinkAnswer};
+use link_record::{Link, LinkError};
 
 // What offering a frame gives: the answer, and the record behind it.
 #[derive(Clone, Copy)]
 pub struct Stepped {
-    pub answer: LinkAnswer,
+    pub answer: Result<(), LinkError>,
     pub link: Link,
 }
 
@@ -108,12 +108,12 @@ fn offered_to(open: Open, frame: &[u8]) -> Stepped
     let answer = decoded.answer;
     let DecodeAnswer::Accepted = answer else {
         return Stepped {
-            answer: LinkAnswer::Refused(answer),
+            answer: Err(LinkError::Refused(answer)),
             link: counted_as(None, open),
         };
     };
     Stepped {
-        answer: LinkAnswer::Offered,
+        answer: Ok(()),
         link: followed(open, decoded.frame),
     }
 }
@@ -122,15 +122,17 @@ fn offered_to(open: Open, frame: &[u8]) -> Stepped
 pub fn step(link: Link, frame: &[u8]) -> Stepped
     ensures { result ≡ step_of link frame.now }
 {
-    let answer = link_record::refusal(link);
-    let LinkAnswer::Offered = answer else {
-        return Stepped { answer, link };
-    };
-    offered_to(Open { link }, frame)
+    match link_record::refusal(link) {
+        Ok(()) => offered_to(Open { link }, frame),
+        Err(error) => Stepped {
+            answer: Err(error),
+            link,
+        },
+    }
 }
 
 // The same to a record that is lent.
-pub fn offer(link: &mut Link, frame: &[u8]) -> LinkAnswer
+pub fn offer(link: &mut Link, frame: &[u8]) -> Result<(), LinkError>
     ensures { (link.new ≡ (step_of link.old frame.now).link)
         × (result ≡ (step_of link.old frame.now).answer) }
 {

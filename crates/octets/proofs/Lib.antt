@@ -11,3 +11,4 @@ pub mod Table
 pub mod Lent
 pub mod Position
 pub mod Library
+pub mod Outcome
