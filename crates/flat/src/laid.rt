@@ -43,10 +43,11 @@ fn put_route(out: &mut [u8], route: [RouteEntry; 8])
 }
 
 // A count of 255 and more is 255: writing refuses them all alike.
+#[tactic(auto, unfolding(crate::specs::Laid::count_flat))]
 fn count_octet(count: usize) -> u8
     ensures { result ≡ count_flat count }
 {
-    u8::try_from(count).unwrap_or(255)
+    count.min(255) as u8
 }
 
 fn mark_octet(mark: Mark) -> u8

@@ -1,5 +1,5 @@
 -- The address, and behind it the mark.
-use Rattle.std.proofs.Common.{◌∙◌, arith}
+use Rattle.std.proofs.Common.{◌∙◌, refl, arith}
 use Rattle.octets.proofs.Splice.{splice-then}
 use Rattle.flat.specs.Laid.{address_flat}
 use Rattle.flat.proofs.Parts.{flag_byte}
