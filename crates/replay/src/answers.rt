@@ -4,6 +4,7 @@ ghost use Rattle.std.specs.Prelude.{◌≤◌, length};
 
 use crate::words::{first, show_lent, show_number};
 use address::Address;
+use answer::Numbered;
 use std::io::Stdout;
 
 // The list is of the short mode, the Rust's.
