@@ -20,8 +20,7 @@ use Rattle.frame.specs.Spell.{repeater_at, past}
 use Rattle.frame.specs.declared.RouteEntry.{RouteEntry}
 use Rattle.frame.specs.declared.Ax25Frame.{Ax25Frame}
 use Rattle.decode.specs.Answer.{number_of, is_accepted}
-use Rattle.decode.specs.Read.{decode}
-use Rattle.decode.specs.declared.Decoded.{Decoded}
+use Rattle.decode.specs.Read.{decode, Decoding}
 use Rattle.decode.proofs.Read.{zero-accepted}
 use Rattle.grammar.proofs.Numbers.{decode-rows}
 use Rattle.grammar.proofs.Marks.{remarked, route, route-length, place_read, decode-marked, info-marked, direct-marked}
@@ -247,8 +246,8 @@ module _ (own : Address) (s : List ℕ) (z : numbered (relay_answer own s) ≡ 0
     bits = λ j h. rw (get_or-set_same s p (or_mark b) 0 within.1) (mark_bits b j h);
     clear = clear_before;
     mark = rw (get_or-set_same s p (or_mark b) 0 within.1) (mark-high b);
-    answer = ap (λ (x : Decoded). x.answer) read_again;
-    frame = ap (λ (x : Decoded). x.frame) read_again ∙ frame-again;
+    answer = ap (λ (x : Decoding). x.answer) read_again;
+    frame = ap (λ (x : Decoding). x.frame) read_again ∙ frame-again;
     info = rw read_again (info-marked Short s d.accepted i (or_mark b) d.inner (mark-low b));
     canonical = same-canonical o;
   })
@@ -257,10 +256,10 @@ module _ (own : Address) (s : List ℕ) (z : numbered (relay_answer own s) ≡ 0
   next : (due_place (decode Short t).frame ≡ suc i) × (broken (decode Short t).frame ≡ false)
   next =
       due_next f (decode Short t).frame _ d.whole d.inner within.0 (rw eight-places within.0) refl
-      (ap (λ (x : Decoded). x.frame.route) read_again) (ap (λ (x : Decoded). x.frame.route_count) read_again)
+      (ap (λ (x : Decoding). x.frame.route) read_again) (ap (λ (x : Decoding). x.frame.route_count) read_again)
 
   same_count : (decode Short t).frame.route_count ≡ f.route_count
-  same_count = ap (λ (x : Decoded). x.frame.route_count) read_again
+  same_count = ap (λ (x : Decoding). x.frame.route_count) read_again
 
   next_repeater : repeater_at (decode Short t).frame.route (suc i) ≡ repeater_at f.route (suc i)
   next_repeater = rw read_again (get_or-set_other f.route i (suc i) _ past (λ e. omega (arith, e)))

@@ -24,9 +24,8 @@ use Rattle.content.specs.declared.FrameContent.TheVariants as kind
 use Rattle.parse.specs.Content.{s_kind_of, s_of, ui_of, u_of, i_of, content_of}
 use Rattle.frame.specs.Frame.{no_entry, no_route, simple_ui, default_frame}
 use Rattle.frame.specs.declared.Ax25Frame.{Ax25Frame}
-use Rattle.decode.specs.Answer.{is_accepted, number_of as decode_number}
+use Rattle.decode.specs.Answer.{is_accepted, number_of as decode_number, DecodeAnswer}
 use Rattle.decode.specs.Read.{parsed_at, entry_at, place_at, route_at, frame_at, refused_with, accepted_with, with_content, decode_field, decode}
-use Rattle.decode.specs.declared.DecodeAnswer.{DecodeAnswer}
 use Rattle.decode.specs.declared.DecodeAnswer.TheVariants as read
 use Rattle.decode.proofs.Read.{zero-accepted}
 use Rattle.grammar.proofs.Numbers.{decode-rows}

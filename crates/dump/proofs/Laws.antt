@@ -20,7 +20,7 @@ use Rattle.words.specs.Room.{fitting}
 use Rattle.std.proofs.Common.{Some, None}
 use Rattle.octets.proofs.Choice.{by}
 use borrow.Author.Tests.{ltb-false}
-use Rattle.decode.specs.declared.DecodeAnswer.{DecodeAnswer}
+use Rattle.decode.specs.Answer.{DecodeAnswer}
 use Rattle.decode.specs.declared.DecodeAnswer.TheVariants as answer
 
 characters-append : (a b : List ℕ) → characters (a ++ b) ≡ characters a ++ characters b

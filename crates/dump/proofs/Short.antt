@@ -14,12 +14,10 @@ use Rattle.address.specs.declared.Address.{Address}
 use Rattle.printing.proofs.Laws.{used_le, trimmed-length}
 use Rattle.content.specs.declared.FrameContent.{FrameContent}
 use Rattle.control.specs.declared.Mode.TheVariants.{Short}
-use Rattle.decode.specs.Answer.{is_accepted, number_of}
-use Rattle.decode.specs.Read.{decode}
+use Rattle.decode.specs.Answer.{is_accepted, number_of, DecodeAnswer}
+use Rattle.decode.specs.Read.{decode, Decoding}
 use Rattle.frame.specs.Spell.{repeater_at}
 use Rattle.frame.specs.declared.Ax25Frame.{Ax25Frame}
-use Rattle.decode.specs.declared.Decoded.{Decoded}
-use Rattle.decode.specs.declared.DecodeAnswer.{DecodeAnswer}
 use Rattle.decode.specs.declared.DecodeAnswer.TheVariants as answer
 use Rattle.frame.specs.declared.RouteEntry.{RouteEntry}
 use Rattle.grammar.proofs.Plain.{Stations, stations, inside}
@@ -91,7 +89,7 @@ spellings-short c r =
     let b : List ℕ = ascii "reason=" ++ (reason_text r ++ ascii "\n") in
     omega (arith, length-append a b, line-long (ascii "canonical=") (yes_no c), line-long (ascii "reason=") (reason_text r), yes_no-short c, reason-short r)
 
-frame-short : (d : Decoded) (c : Bool) (r : Reason) → Stations d.frame → d.frame.route_count ≤ 8 → length (frame_text d c r) ≤ 512
+frame-short : (d : Decoding) (c : Bool) (r : Reason) → Stations d.frame → d.frame.route_count ≤ 8 → length (frame_text d c r) ≤ 512
 unfolding frame_text
 frame-short d c r p h =
     let a : List ℕ = ascii "answer=" ++ (decimal 0 ++ ascii "\n") in

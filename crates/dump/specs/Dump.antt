@@ -4,12 +4,10 @@ use Rattle.std.specs.Prelude.{ℕ, Bool, cond, List, [], ◌++◌, ltb, length}
 use Prim.Native.String.{String}
 use Rattle.control.specs.declared.Mode.TheVariants.{Short}
 use Rattle.content.specs.declared.FrameContent.{FrameContent}
-use Rattle.decode.specs.Answer.{number_of, is_accepted}
-use Rattle.decode.specs.Read.{decode}
+use Rattle.decode.specs.Answer.{number_of, is_accepted, DecodeAnswer}
+use Rattle.decode.specs.Read.{decode, Decoding}
 use Rattle.frame.specs.declared.Ax25Frame.{Ax25Frame}
-use Rattle.decode.specs.declared.DecodeAnswer.{DecodeAnswer}
 use Rattle.decode.specs.declared.DecodeAnswer.TheVariants as answer
-use Rattle.decode.specs.declared.Decoded.{Decoded}
 use Rattle.reason.specs.Reason.{reason_of}
 use Rattle.reason.specs.declared.Reason.{Reason}
 use Rattle.spelling.specs.Canonical.{canonical}
@@ -39,7 +37,7 @@ unfoldable pub spelling_lines : Bool → Reason → List ℕ
 spelling_lines c r = line "canonical=" (yes_no c) ++ line "reason=" (reason_text r)
 
 -- the lines of an accepted frame
-unfoldable pub frame_text : Decoded → Bool → Reason → List ℕ
+unfoldable pub frame_text : Decoding → Bool → Reason → List ℕ
 frame_text d c r =
     line "answer=" (decimal 0)
     ++ (station_lines d.frame ++ (content_lines d.frame.content ++ (line "info_length=" (decimal d.info_len) ++ spelling_lines c r)))
@@ -62,7 +60,7 @@ detail_text answer.MissingControlOctet = []
 unfoldable pub refusal_text : DecodeAnswer → List ℕ
 refusal_text a = line "answer=" (decimal (number_of a)) ++ detail_text a
 
-unfoldable pub decoded_text : Decoded → Bool → Reason → List ℕ
+unfoldable pub decoded_text : Decoding → Bool → Reason → List ℕ
 decoded_text d c r = cond (is_accepted d.answer) (frame_text d c r) (refusal_text d.answer)
 
 -- the whole: over 4,096 octets, answer 50 alone

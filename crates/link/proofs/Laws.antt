@@ -8,8 +8,7 @@ use Rattle.control.specs.declared.Mode.TheVariants.{Short}
 use Rattle.content.specs.declared.FrameContent.{FrameContent}
 use Rattle.frame.specs.declared.Ax25Frame.{Ax25Frame}
 use Rattle.decode.specs.Answer.{is_accepted}
-use Rattle.decode.specs.Read.{decode}
-use Rattle.decode.specs.declared.Decoded.{Decoded}
+use Rattle.decode.specs.Read.{decode, Decoding}
 use Rattle.link_record.specs.Record.{counted, refusal}
 use Rattle.link_record.specs.declared.Link.{Link}
 use Rattle.link_record.specs.declared.LinkAnswer.{LinkAnswer}
@@ -55,7 +54,7 @@ module _ (l : Link) (s : List ℕ) where
   sent_by e = rw e refl
 
 -- what is decoded, and what is refused
-module _ (l : Link) (d : Decoded) where
+module _ (l : Link) (d : Decoding) where
   pub offered_frame : is_accepted d.answer ≡ true → offered_to l d ≡ record { answer = Offered; link = followed l d.frame }
   unfolding offered_to
   offered_frame e = rw e refl

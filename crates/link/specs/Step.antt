@@ -5,8 +5,7 @@ use Rattle.address.specs.declared.Address.{Address}
 use Rattle.content.specs.declared.FrameContent.{FrameContent}
 use Rattle.frame.specs.declared.Ax25Frame.{Ax25Frame}
 use Rattle.decode.specs.Answer.{is_accepted}
-use Rattle.decode.specs.Read.{decode}
-use Rattle.decode.specs.declared.Decoded.{Decoded}
+use Rattle.decode.specs.Read.{decode, Decoding}
 use Rattle.hops.specs.Station.{same_station}
 use Rattle.link_record.specs.Record.{refusal}
 use Rattle.link_record.specs.declared.Link.{Link}
@@ -71,7 +70,7 @@ unfoldable pub followed : Link → Ax25Frame → Link
 followed l f = followed_by (sender_in l f) f.content l
 
 -- with what decoding gives in hand: its number, and only the number offered changes; or the frame
-unfoldable pub offered_to : Link → Decoded → Stepped
+unfoldable pub offered_to : Link → Decoding → Stepped
 offered_to l d =
     cond (is_accepted d.answer)
     (record { answer = Offered; link = followed l d.frame })

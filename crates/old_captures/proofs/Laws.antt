@@ -10,10 +10,8 @@ use Rattle.octets.specs.Octet.{bit}
 use Rattle.octets.proofs.Choice.{by}
 use Rattle.octets.proofs.First.{first_le, first_skip}
 use Rattle.control.specs.declared.Mode.{Mode}
-use Rattle.decode.specs.Answer.{report_of, number_of, is_accepted}
-use Rattle.decode.specs.Read.{nonzero, start_of, end_of, decode}
-use Rattle.decode.specs.declared.Decoded.{Decoded}
-use Rattle.decode.specs.declared.DecodeAnswer.{DecodeAnswer}
+use Rattle.decode.specs.Answer.{report_of, number_of, is_accepted, DecodeAnswer}
+use Rattle.decode.specs.Read.{nonzero, start_of, end_of, decode, Decoding}
 use Rattle.decode.specs.declared.DecodeAnswer.TheVariants as read
 use Rattle.decode.proofs.Read.{start_le_end}
 use Rattle.grammar.specs.Moved.{moved_answer, moved_info}
@@ -67,7 +65,7 @@ old_answer mode s = refl
 
 pub old-whole : (mode : Mode) (s : List ℕ) →
     let d = decode mode (drop (start_of s) s) in
-    ◌≡◌ {A = Decoded} (record {
+    ◌≡◌ {A = Decoding} (record {
       answer = moved_answer (start_of s) (length s) d.answer;
       frame = d.frame;
       info_start = moved_info (start_of s) d.info_start;

@@ -1,12 +1,12 @@
 use Rattle.std.proofs.Common.{◌≡◌, Bool, true, refl}
 use Rattle.decode.proofs.Read.{told-refused}
 use Rattle.decode.specs.Answer.{is_accepted}
-use Rattle.decode.specs.declared.Decoded.{Decoded}
+use Rattle.decode.specs.Read.{Decoding}
 use Rattle.reason.specs.declared.Reason.{Reason}
 use Rattle.dump.specs.Dump.{frame_text, decoded_text}
 use Rattle.dump.proofs.put_decoded.Goals as goal
 
-accepted : (d : Decoded) (c : Bool) (r : Reason) → is_accepted d.answer ≡ true → decoded_text d c r ≡ frame_text d c r
+accepted : (d : Decoding) (c : Bool) (r : Reason) → is_accepted d.answer ≡ true → decoded_text d c r ≡ frame_text d c r
 unfolding decoded_text
 accepted d c r e = rw e refl
 

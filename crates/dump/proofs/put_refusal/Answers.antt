@@ -1,7 +1,6 @@
 use Rattle.std.proofs.Common.{◌≡◌, ◌++◌, refl, ap}
 use Rattle.std.proofs.lemmas.List.{append_assoc}
-use Rattle.decode.specs.declared.DecodeAnswer.{DecodeAnswer}
-use Rattle.decode.specs.Answer.{number_of}
+use Rattle.decode.specs.Answer.{DecodeAnswer, number_of}
 use Rattle.words.specs.Ascii.{ascii}
 use Rattle.words.specs.Words.{decimal}
 use Rattle.words.proofs.Room.{cut_then}

@@ -1,8 +1,7 @@
 -- Only 3 and 4 have places.
 use mathlib.Core.Path.{refl, ap}
 use native.Mathlib.Omega.{arith}
-use Rattle.decode.specs.Answer.{report_of}
-use Rattle.decode.specs.declared.DecodeAnswer.{DecodeAnswer}
+use Rattle.decode.specs.Answer.{report_of, DecodeAnswer}
 use Rattle.old_captures.proofs.Laws.{told_placeless}
 use Rattle.old_captures.proofs.moved_answer.Goals as goal
 
