@@ -1,7 +1,7 @@
 -- Laws of reading that the functions' proofs share: a route with one repeater more, what the first octet says of the start, the start
 -- no later than the end, a refused content.
 use Prim.Native.Nat.{ℕ, zero, suc, ◌+◌, ◌*◌, ◌%◌, ◌/◌, ◌≤◌, ◌<◌}
-use mathlib.Core.Path.{◌≡◌, refl, ap, ◌∙◌}
+use mathlib.Core.Path.{◌≡◌, refl, ap, sym, ◌∙◌}
 use mathlib.Core.Bool.{true, false, false≢true, not}
 use Rattle.std.specs.Prelude.{Result, Ok, Err}
 use mathlib.Core.List.{List, [], ◌∷◌}
@@ -81,6 +81,10 @@ refused_err a x r e = rw (told_err a x r e) refl
 pub answer_accepted : (a : DecodeAnswer) → is_accepted a ≡ true → a ≡ Ok tt
 answer_accepted (Ok u) e = refl
 answer_accepted (Err r) e = absurd (false≢true e)
+
+pub answer_refused : (a : DecodeAnswer) → is_accepted a ≡ false → (r : DecodeError) × (a ≡ Err r)
+answer_refused (Ok u) e = absurd (false≢true (sym e))
+answer_refused (Err r) e = (r, refl)
 
 -- the number of an answer with a value
 pub number_with : {T : Type 0} (a : DecodeAnswer) (x : T) → number_by error_number (answer_with a x) ≡ number_of a
