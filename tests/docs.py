@@ -64,6 +64,10 @@ def crates():
 EXPORTS = {name: name[: -len('_c')] for name in crates() if name.endswith('_c') and name[: -len('_c')] in crates()}
 
 
+# The head of a block of methods: the trait, if it implements one, and the type.
+IMPL = re.compile(r'^impl(?:<.*?>)? (?:([\w:]+)(?:<\w+>)? for )?(\w+)(?:<.*?>)? \{$', re.M)
+
+
 def functions():
     """Every function of the libraries: (crate, type or None, name, public, its text from the head to the body)."""
     for path in sorted(glob.glob('crates/*/src/**/*.rt', recursive=True)):
@@ -72,8 +76,11 @@ def functions():
             continue
         text = re.sub(r'^\s*//.*$', '', read(path), flags=re.M)
         for head in re.finditer(r'^( *)(pub(?:\(crate\))? )?(?:extern "C" )?fn (\w+)(.*?)\{$', text, re.M | re.S):
-            before = re.findall(r'^impl (\w+) \{', text[: head.start()], re.M)
-            yield crate, before[-1] if head[1] and before else None, head[3], (head[2] or '').strip() == 'pub', head[4]
+            block = list(IMPL.finditer(text[: head.start()])) if head[1] else []
+            # What implements a trait is as public as the trait, and where it has no clauses its block says what the trait's are of this type.
+            trait, kind, rest = (block[-1][1], block[-1][2], text[block[-1].end() : head.start()]) if block else (None, None, '')
+            clauses = head[4] + (re.sub(r'\bghost \w+ = ', 'ensures ', rest) if trait and 'ensures' not in head[4] else '')
+            yield crate, kind, head[3], bool(trait) or (head[2] or '').strip() == 'pub', clauses
 
 
 def full(crate, kind, name):

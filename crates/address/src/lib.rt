@@ -12,15 +12,16 @@ pub const RESERVED_ONES: u8 = 3;
 // A source, destination or repeater. The callsign is padded at its end with spaces. The reserved bits, as a number from 0 to 3, are the
 // network's to use, and no part of who the station is. The layout is C's, which lends it two at a time, in the record of a link.
 #[repr(C)]
-#[derive(Clone, Copy)]
+#[derive(Clone, Copy, Debug, PartialEq, Eq)]
 pub struct Address {
     pub callsign: [u8; 6],
     pub ssid: u8,
     pub reserved: u8,
 }
 
-impl Address {
-    pub fn default() -> Address
+impl Default for Address {
+    #[tactic(auto, unfolding(crate::specs::Address::no_call))]
+    fn default() -> Address
         ensures { result ≡ no_call }
     {
         Address {
@@ -29,19 +30,15 @@ impl Address {
             reserved: RESERVED_ONES,
         }
     }
+}
 
+impl Address {
     // Whether writing and printing take it: four bits hold the SSID, two the reserved bits, and seven each character.
+    #[tactic(auto, unfolding(crate::specs::Address::encodable))]
     pub fn is_encodable(self) -> bool
         ensures { result ≡ encodable self }
     {
-        let callsign = self.callsign;
-        if self.ssid > 15 {
-            return false;
-        }
-        if self.reserved > 3 {
-            return false;
-        }
-        is_ascii(&callsign)
+        self.ssid <= 15 && self.reserved <= 3 && is_ascii(&self.callsign)
     }
 }
 
@@ -49,12 +46,5 @@ impl Address {
 pub fn is_ascii(text: &[u8]) -> bool
     ensures { result ≡ all low text.now }
 {
-    let mut i = 0;
-    while i < text.len() {
-        if text[i] >= 128 {
-            return false;
-        }
-        i += 1;
-    }
-    true
+    text.iter().all(|c| *c < 128)
 }

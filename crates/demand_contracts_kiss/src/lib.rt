@@ -3,9 +3,10 @@
 
 ghost use Rattle.std.specs.Prelude.{◌≡◌, ◌+◌, ◌*◌, ◌≤◌, take, length as list_length};
 ghost use Rattle.octets.specs.Splice.{splice};
+ghost use Rattle.octets.specs.Outcome.{number_by};
 ghost use Rattle.kiss.specs.Packet.{packet};
-ghost use Rattle.kiss.specs.Write.{number_of as write_number, write_answer, octets_written, written};
-ghost use Rattle.kiss_reading.specs.Answer.{number_of};
+ghost use Rattle.kiss.specs.Write.{number_of as write_number, octets_written, written};
+ghost use Rattle.kiss_reading.specs.Answer.{number_of, port_given, octets_given};
 ghost use Rattle.kiss_reading.specs.Read.{read_into};
 ghost use Rattle.octets.specs.Table.{FirstRow};
 ghost use Rattle.octets.specs.Lent.{starting};
@@ -18,9 +19,9 @@ pub fn read(input: &[u8], output: &mut [u8], port: &mut u8, length: &mut usize) 
     ensures port_after { (result ≡ 0 → ⊥) → (port.new ≡ 0) × (length.new ≡ 0) × (output.new ≡ output.old) }
     ensures port_bound { result ≡ 0 → (port.new ≤ 11) × (packet port.new (take length.new output.new) ≡ input.now)
         × (output.new ≡ starting (take length.new output.new) output.old) }
-    ensures output_after { (output.new ≡ splice output.old 0 (read_into input.now (list_length output.old)).octets)
-        × (port.new ≡ (read_into input.now (list_length output.old)).port)
-        × (length.new ≡ list_length (read_into input.now (list_length output.old)).octets) }
+    ensures output_after { (output.new ≡ splice output.old 0 (octets_given (read_into input.now (list_length output.old))))
+        × (port.new ≡ port_given (read_into input.now (list_length output.old)))
+        × (length.new ≡ list_length (octets_given (read_into input.now (list_length output.old)))) }
 {
     loader::ax25_kiss_read(input, output, port, length)
 }
@@ -45,13 +46,13 @@ pub fn read_back(
     from: &mut u8,
     length: &mut usize,
 ) -> u32
-    ensures value { write_number (write_answer port input.now (list_length line.old)) ≡ 0 → list_length input.now ≤ list_length output.old
+    ensures value { number_by write_number (written port input.now (list_length line.old)) ≡ 0 → list_length input.now ≤ list_length output.old
         → (result ≡ 0) × (from.new ≡ port) × (length.new ≡ list_length input.now) × (output.new ≡ starting input.now output.old) }
     ensures line_after { line.new ≡ splice line.old 0 (octets_written port input.now (list_length line.old)) }
-    ensures value_2 { (result ≡ number_of (read_into (take (written port input.now (list_length line.old)).length line.new) (list_length output.old)).answer)
-        × (output.new ≡ splice output.old 0 (read_into (take (written port input.now (list_length line.old)).length line.new) (list_length output.old)).octets)
-        × (from.new ≡ (read_into (take (written port input.now (list_length line.old)).length line.new) (list_length output.old)).port)
-        × (length.new ≡ list_length (read_into (take (written port input.now (list_length line.old)).length line.new) (list_length output.old)).octets) }
+    ensures value_2 { (result ≡ number_by number_of (read_into (take (list_length (octets_written port input.now (list_length line.old))) line.new) (list_length output.old)))
+        × (output.new ≡ splice output.old 0 (octets_given (read_into (take (list_length (octets_written port input.now (list_length line.old))) line.new) (list_length output.old))))
+        × (from.new ≡ port_given (read_into (take (list_length (octets_written port input.now (list_length line.old))) line.new) (list_length output.old)))
+        × (length.new ≡ list_length (octets_given (read_into (take (list_length (octets_written port input.now (list_length line.old))) line.new) (list_length output.old)))) }
 {
     loader::ax25_kiss_write(port, input, line, length);
     let n = *length;

@@ -1,24 +1,28 @@
 -- Each number of reading by the octets: it is that of the first condition that holds.
 use Prim.Native.Nat.{ℕ, suc, ◌+◌, ◌-◌}
 use mathlib.Core.Path.{◌≡◌, refl, ap, sym, ◌∙◌}
-use mathlib.Core.Bool.{true, false, true≢false, false≢true, cond, not, ◌&&◌, ◌||◌}
+use mathlib.Core.Bool.{Bool, true, false, false≢true, cond, not, ◌&&◌, ◌||◌}
 use mathlib.Core.List.{List, [], ◌∷◌}
 use native.Mathlib.Omega.{arith}
 use borrow.Author.Tests.{eqb-true, ne_eqb, ltb-true, ltb-false}
+use Rattle.std.specs.Prelude.{Result, Ok, Err}
 use lib.Dec.{eqb, ltb, eqb-suc-suc}
 use lib.ListN.{length, get_or, drop}
 use Rattle.octets.specs.Octet.{field}
 use Rattle.octets.specs.First.{first}
 use Rattle.octets.specs.Count.{count}
+use Rattle.octets.specs.Outcome.{number_by, measured}
 use Rattle.octets.proofs.Choice.{by}
+use Rattle.octets.proofs.Count.{count_le}
 use Rattle.escapes.specs.Escape.{fend, fesc, tfend, tfesc}
 use Rattle.kiss.specs.Packet.{last_port}
-use Rattle.kiss_reading.specs.Answer.{number_of, is_accepted, refused}
+use Rattle.kiss_reading.specs.Answer.{number_of, octets_given}
+use Rattle.kiss_reading.specs.Steps.{plus}
 use Rattle.kiss_reading.specs.Read.{more, heard, on_port, typed, type_escaped, opened, read_packet, read_into}
 use Rattle.demands_kiss.specs.Numbers.{is_fend, is_fesc, up_to, between, follows, stray, type_octet, no_opening, nothing, stray_type, not_data, port_over, stray_data, not_closed, short}
-use Rattle.kiss_reading.specs.declared.KissAnswer.{KissAnswer}
-use Rattle.kiss_reading.specs.declared.KissAnswer.TheVariants.{Accepted, NoOpening, Empty, BadEscape, NotData, PortTooHigh, NoClosing}
-use Rattle.kiss_reading.proofs.Judged.{typed_command, typed_port, typed_data, on-refused, on-accepted, into-refused, into-short, into_fits}
+use Rattle.kiss_reading.specs.declared.KissError.{KissError}
+use Rattle.kiss_reading.specs.declared.KissError.TheVariants.{NoOpening, Empty, BadEscape, NotData, PortTooHigh, NoClosing}
+use Rattle.kiss_reading.proofs.Judged.{more_measured, measured-refused, measured_ok, typed_command, typed_port, typed_data, on-accepted, into-refused, into-short, into_fits}
 use Rattle.demands_kiss.proofs.Spelling.{heard_close, heard-plain, heard_last, heard-tfend, heard-tfesc, heard-stray}
 
 -- ---- up to the next C0
@@ -43,22 +47,31 @@ unfolding count
 count-plain x l e = rw e refl
 
 -- ---- the data
--- what is heard, by the octets up to the next C0
-record Told (l : List ℕ) : Type 0 where
-  answer : (heard false l).answer ≡ cond (stray (up_to l)) BadEscape (cond (eqb (length l) (suc (length (up_to l)))) Accepted NoClosing)
-  long : stray (up_to l) ≡ false → length (heard false l).octets + count is_fesc (up_to l) ≡ length (up_to l)
+-- how much is heard, by the octets up to the next C0
+abbrev heard_by : List ℕ → Result ℕ KissError
+heard_by l =
+    cond (stray (up_to l)) (Err BadEscape)
+    (cond (eqb (length l) (suc (length (up_to l)))) (Ok (length (up_to l) - count is_fesc (up_to l))) (Err NoClosing))
+
+abbrev Told : List ℕ → Type 0
+Told l = measured (heard false l) ≡ heard_by l
 
 -- a stray DB
-told-stray : (l : List ℕ) → (heard false l).answer ≡ BadEscape → stray (up_to l) ≡ true → Told l
-told-stray l h e = record { answer = rw (h, e) refl; long = λ n. absurd (true≢false (sym e ∙ n)) }
+told-stray : (l : List ℕ) → heard false l ≡ Err BadEscape → stray (up_to l) ≡ true → Told l
+told-stray l h e = rw (h, e) refl
+
+-- one octet of data more
+one_more : (s c : Bool) (n m : ℕ) → m ≡ 1 + n
+    → plus 1 (cond s (Err BadEscape) (cond c (Ok n) (Err NoClosing))) ≡ cond s (Err BadEscape) (cond c (Ok m) (Err NoClosing))
+one_more true c n m e = refl
+one_more false true n m e = ap (λ (k : ℕ). Ok k) (sym e)
+one_more false false n m e = refl
 
 told-plain : (x : ℕ) (l : List ℕ) → is_fend x ≡ false → is_fesc x ≡ false → Told l → Told (x ∷ l)
 told-plain x l f e t =
-    let answer = t.answer in
-    record {
-      answer = rw (heard-plain x l f e, up_more x l f, stray-plain x (up_to l) e, eqb-suc-suc (length l) (suc (length (up_to l)))) answer;
-      long = λ n. rw (heard-plain x l f e, up_more x l f, count-plain x (up_to l) e) (omega (arith, t.long (rw (up_more x l f, stray-plain x (up_to l) e) at n)));
-    }
+    let u : List ℕ = up_to l in
+    rw (heard-plain x l f e, more_measured x (heard false l), t, up_more x l f, stray-plain x u e, count-plain x u e, eqb-suc-suc (length l) (suc (length u)))
+    (one_more (stray u) (eqb (length l) (suc (length u))) _ _ (omega (arith, count_le is_fesc u)))
 
 -- an escape
 told_two : (x y b : ℕ) (l : List ℕ) → is_fend x ≡ false → is_fesc x ≡ true → is_fend y ≡ false → is_fesc y ≡ false → (eqb y tfend || eqb y tfesc) ≡ true
@@ -71,10 +84,8 @@ told_two x y b l f e g d a h t =
     let many : count is_fesc (x ∷ (y ∷ u)) ≡ suc (count is_fesc u) = rw (e, d) refl in
     let ends : eqb (suc (suc (length l))) (suc (suc (suc (length u)))) ≡ eqb (length l) (suc (length u)) =
     eqb-suc-suc (suc (length l)) (suc (suc (length u))) ∙ eqb-suc-suc (length l) (suc (length u)) in
-    record {
-      answer = rw (h, up, whole, ends) t.answer;
-      long = λ n. rw (h, up, many) (omega (arith, t.long (rw (up, whole) at n)));
-    }
+    rw (h, more_measured b (heard false l), t, up, whole, many, ends)
+    (one_more (stray u) (eqb (length l) (suc (length u))) _ _ (omega (arith, count_le is_fesc u)))
 
 -- a DB that is none: what follows it up to the next C0 does not start with DC or DD
 not_behind : (y : ℕ) (l : List ℕ) → eqb y tfend ≡ false → eqb y tfesc ≡ false → follows (up_to (y ∷ l)) ≡ false
@@ -85,19 +96,16 @@ not_behind y l a b =
 
 told : (l : List ℕ) → Told l
 unfolding heard first stray count
-told [] = record { answer = refl; long = λ n. refl }
+told [] = refl
 told (x ∷ []) =
     by (is_fend x)
-    (λ f. record { answer = rw (heard_close x [] f, up_close x [] f) refl; long = λ n. rw (heard_close x [] f, up_close x [] f) refl })
+    (λ f. rw (heard_close x [] f, up_close x [] f) refl)
     (λ f. by (is_fesc x)
-    (λ e. told-stray (x ∷ []) (rw (heard_last x f e) refl) (rw (up_more x [] f) (stray_here x [] e refl)))
+    (λ e. told-stray (x ∷ []) (heard_last x f e) (rw (up_more x [] f) (stray_here x [] e refl)))
     (λ e. told-plain x [] f e (told [])))
 told (x ∷ y ∷ l) =
     by (is_fend x)
-    (λ f. record {
-      answer = rw (heard_close x (y ∷ l) f, up_close x (y ∷ l) f, ne_eqb (suc (suc (length l))) 1 (λ e. omega (arith, e))) refl;
-      long = λ n. rw (heard_close x (y ∷ l) f, up_close x (y ∷ l) f) refl;
-    })
+    (λ f. rw (heard_close x (y ∷ l) f, up_close x (y ∷ l) f, ne_eqb (suc (suc (length l))) 1 (λ e. omega (arith, e))) refl)
     (λ f. by (is_fesc x)
     (λ e. by (eqb y tfend)
     (λ a. let is : y ≡ tfend = eqb-true y tfend a in
@@ -105,7 +113,7 @@ told (x ∷ y ∷ l) =
     (λ a. by (eqb y tfesc)
     (λ b. let is : y ≡ tfesc = eqb-true y tfesc b in
     told_two x y fesc l f e (rw is refl) (rw is refl) (rw is refl) (heard-tfesc x y l f e a b) (told l))
-    (λ b. told-stray (x ∷ (y ∷ l)) (rw (heard-stray x y l f e a b) refl)
+    (λ b. told-stray (x ∷ (y ∷ l)) (heard-stray x y l f e a b)
     (rw (up_more x (y ∷ l) f) (stray_here x (up_to (y ∷ l)) e (not_behind y l a b))))))
     (λ e. told-plain x (y ∷ l) f e (told (y ∷ l))))
 
@@ -122,12 +130,12 @@ rows s room =
     (cond (short s room) 24 0)))))))
 
 -- a refusal stays one, whatever the room
-by-refusal : (s : List ℕ) (room : ℕ) (a : KissAnswer) → read_packet s ≡ refused a → is_accepted a ≡ false → number_of (read_into s room).answer ≡ number_of a
-by-refusal s room a h n = rw (into-refused s room (rw h n), h) refl
+by-refusal : (s : List ℕ) (room : ℕ) (a : KissError) → read_packet s ≡ Err a → number_by number_of (read_into s room) ≡ number_of a
+by-refusal s room a h = rw (into-refused s room a h) refl
 
 -- behind a type octet that stands for itself and that is of data on a port
 data-rows : (s : List ℕ) (room port : ℕ) (l : List ℕ) → read_packet s ≡ on_port port (heard false l)
-    → number_of (read_into s room).answer
+    → number_by number_of (read_into s room)
     ≡ cond (stray (up_to l)) 52
     (cond (not (eqb (length l) (suc (length (up_to l))))) 53
     (cond (ltb room (length (up_to l) - count is_fesc (up_to l))) 24 0))
@@ -135,18 +143,18 @@ data-rows s room port l h =
     let u : List ℕ = up_to l in
     let t = told l in
     by (stray u)
-    (λ e. let a : (heard false l).answer ≡ BadEscape = t.answer ∙ rw e refl in
-    rw e (by-refusal s room BadEscape (h ∙ on-refused port (heard false l) (rw a refl) ∙ ap refused a) refl))
+    (λ e. let a = measured-refused (heard false l) BadEscape (rw e at t) in
+    rw e (by-refusal s room BadEscape (h ∙ rw a refl)))
     (λ e. by (eqb (length l) (suc (length u)))
-    (λ c. let a : (heard false l).answer ≡ Accepted = t.answer ∙ rw (e, c) refl in
-    let g = h ∙ on-accepted port (heard false l) (rw a refl) in
-    let o : length (read_packet s).octets ≡ length u - count is_fesc u = rw g (omega (arith, t.long e)) in
+    (λ c. let a = measured_ok (heard false l) (length u - count is_fesc u) (rw (e, c) at t) in
+    let g = h ∙ on-accepted port (heard false l) a.0 in
+    let o : length (octets_given (read_packet s)) ≡ length u - count is_fesc u = rw g a.1 in
     rw (e, c, ← o)
-    (by (ltb room (length (read_packet s).octets))
+    (by (ltb room (length (octets_given (read_packet s))))
     (λ r. rw (r, into-short s room (ltb-true _ _ r)) refl)
     (λ r. rw (r, into_fits s room (ltb-false _ _ r), g) refl)))
-    (λ c. let a : (heard false l).answer ≡ NoClosing = t.answer ∙ rw (e, c) refl in
-    rw (e, c) (by-refusal s room NoClosing (h ∙ on-refused port (heard false l) (rw a refl) ∙ ap refused a) refl)))
+    (λ c. let a = measured-refused (heard false l) NoClosing (rw (e, c) at t) in
+    rw (e, c) (by-refusal s room NoClosing (h ∙ rw a refl))))
 
 module _ (x y : ℕ) (l : List ℕ) (room : ℕ) (a : is_fend x ≡ true) (b : is_fend y ≡ false) (c : is_fesc y ≡ false) where
   abbrev u : List ℕ
@@ -176,34 +184,34 @@ module _ (x y : ℕ) (l : List ℕ) (room : ℕ) (a : is_fend x ≡ true) (b : i
   unfolding read_packet opened
   read_is = simp (a, b, c)
 
-  plain_rows : number_of (read_into s room).answer ≡ rows s room
+  plain_rows : number_by number_of (read_into s room) ≡ rows s room
   plain_rows =
       by (eqb (field 0 4 y) 0)
       (λ e. by (ltb last_port (field 4 4 y))
-      (λ p. rw (plain_is, e, p) (by-refusal s room PortTooHigh (read_is ∙ typed_port y l e p) refl))
+      (λ p. rw (plain_is, e, p) (by-refusal s room PortTooHigh (read_is ∙ typed_port y l e p)))
       (λ p. rw (plain_is, e, p) (data-rows s room (field 4 4 y) l (read_is ∙ typed_data y l e p))))
-      (λ e. rw (plain_is, e) (by-refusal s room NotData (read_is ∙ typed_command y l e) refl))
+      (λ e. rw (plain_is, e) (by-refusal s room NotData (read_is ∙ typed_command y l e)))
 
 -- an escaped type octet: C0 is of port 12, and DB is of command 11
 escaped-rows : (x y : ℕ) (l : List ℕ) (room : ℕ) → is_fend x ≡ true → is_fend y ≡ false → is_fesc y ≡ true
-    → number_of (read_into (x ∷ (y ∷ l)) room).answer ≡ rows (x ∷ (y ∷ l)) room
+    → number_by number_of (read_into (x ∷ (y ∷ l)) room) ≡ rows (x ∷ (y ∷ l)) room
 unfolding read_packet opened type_escaped first type_octet
 escaped-rows x y [] room a b c =
-    rw (a, b, c) (by-refusal (x ∷ (y ∷ [])) room BadEscape (simp (a, b, c)) refl)
+    rw (a, b, c) (by-refusal (x ∷ (y ∷ [])) room BadEscape (simp (a, b, c)))
 escaped-rows x y (z ∷ l) room a b c =
     by (eqb z tfend)
     (λ d. let is : z ≡ tfend = eqb-true z tfend d in
-    rw (is, a, b, c) (by-refusal (x ∷ (y ∷ (tfend ∷ l))) room PortTooHigh (simp (a, b, c) (typed_port fend l refl refl)) refl))
+    rw (is, a, b, c) (by-refusal (x ∷ (y ∷ (tfend ∷ l))) room PortTooHigh (simp (a, b, c) (typed_port fend l refl refl))))
     (λ d. by (eqb z tfesc)
     (λ e. let is : z ≡ tfesc = eqb-true z tfesc e in
-    rw (is, a, b, c) (by-refusal (x ∷ (y ∷ (tfesc ∷ l))) room NotData (simp (a, b, c) (typed_command fesc l refl)) refl))
-    (λ e. let bad = by-refusal (x ∷ (y ∷ (z ∷ l))) room BadEscape (simp (a, b, c, d, e)) refl in
+    rw (is, a, b, c) (by-refusal (x ∷ (y ∷ (tfesc ∷ l))) room NotData (simp (a, b, c) (typed_command fesc l refl))))
+    (λ e. let bad = by-refusal (x ∷ (y ∷ (z ∷ l))) room BadEscape (simp (a, b, c, d, e)) in
     by (is_fend z)
     (λ f. rw (a, b, f, c) bad)
     (λ f. rw (a, b, f, c, d, e) bad)))
 
 pub read-rows : (s : List ℕ) (room : ℕ)
-    → number_of (read_into s room).answer
+    → number_by number_of (read_into s room)
     ≡ cond (no_opening s) 51
     (cond (nothing s) 55
     (cond (stray_type s) 52
@@ -213,19 +221,19 @@ pub read-rows : (s : List ℕ) (room : ℕ)
     (cond (not_closed s) 53
     (cond (short s room) 24 0)))))))
 unfolding read_packet opened first stray type_octet
-read-rows [] room = by-refusal [] room NoOpening refl refl
+read-rows [] room = by-refusal [] room NoOpening refl
 read-rows (x ∷ []) room =
     by (is_fend x)
-    (λ a. rw a (by-refusal (x ∷ []) room NoClosing (simp a) refl))
-    (λ a. rw a (by-refusal (x ∷ []) room NoOpening (simp a) refl))
+    (λ a. rw a (by-refusal (x ∷ []) room NoClosing (simp a)))
+    (λ a. rw a (by-refusal (x ∷ []) room NoOpening (simp a)))
 read-rows (x ∷ y ∷ l) room =
     by (is_fend x)
     (λ a. by (is_fend y)
-    (λ b. rw (a, b) (by-refusal (x ∷ (y ∷ l)) room Empty (simp (a, b)) refl))
+    (λ b. rw (a, b) (by-refusal (x ∷ (y ∷ l)) room Empty (simp (a, b))))
     (λ b. by (is_fesc y)
     (λ c. escaped-rows x y l room a b c)
     (λ c. plain_rows x y l room a b c)))
-    (λ a. rw a (by-refusal (x ∷ (y ∷ l)) room NoOpening (simp a) refl))
+    (λ a. rw a (by-refusal (x ∷ (y ∷ l)) room NoOpening (simp a)))
 
 -- the two rows of 52 are of one condition: a stray DB in the type octet's place is one before the closing C0
 stray-first : (l : List ℕ) → (is_fesc (get_or l 0 0) && not (follows (drop 1 l))) ≡ true → stray l ≡ true

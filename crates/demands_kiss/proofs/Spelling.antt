@@ -5,9 +5,11 @@ use mathlib.Core.Bool.{true, false, false≢true}
 use mathlib.Core.List.{List, [], ◌∷◌, ◌++◌}
 use native.Mathlib.Omega.{arith}
 use borrow.Author.Tests.{eqb-true, eq-eqb, ne_eqb, le-ltb}
+use Rattle.std.specs.Prelude.{Result, Ok, Err, is_ok}
 use lib.Dec.{eqb}
 use lib.ListN.{length, get_or, drop}
 use Rattle.octets.specs.Octet.{Octets, field}
+use Rattle.octets.specs.Outcome.{octets_of}
 use Rattle.octets.proofs.Choice.{by}
 use Rattle.octets.proofs.Octet.{octets-drop}
 use Rattle.octets.proofs.Count.{count_le}
@@ -15,13 +17,14 @@ use Rattle.escapes.specs.Escape.{fend, fesc, tfend, tfesc, escaped, special}
 use Rattle.kiss.specs.Packet.{type_of, last_port, packet}
 use Rattle.kiss.proofs.Laws.{escape-fend, escape-fesc, escape-plain, packet-length}
 use Rattle.kiss.proofs.Grammar.{escaped_none, escaped-cons, packet_is}
-use Rattle.kiss_reading.specs.Answer.{is_accepted, Given, accepted}
-use Rattle.kiss_reading.specs.Read.{Heard, ends, more, closed, heard, typed, opened, read_packet}
-use Rattle.kiss_reading.specs.declared.KissAnswer.TheVariants.{Accepted, BadEscape, NoRoom}
-use Rattle.kiss_reading.proofs.Judged.{accepted_read, typed_data, on-accepted, data-heard}
+use Rattle.kiss_reading.specs.Answer.{accepted, port_given, octets_given}
+use Rattle.kiss_reading.specs.Read.{more, closed, heard, typed, opened, read_packet}
+use Rattle.kiss_reading.specs.declared.KissError.{KissError}
+use Rattle.kiss_reading.specs.declared.KissError.TheVariants.{BadEscape}
+use Rattle.kiss_reading.proofs.Judged.{more_ok, more_octets, accepted_read, typed_data, on-accepted, data-heard}
 
 -- ---- what is heard, one octet of data at a time
-pub heard_close : (x : ℕ) (l : List ℕ) → eqb x fend ≡ true → heard false (x ∷ l) ≡ ends (closed l)
+pub heard_close : (x : ℕ) (l : List ℕ) → eqb x fend ≡ true → heard false (x ∷ l) ≡ closed l
 unfolding heard
 heard_close x l f = simp f
 
@@ -29,7 +32,7 @@ pub heard-plain : (x : ℕ) (l : List ℕ) → eqb x fend ≡ false → eqb x fe
 unfolding heard
 heard-plain x l f e = simp (f, e)
 
-pub heard_last : (x : ℕ) → eqb x fend ≡ false → eqb x fesc ≡ true → heard false (x ∷ []) ≡ ends BadEscape
+pub heard_last : (x : ℕ) → eqb x fend ≡ false → eqb x fesc ≡ true → heard false (x ∷ []) ≡ Err BadEscape
 unfolding heard
 heard_last x f e = simp (f, e)
 
@@ -44,13 +47,13 @@ unfolding heard
 heard-tfesc x y l f e a b = simp (f, e, a, b)
 
 pub heard-stray : (x y : ℕ) (l : List ℕ) → eqb x fend ≡ false → eqb x fesc ≡ true → eqb y tfend ≡ false → eqb y tfesc ≡ false
-    → heard false (x ∷ (y ∷ l)) ≡ ends BadEscape
+    → heard false (x ∷ (y ∷ l)) ≡ Err BadEscape
 unfolding heard
 heard-stray x y l f e a b = simp (f, e, a, b)
 
 -- ---- what was written is read
-abbrev whole : List ℕ → Heard
-whole s = record { answer = Accepted; octets = s }
+abbrev whole : List ℕ → Result (List ℕ) KissError
+whole s = Ok s
 
 abbrev behind : List ℕ → List ℕ
 behind s = escaped s ++ (fend ∷ [])
@@ -95,10 +98,16 @@ read-written port s h =
     ∙ rw (all, high) refl
 
 -- ---- nothing else is
-no : {A : Type 0} → is_accepted NoRoom ≡ true → A
+no : {A : Type 0} → false ≡ true → A
 no e = absurd (false≢true e)
 
-heard_only : (l : List ℕ) → is_accepted (heard false l).answer ≡ true → behind (heard false l).octets ≡ l
+-- one more octet is heard of what is accepted
+on : (b : ℕ) (l : List ℕ) → is_ok (more b (heard false l)) ≡ true → (is_ok (heard false l) ≡ true) × (octets_of (more b (heard false l)) ≡ b ∷ octets_of (heard false l))
+on b l a =
+    let h : is_ok (heard false l) ≡ true = sym (more_ok b (heard false l)) ∙ a in
+    (h, more_octets b (heard false l) h)
+
+heard_only : (l : List ℕ) → is_ok (heard false l) ≡ true → behind (octets_of (heard false l)) ≡ l
 unfolding heard
 heard_only [] a = no a
 heard_only (x ∷ []) a =
@@ -113,16 +122,19 @@ heard_only (x ∷ y ∷ l) a =
     (λ f. by (eqb x fesc)
     (λ e. by (eqb y tfend)
     (λ c. let t = heard-tfend x y l f e c in
-    rw (t, behind-fend fend (heard false l).octets refl, heard_only l (rw t at a), eqb-true x fesc e, eqb-true y tfend c) refl)
+    let k = on fend l (rw t at a) in
+    rw (t, k.1, behind-fend fend (octets_of (heard false l)) refl, heard_only l k.0, eqb-true x fesc e, eqb-true y tfend c) refl)
     (λ c. by (eqb y tfesc)
     (λ d. let t = heard-tfesc x y l f e c d in
-    rw (t, behind-fesc fesc (heard false l).octets refl refl, heard_only l (rw t at a), eqb-true x fesc e, eqb-true y tfesc d) refl)
+    let k = on fesc l (rw t at a) in
+    rw (t, k.1, behind-fesc fesc (octets_of (heard false l)) refl refl, heard_only l k.0, eqb-true x fesc e, eqb-true y tfesc d) refl)
     (λ d. no (rw (heard-stray x y l f e c d) at a))))
     (λ e. let t = heard-plain x (y ∷ l) f e in
-    rw (t, behind-plain x (heard false (y ∷ l)).octets f e) (ap (λ (z : List ℕ). x ∷ z) (heard_only (y ∷ l) (rw t at a)))))
+    let k = on x (y ∷ l) (rw t at a) in
+    rw (t, k.1, behind-plain x (octets_of (heard false (y ∷ l))) f e) (ap (λ (z : List ℕ). x ∷ z) (heard_only (y ∷ l) k.0))))
 
-pub only : (s : List ℕ) → Octets s → is_accepted (read_packet s).answer ≡ true
-    → ((read_packet s).port ≤ last_port) × (packet (read_packet s).port (read_packet s).octets ≡ s)
+pub only : (s : List ℕ) → Octets s → is_ok (read_packet s) ≡ true
+    → (port_given (read_packet s) ≤ last_port) × (packet (port_given (read_packet s)) (octets_given (read_packet s)) ≡ s)
 only s o h =
     let r = accepted_read s h in
     let kind : ℕ = r.kind in
@@ -132,15 +144,16 @@ only s o h =
     let data_is = heard_only r.rest r.good in
     rw r.gives (
       r.port,
-      packet_is (field 4 4 kind) (heard false r.rest).octets ∙ rw (type, data_is) (sym r.is),
+      packet_is (field 4 4 kind) (octets_of (heard false r.rest)) ∙ rw (type, data_is) (sym r.is),
     )
 
 -- ---- octets are read from octets
-octets-more : (b : ℕ) (h : Heard) → b < 256 → Octets h.octets → Octets (more b h).octets
-octets-more b h l o zero = l
-octets-more b h l o (suc k) = o k
+octets-more : (b : ℕ) (h : Result (List ℕ) KissError) → b < 256 → Octets (octets_of h) → Octets (octets_of (more b h))
+octets-more b (Ok s) l o zero = l
+octets-more b (Ok s) l o (suc k) = o k
+octets-more b (Err e) l o k = o k
 
-heard-octets : (l : List ℕ) → Octets l → Octets (heard false l).octets
+heard-octets : (l : List ℕ) → Octets l → Octets (octets_of (heard false l))
 unfolding heard
 heard-octets [] o = o
 heard-octets (x ∷ []) o =
@@ -148,10 +161,10 @@ heard-octets (x ∷ []) o =
     (λ f. rw (heard_close x [] f) (λ k. omega arith))
     (λ f. by (eqb x fesc)
     (λ e. rw (heard_last x f e) (λ k. omega arith))
-    (λ e. rw (heard-plain x [] f e) o))
+    (λ e. rw (heard-plain x [] f e) (λ k. omega arith)))
 heard-octets (x ∷ y ∷ l) o =
     let rest = octets-drop (x ∷ (y ∷ l)) 1 o in
-    let h : Heard = heard false l in
+    let h : Result (List ℕ) KissError = heard false l in
     by (eqb x fend)
     (λ f. rw (heard_close x (y ∷ l) f) (λ k. omega arith))
     (λ f. by (eqb x fesc)
@@ -163,18 +176,18 @@ heard-octets (x ∷ y ∷ l) o =
     (λ b. rw (heard-stray x y l f e a b) (λ k. omega arith))))
     (λ e. rw (heard-plain x (y ∷ l) f e) (octets-more x (heard false (y ∷ l)) (o 0) (heard-octets (y ∷ l) rest))))
 
-pub data-octets : (s : List ℕ) → Octets s → is_accepted (read_packet s).answer ≡ true → Octets (read_packet s).octets
+pub data-octets : (s : List ℕ) → Octets s → is_ok (read_packet s) ≡ true → Octets (octets_given (read_packet s))
 data-octets s o h = rw (data-heard s h).1 (heard-octets (drop 2 s) (octets-drop s 2 o))
 
 -- ---- so each packet has one spelling, and each spelling is of one packet
-pub one-packet : (s t : List ℕ) → Octets s → Octets t → is_accepted (read_packet s).answer ≡ true → is_accepted (read_packet t).answer ≡ true
-    → (read_packet s).port ≡ (read_packet t).port → (read_packet s).octets ≡ (read_packet t).octets → s ≡ t
+pub one-packet : (s t : List ℕ) → Octets s → Octets t → is_ok (read_packet s) ≡ true → is_ok (read_packet t) ≡ true
+    → port_given (read_packet s) ≡ port_given (read_packet t) → octets_given (read_packet s) ≡ octets_given (read_packet t) → s ≡ t
 one-packet s t o p a b e f = sym (only s o a).1 ∙ rw (e, f) (only t p b).1
 
 pub packet_one : (p q : ℕ) (s t : List ℕ) → p ≤ last_port → q ≤ last_port → packet p s ≡ packet q t → (p ≡ q) × (s ≡ t)
 packet_one p q s t h k e =
     let same : accepted p s ≡ accepted q t = sym (read-written p s h) ∙ ap read_packet e ∙ read-written q t k in
-    (ap (λ (g : Given). g.port) same, ap (λ (g : Given). g.octets) same)
+    (ap port_given same, ap octets_given same)
 
 -- ---- its length
 pub packet-most : (port : ℕ) (s : List ℕ) → length (packet port s) ≤ 2 * length s + 3

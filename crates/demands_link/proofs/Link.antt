@@ -37,11 +37,10 @@ use Rattle.link_record.specs.declared.LinkAnswer.{LinkAnswer}
 use Rattle.link_record.specs.declared.LinkAnswer.TheVariants as answer
 use Rattle.link_record.proofs.Laws.{takes, Sound, not-unsound, sound-number, unsound_is, counted_is, fresh_a, fresh_b, fresh-offered, fresh-counted, fresh_sound, refused_station, refused_equal, refused-unsound, refused_full, takes_one}
 use Rattle.link_frame.specs.Frame.{acknowledged, verdict_of, event_of, heard_of}
-use Rattle.link_frame.specs.declared.Event.TheVariants.{Nothing}
 use Rattle.link_frame.proofs.Laws.{is_numbered}
 use Rattle.link.specs.Step.{is_from_to, sender_in, followed, offered_to, step_of}
-use Rattle.link.specs.declared.Sender.{Sender}
-use Rattle.link.specs.declared.Sender.TheVariants.{A, B, Neither}
+use Rattle.link_frame.specs.declared.Side.{Side}
+use Rattle.std.proofs.Common.{Option, Some, None}
 use Rattle.link.specs.declared.Stepped.{Stepped}
 use Rattle.link.proofs.Laws.{sender_a, sender_b, sender_neither, offered_frame, offered-refused, step-refused, step-offered, Counting, is_sent, followed_counting, refused_counting, followed_others, followed-nothing}
 use Rattle.demands.specs.Numbers.{decode_table}
@@ -93,10 +92,9 @@ sent l f =
     (λ y. ap is_sent (sender_b l f x y) ∙ rw (x, y) refl)
     (λ y. ap is_sent (sender_neither l f x y) ∙ rw (x, y) refl))
 
-unsent : (p : Sender) → is_sent p ≡ false → p ≡ Neither
-unsent A e = absurd (true≢false e)
-unsent B e = absurd (true≢false e)
-unsent Neither e = refl
+unsent : (p : Option Side) → is_sent p ≡ false → p ≡ None
+unsent (Some from) e = absurd (true≢false e)
+unsent None e = refl
 
 numbered_kind : (k : FrameContent) → is_numbered (event_of k) ≡ eqb (kind_of k) 0
 numbered_kind (kind.Information k) = refl
@@ -115,7 +113,7 @@ numbered_kind (kind.ExchangeIdentification k) = refl
 numbered_kind (kind.Test k) = refl
 numbered_kind kind.UnknownContent = refl
 
-not-followed : (k : FrameContent) → is_followed (kind_of k) ≡ false → event_of k ≡ Nothing
+not-followed : (k : FrameContent) → is_followed (kind_of k) ≡ false → event_of k ≡ None
 not-followed (kind.Information k) e = absurd (true≢false e)
 not-followed (kind.ReceiveReady k) e = refl
 not-followed (kind.ReceiveNotReady k) e = refl

@@ -7,15 +7,18 @@ use mathlib.Core.Logic.{inr}
 use native.Mathlib.Numerals.{add-one}
 use native.Mathlib.Omega.{arith}
 use borrow.Author.Tests.{eqb-true, eq-eqb, ltb-true, ltb-false, lt-ltb, le-ltb, le-leb, lt-leb}
+use Rattle.std.specs.Prelude.{Result, Ok, Err, is_ok}
 use lib.Dec.{eqb, ltb, leb}
 use lib.ListN.{length, get_or, set, take, length-set}
 use lib.Seq.{take-suc-set, append_snoc}
 use Rattle.octets.specs.Octet.{field}
-use Rattle.octets.proofs.Choice.{by, both, and_false}
+use Rattle.octets.specs.Outcome.{octets_of}
+use Rattle.octets.proofs.Choice.{by, both}
+use Rattle.kiss_reading.specs.declared.KissError.{KissError}
 use Rattle.escapes.specs.Escape.{fend, fesc, tfend, tfesc}
 use Rattle.kiss.specs.Packet.{last_port}
-use Rattle.kiss_reading.specs.Answer.{is_accepted, Given, accepted}
-use Rattle.kiss_reading.specs.Read.{Heard, more, heard, on_port, read_packet}
+use Rattle.kiss_reading.specs.Answer.{Reading, accepted, octets_given}
+use Rattle.kiss_reading.specs.Read.{more, heard, on_port, read_packet}
 use Rattle.kiss_reading.proofs.Judged.{Read, accepted_read, read_opened, opened-typed, typed_data, on-accepted, on-refused}
 use Rattle.demands_kiss.proofs.Spelling.{heard_close, heard-plain, heard-tfend, heard-tfesc, heard-stray}
 use Rattle.kiss_state.specs.declared.Head.{Head}
@@ -126,19 +129,19 @@ pub record Opened (s : Stream) : Type 0 where
   pub phase : s.head.phase ≡ opened
 
 -- what comes of octets that end with C0, from a state with so many dropped: a packet, or one more dropped
-record Ends (d : ℕ) (good : Bool) (g : Given) (r : Run) : Type 0 where
+record Ends (d : ℕ) (good : Bool) (g : Reading) (r : Run) : Type 0 where
   packets : r.packets ≡ cond good (g ∷ []) []
   dropped : r.stream.head.dropped ≡ cond good d (counted_of d)
   opens : Opened r.stream
 
 -- nothing more comes of a packet that is dropped
-spoiled-ends : (t : List ℕ) (o : List ℕ) (d : ℕ) (g : Given) → length o ≡ room → NoFend t → Ends d false g (run_of (spoiled o d) (t ++ (fend ∷ [])))
+spoiled-ends : (t : List ℕ) (o : List ℕ) (d : ℕ) (g : Reading) → length o ≡ room → NoFend t → Ends d false g (run_of (spoiled o d) (t ++ (fend ∷ [])))
 unfolding run_of
 spoiled-ends [] o d g a q = rw (drop_opens o 0 0 (counted_of d) []) (record { packets = refl; dropped = refl; opens = record { array = a; phase = refl } })
 spoiled-ends (x ∷ t) o d g a q = rw (drops o 0 0 (counted_of d) x (t ++ (fend ∷ [])) q.0) (spoiled-ends t o d g a q.1)
 
 -- nor of one whose type octet is escaped, whatever it stands for
-type-ends : (t : List ℕ) (o : List ℕ) (n p d : ℕ) (g : Given) → length o ≡ room → NoFend t → Ends d false g (run_of (at in_type o n p d) (t ++ (fend ∷ [])))
+type-ends : (t : List ℕ) (o : List ℕ) (n p d : ℕ) (g : Reading) → length o ≡ room → NoFend t → Ends d false g (run_of (at in_type o n p d) (t ++ (fend ∷ [])))
 unfolding run_of
 type-ends [] o n p d g a q =
     rw (stray_opens in_type o n p d fend [] (type_strays o n p d fend) refl)
@@ -147,42 +150,42 @@ type-ends (x ∷ t) o n p d g a q =
     rw (stray_in in_type o n p d x (t ++ (fend ∷ [])) (type_strays o n p d x) q.0) (spoiled-ends t o d g a q.1)
 
 -- what is heard of the data, and what comes of it behind n octets
-abbrev fits : ℕ → Heard → Bool
-fits n h = is_accepted h.answer && leb (n + length h.octets) room
+abbrev fits : ℕ → Result (List ℕ) KissError → Bool
+fits n h = is_ok h && leb (n + length (octets_of h)) room
 
 -- n octets of data are there, and so many more are heard
-abbrev Data : (o : List ℕ) (n p d : ℕ) → Heard → Run → Type 0
-Data o n p d h r = Ends d (fits n h) (accepted p (take n o ++ h.octets)) r
+abbrev Data : (o : List ℕ) (n p d : ℕ) → Result (List ℕ) KissError → Run → Type 0
+Data o n p d h r = Ends d (fits n h) (accepted p (take n o ++ octets_of h)) r
 
-too_many : (n k : ℕ) (a : Bool) → room ≤ n → (a && leb (n + suc k) room) ≡ false
-too_many n k a r = rw (lt-leb (n + suc k) room (omega arith)) (and_false a)
+too_many : (n k : ℕ) → room ≤ n → leb (n + suc k) room ≡ false
+too_many n k r = lt-leb (n + suc k) room (omega arith)
 
 -- an octet of data, and what comes behind it
 module _ (z : ℕ) (o : List ℕ) (n p d : ℕ) (k : List ℕ) (r : Run) (array : length o ≡ room) where
-  one_data : n < room → r ≡ run_of (at in_data (set o n z) (n + 1) p d) k
-      → Data (set o n z) (n + 1) p d (heard false k) (run_of (at in_data (set o n z) (n + 1) p d) k) → Data o n p d (more z (heard false k)) r
-  one_data l e w =
-      let g : List ℕ = (heard false k).octets in
+  one_data : (h : Result (List ℕ) KissError) → n < room → r ≡ run_of (at in_data (set o n z) (n + 1) p d) k
+      → Data (set o n z) (n + 1) p d h (run_of (at in_data (set o n z) (n + 1) p d) k) → Data o n p d (more z h) r
+  one_data (Ok g) l e w =
       let long : n + 1 + length g ≡ n + length (z ∷ g) = omega arith in
       let taken : take (n + 1) (set o n z) ≡ take n o ++ (z ∷ []) = rw add-one (take-suc-set o n z (omega arith)) in
       let whole-data : take (n + 1) (set o n z) ++ g ≡ take n o ++ (z ∷ g) = rw taken (append_snoc (take n o) z g) in
       rw e (rw (long, whole-data) at w)
+  one_data (Err x) l e w = rw e (record { packets = w.packets; dropped = w.dropped; opens = w.opens })
 
-  one_too_many : room ≤ n → r ≡ run_of (spoiled o d) k → Ends d false (accepted p (take n o ++ (z ∷ (heard false k).octets))) (run_of (spoiled o d) k)
-      → Data o n p d (more z (heard false k)) r
-  one_too_many l e w =
-      rw (e, too_many n (length (heard false k).octets) (is_accepted (heard false k).answer) l) w
+  one_too_many : (h : Result (List ℕ) KissError) → room ≤ n → r ≡ run_of (spoiled o d) k → ((g : Reading) → Ends d false g (run_of (spoiled o d) k))
+      → Data o n p d (more z h) r
+  one_too_many (Ok g) l e v = rw (e, too_many n (length g) l) (v _)
+  one_too_many (Err x) l e v = rw e (v _)
 
 stored : (f z b : ℕ) (o : List ℕ) (n p d : ℕ) (k : List ℕ) → length o ≡ room → move_of (head_of n p f d) b ≡ put_of (head_of n p f d) z
     → (n < room → Data (set o n z) (n + 1) p d (heard false k) (run_of (at in_data (set o n z) (n + 1) p d) k))
-    → ((g : Given) → Ends d false g (run_of (spoiled o d) k))
+    → ((g : Reading) → Ends d false g (run_of (spoiled o d) k))
     → Data o n p d (more z (heard false k)) (run_of (at f o n p d) (b ∷ k))
 stored f z b o n p d k array is w v =
     by (ltb n room)
     (λ e. let l = ltb-true n room e in
-    one_data z o n p d k _ array l (put_in f o n p d b k z is l) (w l))
+    one_data z o n p d k _ array (heard false k) l (put_in f o n p d b k z is l) (w l))
     (λ e. let l = ltb-false n room e in
-    one_too_many z o n p d k _ array l (put_full f o n p d b k z is l) (v _))
+    one_too_many z o n p d k _ array (heard false k) l (put_full f o n p d b k z is l) v)
 
 -- the data up to its closing C0
 data-ends : (l : List ℕ) (o : List ℕ) (n p d : ℕ) → length o ≡ room → n ≤ room → NoFend l
@@ -207,7 +210,7 @@ data-ends (x ∷ y ∷ l) o n p d a r q =
     let k : List ℕ = l ++ (fend ∷ []) in
     let rest : (z : ℕ) → n < room → Data (set o n z) (n + 1) p d (heard false k) (run_of (at in_data (set o n z) (n + 1) p d) k) =
     λ z m. data-ends l (set o n z) (n + 1) p d (length-set o n z ∙ a) (omega (arith, m)) q.1.1 in
-    let spoilt-rest : (g : Given) → Ends d false g (run_of (spoiled o d) k) = λ g. spoiled-ends l o d g a q.1.1 in
+    let spoilt-rest : (g : Reading) → Ends d false g (run_of (spoiled o d) k) = λ g. spoiled-ends l o d g a q.1.1 in
     by (eqb x fesc)
     (λ e. rw (data_escape o n p d x (y ∷ k) q.0 e)
     (by (eqb y tfend)
@@ -222,8 +225,8 @@ data-ends (x ∷ y ∷ l) o n p d a r q =
 
 -- ---- what stands between two C0
 -- what is not accepted
-not_read : (s : List ℕ) → (Read s → ⊥) → is_accepted (read_packet s).answer ≡ false
-not_read s f = by (is_accepted (read_packet s).answer) (λ a. absurd (f (accepted_read s a))) (λ a. a)
+not_read : (s : List ℕ) → (Read s → ⊥) → is_ok (read_packet s) ≡ false
+not_read s f = by (is_ok (read_packet s)) (λ a. absurd (f (accepted_read s a))) (λ a. a)
 
 -- the type octet of what is
 kind_is : (x y : ℕ) (l : List ℕ) (r : Read (x ∷ (y ∷ l))) → r.kind ≡ y
@@ -237,15 +240,15 @@ module _ (x : ℕ) (l : List ℕ) (f : eqb x fend ≡ false) (e : eqb x fesc ≡
   read_is : read_packet s ≡ on_port (field 4 4 x) (heard false l)
   read_is = read_opened s (omega arith) refl ∙ opened-typed s (omega arith) f e ∙ typed_data x l c q
 
-  heard-whole : (is_accepted (read_packet s).answer && leb (length (read_packet s).octets) room) ≡ fits 0 (heard false l)
+  heard-whole : (is_ok (read_packet s) && leb (length (octets_given (read_packet s))) room) ≡ fits 0 (heard false l)
   heard-whole =
-      by (is_accepted (heard false l).answer)
-      (λ a. let k : 0 + length (heard false l).octets ≡ length (heard false l).octets = omega arith in
+      by (is_ok (heard false l))
+      (λ a. let k : 0 + length (octets_of (heard false l)) ≡ length (octets_of (heard false l)) = omega arith in
       rw (read_is, on-accepted (field 4 4 x) (heard false l) a, a, k) refl)
       (λ a. rw (read_is, on-refused (field 4 4 x) (heard false l) a, a) refl)
 
   -- and where it is given out, it is the packet
-  heard-packet : fits 0 (heard false l) ≡ true → accepted (field 4 4 x) (heard false l).octets ≡ read_packet s
+  heard-packet : fits 0 (heard false l) ≡ true → accepted (field 4 4 x) (octets_of (heard false l)) ≡ read_packet s
   heard-packet w = sym (read_is ∙ on-accepted (field 4 4 x) (heard false l) (both _ _ w).0)
 
 -- what comes of it: given out, passed over or counted
@@ -254,14 +257,14 @@ pub record Closed (d : ℕ) (t : List ℕ) (r : Run) : Type 0 where
   pub dropped : r.stream.head.dropped ≡ cond (spoilt t) (counted_of d) d
   pub opens : Opened r.stream
 
-ended : (d x : ℕ) (t : List ℕ) (good : Bool) (g : Given) (r : Run) → whole (x ∷ t) ≡ good → (good ≡ true → g ≡ read_packet (own (x ∷ t)))
+ended : (d x : ℕ) (t : List ℕ) (good : Bool) (g : Reading) (r : Run) → whole (x ∷ t) ≡ good → (good ≡ true → g ≡ read_packet (own (x ∷ t)))
     → Ends d good g r → Closed d (x ∷ t) r
 ended d x t true g r w same e =
     record { packets = e.packets ∙ rw (w, same refl) refl; dropped = e.dropped ∙ rw w refl; opens = e.opens }
 ended d x t false g r w same e = record { packets = e.packets ∙ rw w refl; dropped = e.dropped ∙ rw w refl; opens = e.opens }
 
-spoilt-closed : (d x : ℕ) (t : List ℕ) (r : Run) → is_accepted (read_packet (own (x ∷ t))).answer ≡ false
-    → ((g : Given) → Ends d false g r) → Closed d (x ∷ t) r
+spoilt-closed : (d x : ℕ) (t : List ℕ) (r : Run) → is_ok (read_packet (own (x ∷ t))) ≡ false
+    → ((g : Reading) → Ends d false g r) → Closed d (x ∷ t) r
 spoilt-closed d x t r n e = ended d x t false (accepted 0 []) r (rw n refl) (λ f. absurd (false≢true f)) (e _)
 
 closed_at : (t : List ℕ) (o : List ℕ) (n p d : ℕ) → length o ≡ room → NoFend t → Closed d t (run_of (at opened o n p d) (t ++ (fend ∷ [])))
@@ -272,7 +275,7 @@ closed_at [] o n p d a q =
 closed_at (x ∷ t) o n p d a q =
     let k : List ℕ = t ++ (fend ∷ []) in
     let f = q.0 in
-    let dropped : (g : Given) → Ends d false g (run_of (spoiled o d) k) = λ g. spoiled-ends t o d g a q.1 in
+    let dropped : (g : Reading) → Ends d false g (run_of (spoiled o d) k) = λ g. spoiled-ends t o d g a q.1 in
     by (eqb x fesc)
     (λ e. let command : Read (own (x ∷ t)) → ⊥ = λ r. omega (arith, rw (kind_is fend x k r, eqb-true x fesc e) at r.command) in
     spoilt-closed d x t _ (not_read _ command) (λ g. rw (opened_escape o n p d x k f e) (type-ends t o n p d g a q.1)))
@@ -280,7 +283,7 @@ closed_at (x ∷ t) o n p d a q =
     (λ c. by (ltb last_port (field 4 4 x))
     (λ u. let port : Read (own (x ∷ t)) → ⊥ = λ r. omega (arith, ltb-true last_port (field 4 4 x) u, rw (kind_is fend x k r) at r.port) in
     spoilt-closed d x t _ (not_read _ port) (λ g. rw (opened_port o n p d x k f e c u) (dropped g)))
-    (λ u. ended d x t (fits 0 (heard false k)) (accepted (field 4 4 x) (heard false k).octets) _ (heard-whole x k f e c u) (heard-packet x k f e c u)
+    (λ u. ended d x t (fits 0 (heard false k)) (accepted (field 4 4 x) (octets_of (heard false k))) _ (heard-whole x k f e c u) (heard-packet x k f e c u)
     (rw (opened_data o n p d x k f e c u) (data-ends t o 0 (field 4 4 x) d a (omega arith) q.1))))
     (λ c. let command : Read (own (x ∷ t)) → ⊥ = λ r. false≢true (sym c ∙ eq-eqb _ _ (rw (kind_is fend x k r) at r.command)) in
     spoilt-closed d x t _ (not_read _ command) (λ g. rw (opened_command o n p d x k f e c) (dropped g))))

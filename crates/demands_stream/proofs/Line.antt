@@ -6,16 +6,16 @@ use mathlib.Core.List.{List, [], ◌∷◌, ◌++◌, append_assoc, append-nil}
 use mathlib.Core.Logic.{◌⊎◌, inl, inr}
 use native.Mathlib.Omega.{arith}
 use borrow.Author.Tests.{eqb-true, ltb-true, ltb-false, lt-ltb, le-ltb, le-leb, leb-true}
+use Rattle.std.specs.Prelude.{is_ok}
 use lib.Dec.{eqb, ltb}
 use lib.ListN.{length, length-set}
 use lib.Seq.{append_snoc}
 use Rattle.octets.specs.Count.{count}
 use Rattle.octets.proofs.Choice.{by, either, both}
 use Rattle.escapes.specs.Escape.{fend, fesc, tfend, tfesc}
-use Rattle.kiss_reading.specs.Answer.{is_accepted, Given}
+use Rattle.kiss_reading.specs.Answer.{Reading, octets_given}
 use Rattle.kiss_reading.specs.Read.{heard, read_packet}
-use Rattle.kiss_reading.specs.declared.KissAnswer.TheVariants.{NoRoom}
-use Rattle.kiss_reading.proofs.Judged.{accepted_read}
+use Rattle.kiss_reading.proofs.Judged.{more_ok, accepted_read}
 use Rattle.demands_kiss.proofs.Spelling.{heard_close, heard-plain, heard_last, heard-tfend, heard-tfesc, heard-stray}
 use Rattle.kiss_state.specs.declared.Head.{Head}
 use Rattle.kiss_state.specs.State.{room, outside, opened, in_data, in_escape, in_type}
@@ -208,7 +208,7 @@ record Closes (l : List ℕ) : Type 0 where
   is : l ≡ before ++ (fend ∷ [])
   plain : NoFend before
 
-no : {A : Type 0} → is_accepted NoRoom ≡ true → A
+no : {A : Type 0} → false ≡ true → A
 no e = absurd (false≢true e)
 
 other : (x y : ℕ) → eqb x y ≡ true → eqb y fend ≡ false → eqb x fend ≡ false
@@ -217,7 +217,7 @@ other x y e f = rw (eqb-true x y e) f
 one_more : (x : ℕ) (l : List ℕ) → eqb x fend ≡ false → Closes l → Closes (x ∷ l)
 one_more x l f c = record { before = x ∷ c.before; is = ap (λ (z : List ℕ). x ∷ z) c.is; plain = (f, c.plain) }
 
-heard_closes : (l : List ℕ) → is_accepted (heard false l).answer ≡ true → Closes l
+heard_closes : (l : List ℕ) → is_ok (heard false l) ≡ true → Closes l
 unfolding heard
 heard_closes [] a = no a
 heard_closes (x ∷ []) a =
@@ -231,13 +231,13 @@ heard_closes (x ∷ y ∷ l) a =
     (λ f. no (rw (heard_close x (y ∷ l) f) at a))
     (λ f. by (eqb x fesc)
     (λ e. by (eqb y tfend)
-    (λ c. one_more x (y ∷ l) f (one_more y l (other y tfend c refl) (heard_closes l (rw (heard-tfend x y l f e c) at a))))
+    (λ c. one_more x (y ∷ l) f (one_more y l (other y tfend c refl) (heard_closes l (sym (more_ok fend (heard false l)) ∙ (rw (heard-tfend x y l f e c) at a)))))
     (λ c. by (eqb y tfesc)
-    (λ d. one_more x (y ∷ l) f (one_more y l (other y tfesc d refl) (heard_closes l (rw (heard-tfesc x y l f e c d) at a))))
+    (λ d. one_more x (y ∷ l) f (one_more y l (other y tfesc d refl) (heard_closes l (sym (more_ok fesc (heard false l)) ∙ (rw (heard-tfesc x y l f e c d) at a)))))
     (λ d. no (rw (heard-stray x y l f e c d) at a))))
-    (λ e. one_more x (y ∷ l) f (heard_closes (y ∷ l) (rw (heard-plain x (y ∷ l) f e) at a))))
+    (λ e. one_more x (y ∷ l) f (heard_closes (y ∷ l) (sym (more_ok x (heard false (y ∷ l))) ∙ (rw (heard-plain x (y ∷ l) f e) at a)))))
 
-pub accepted-own : (t : List ℕ) → is_accepted (read_packet t).answer ≡ true → Packet t
+pub accepted-own : (t : List ℕ) → is_ok (read_packet t) ≡ true → Packet t
 accepted-own t a =
     let r = accepted_read t a in
     let c = heard_closes r.rest r.good in
@@ -250,13 +250,13 @@ accepted-own t a =
     })
 
 -- it is whole where it has room
-inside-whole : (t : List ℕ) (k : Packet t) → is_accepted (read_packet t).answer ≡ true → length (read_packet t).octets ≤ room → whole k.inside ≡ true
+inside-whole : (t : List ℕ) (k : Packet t) → is_ok (read_packet t) ≡ true → length (octets_given (read_packet t)) ≤ room → whole k.inside ≡ true
 inside-whole t k a r = rw (sym k.is) (rw a (le-leb _ _ r))
 
 -- WHATEVER CAME BEFORE IT: a packet that M-103 accepts, with at most 1,024 octets of data, is given out at its closing C0, and from its
 -- opening C0 on nothing else is given out and nothing is counted
-module _ (s : Stream) (l t : List ℕ) (array : length s.octets ≡ room) (a : is_accepted (read_packet t).answer ≡ true)
-    (r : length (read_packet t).octets ≤ room) where
+module _ (s : Stream) (l t : List ℕ) (array : length s.octets ≡ room) (a : is_ok (read_packet t) ≡ true)
+    (r : length (octets_given (read_packet t)) ≤ room) where
   k : Packet t
   k = accepted-own t a
 
@@ -278,7 +278,7 @@ module _ (s : Stream) (l t : List ℕ) (array : length s.octets ≡ room) (a : i
   nothing_lost =
       let c = closed before.stream k.inside opens k.plain in
       ap (λ (x : Run). x.packets) parts
-      ∙ ap (λ (x : List Given). before.packets ++ x) (c.packets ∙ rw (inside-whole t k a r) (ap (λ (x : List ℕ). read_packet x ∷ []) (sym k.is)))
+      ∙ ap (λ (x : List Reading). before.packets ++ x) (c.packets ∙ rw (inside-whole t k a r) (ap (λ (x : List ℕ). read_packet x ∷ []) (sym k.is)))
 
   pub nothing-counted : (run_of s (l ++ t)).stream.head.dropped ≡ (run_of s (l ++ (fend ∷ []))).stream.head.dropped
   nothing-counted =
@@ -314,18 +314,18 @@ fresh_run [] s k q = refl
 fresh_run (x ∷ l) s k q = ap (λ (r : Run). r.stream) (skip_run s x l k.phase q.0) ∙ fresh_run l s k q.1
 
 -- what is given out at an octet: M-103 reads it of the octets from the packet's opening C0 to this one, and it has at most 1,024 octets
-pub record Given-out (l : List ℕ) (b : ℕ) (g : Given) : Type 0 where
+pub record Given-out (l : List ℕ) (b : ℕ) (g : Reading) : Type 0 where
   pub before : List ℕ
   pub packet : List ℕ
   pub is : l ++ (b ∷ []) ≡ before ++ packet
   pub reads : read_packet packet ≡ g
-  pub accepts : is_accepted (read_packet packet).answer ≡ true
-  pub fits : length g.octets ≤ room
+  pub accepts : is_ok (read_packet packet) ≡ true
+  pub fits : length (octets_given g) ≤ room
 
-one-given : (w : Bool) (g p : Given) → g ∷ [] ≡ cond w (p ∷ []) [] → (w ≡ true) × (p ≡ g)
-one-given true g p e = (refl, sym (ap (λ (l : List Given). first_of l g) e))
+one-given : (w : Bool) (g p : Reading) → g ∷ [] ≡ cond w (p ∷ []) [] → (w ≡ true) × (p ≡ g)
+one-given true g p e = (refl, sym (ap (λ (l : List Reading). first_of l g) e))
   where
-    first_of : List Given → Given → Given
+    first_of : List Reading → Reading → Reading
     first_of [] d = d
     first_of (x ∷ l) d = x
 one-given false g p e = absurd (omega (arith, ap length e))
@@ -367,5 +367,5 @@ given-own s l b k g = at_last (since_last l)
           is = ap (λ (x : List ℕ). x ++ (fend ∷ [])) c.is ∙ append_assoc c.before (fend ∷ c.inside) (fend ∷ []);
           reads = one.1;
           accepts = good.0;
-          fits = rw one.1 at (leb-true (length (read_packet (own c.inside)).octets) room good.1);
+          fits = rw one.1 at (leb-true (length (octets_given (read_packet (own c.inside)))) room good.1);
         })

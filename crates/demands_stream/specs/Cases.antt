@@ -1,6 +1,6 @@
 -- The settled cases: lines, and what comes of each.
 use Rattle.std.specs.Prelude.{ℕ, List, [], ◌∷◌, replicate}
-use Rattle.kiss_reading.specs.Answer.{Given, accepted}
+use Rattle.kiss_reading.specs.Answer.{Reading, accepted}
 use Rattle.kiss_state.specs.declared.Stream.{Stream}
 use Rattle.kiss_state.specs.State.{room, outside, opened, in_data, in_escape, dropping, in_type, head_of, stream_of}
 use Rattle.demands_stream.specs.Run.{run_of}
@@ -15,7 +15,7 @@ full = stream_of (replicate room 0x41) (head_of room 3 in_data 0)
 
 -- what comes of a line: the packets, the count and the phase
 pub record Outcome : Type 0 where
-  pub packets : List Given
+  pub packets : List Reading
   pub dropped : ℕ
   pub phase : ℕ
 
@@ -25,7 +25,7 @@ outcome (s, l) = record { packets = (run_of s l).packets; dropped = (run_of s l)
 abbrev pub fresh : List ℕ → Stream × List ℕ
 fresh l = (fresh_with 0, l)
 
-abbrev pub comes : List Given → ℕ → ℕ → Outcome
+abbrev pub comes : List Reading → ℕ → ℕ → Outcome
 comes g d f = record { packets = g; dropped = d; phase = f }
 
 abbrev pub stream_cases : List ((Stream × List ℕ) × Outcome)

@@ -1,7 +1,7 @@
 -- A line as the packets that stand on it, without any state: it is cut at each C0, and M-103's reader reads what stands between two.
-use Rattle.std.specs.Prelude.{ℕ, Bool, false, cond, not, ◌&&◌, List, [], ◌∷◌, ◌++◌, eqb, leb, ltb, length}
+use Rattle.std.specs.Prelude.{ℕ, Bool, false, cond, not, ◌&&◌, List, [], ◌∷◌, ◌++◌, is_ok, eqb, leb, ltb, length}
 use Rattle.escapes.specs.Escape.{fend}
-use Rattle.kiss_reading.specs.Answer.{is_accepted, Given}
+use Rattle.kiss_reading.specs.Answer.{Reading, octets_given}
 use Rattle.kiss_reading.specs.Read.{read_packet}
 use Rattle.kiss_state.specs.State.{room}
 
@@ -11,7 +11,7 @@ own t = fend ∷ (t ++ (fend ∷ []))
 
 -- it is given out: M-103 accepts it, and it has at most 1,024 octets of data
 abbrev pub whole : List ℕ → Bool
-whole t = is_accepted (read_packet (own t)).answer && leb (length (read_packet (own t)).octets) room
+whole t = is_ok (read_packet (own t)) && leb (length (octets_given (read_packet (own t)))) room
 
 -- or it is passed over, where it is nothing; or else dropped
 abbrev pub spoilt : List ℕ → Bool
@@ -29,7 +29,7 @@ cut_at_fend [] = []
 cut_at_fend (x ∷ l) = cond (eqb x fend) (between [] l) (cut_at_fend l)
 
 -- the packets given out, in their order
-unfoldable pub given_out : List (List ℕ) → List Given
+unfoldable pub given_out : List (List ℕ) → List Reading
 given_out [] = []
 given_out (t ∷ ts) = cond (whole t) (read_packet (own t) ∷ given_out ts) (given_out ts)
 

@@ -1,16 +1,16 @@
 -- A whole line, octet after octet: every packet that is given out, and the state at the end. No call is in it, and no piece.
 use Rattle.std.specs.Prelude.{ℕ, Bool, true, false, List, [], ◌∷◌, ◌++◌, take}
-use Rattle.kiss_reading.specs.Answer.{Given, accepted}
+use Rattle.kiss_reading.specs.Answer.{Reading, accepted}
 use Rattle.kiss_state.specs.declared.Stream.{Stream}
 use Rattle.kiss_state.specs.State.{settled}
 use Rattle.kiss_octet.specs.Step.{step_of, gives}
 
 pub record Run : Type 0 where
-  pub packets : List Given
+  pub packets : List Reading
   pub stream : Stream
 
 -- the packet that a state holds, as M-103's reader would give it
-abbrev pub packet_in : Stream → Given
+abbrev pub packet_in : Stream → Reading
 packet_in s = accepted s.head.port (take s.head.length s.octets)
 
 -- that packet, where it is given out, and what comes after it

@@ -1,4 +1,4 @@
--- The texts of several addresses, part by part.
+-- The texts of several addresses, part by part; and what is written.
 use Prim.Native.Nat.{ℕ, zero, suc, ◌+◌, ◌≤◌, ◌<◌}
 use mathlib.Core.Path.{◌≡◌, refl, sym, ◌∙◌}
 use mathlib.Core.Bool.{cond}
@@ -15,9 +15,10 @@ use Rattle.words.specs.Ascii.{ascii}
 use Rattle.words.specs.Words.{character}
 use Rattle.dump.specs.Text.{characters, entry_text, route_text}
 use Rattle.dump.specs.Dump.{detail_text, dumped}
-use Rattle.dump.specs.declared.DumpAnswer.TheVariants.{Done, NoRoom}
+use Rattle.dump.specs.declared.DumpError.TheVariants.{NoRoom}
+use Rattle.octets.specs.Outcome.{length_of}
 use Rattle.words.specs.Room.{fitting}
-use Rattle.std.proofs.Common.{Some, None}
+use Rattle.std.proofs.Common.{ok_or}
 use Rattle.octets.proofs.Choice.{by}
 use borrow.Author.Tests.{ltb-false}
 use Rattle.decode.specs.declared.DecodeError.{DecodeError}
@@ -63,18 +64,13 @@ no_details error.FrameRejectInLongMode h k = refl
 no_details error.MissingControlOctet h k = refl
 
 -- what is written where there is room for a text, and where there is not
-pub done : (room : ℕ) (t : List ℕ) (n : ℕ) → Some n ≡ fitting room t → (record { answer = Done; length = n } ≡ dumped t room) × (n ≤ room)
+pub written : (room : ℕ) (t : List ℕ) → ok_or (fitting room t) NoRoom ≡ dumped t room
 unfolding fitting dumped
-done room t n q =
-    by (ltb room (length t))
-    (λ e. let none : Some n ≡ None = rw e at q in absurd (cc))
-    (λ e. let one : Some n ≡ Some (length t) = rw e at q in
-    let n_is : n ≡ length t = cc in
-    (rw (e, n_is) refl, rw n_is (ltb-false room (length t) e)))
+written room t = by (ltb room (length t)) (λ e. rw e refl) (λ e. rw e refl)
 
-pub no_room : (room : ℕ) (t : List ℕ) → None ≡ fitting room t → record { answer = NoRoom; length = 0 } ≡ dumped t room
-unfolding fitting dumped
-no_room room t q =
+pub within : (room : ℕ) (t : List ℕ) → length_of (dumped t room) ≤ room
+unfolding dumped
+within room t =
     by (ltb room (length t))
-    (λ e. rw e refl)
-    (λ e. let some : None ≡ Some (length t) = rw e at q in absurd (cc))
+    (λ e. rw e (omega arith))
+    (λ e. rw e (ltb-false room (length t) e))

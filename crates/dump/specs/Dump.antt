@@ -1,6 +1,6 @@
 -- What the dumper prints (document 01, Loader calls and dumper): key=value lines in a fixed order. It reads in the short mode. No number is
 -- over 4,096, so `decimal`, the last five digits, shows all of each.
-use Rattle.std.specs.Prelude.{ℕ, Bool, cond, Result, Ok, Err, List, [], ◌++◌, ltb, length}
+use Rattle.std.specs.Prelude.{ℕ, Bool, cond, List, [], ◌++◌, Result, Ok, Err, ltb, length}
 use Prim.Native.String.{String}
 use Rattle.control.specs.declared.Mode.TheVariants.{Short}
 use Rattle.content.specs.declared.FrameContent.{FrameContent}
@@ -16,9 +16,8 @@ use Rattle.spelling.specs.Canonical.{canonical}
 use Rattle.words.specs.Ascii.{ascii}
 use Rattle.words.specs.Words.{decimal, mark_text, kind_text, control_text, pid_text, yes_no, reason_text}
 use Rattle.dump.specs.Text.{address_text, route_text}
-use Rattle.dump.specs.declared.DumpAnswer.{DumpAnswer}
-use Rattle.dump.specs.declared.DumpAnswer.TheVariants.{Done, NoRoom}
-use Rattle.dump.specs.declared.Dumped.{Dumped}
+use Rattle.dump.specs.declared.DumpError.{DumpError}
+use Rattle.dump.specs.declared.DumpError.TheVariants.{NoRoom}
 
 -- a key, its value and a line feed
 abbrev pub line : String → List ℕ → List ℕ
@@ -69,11 +68,9 @@ decoded_text (Err e) c r = refusal_text e
 unfoldable pub dump_text : List ℕ → List ℕ
 dump_text s = cond (ltb 4096 (length s)) (line "answer=" (decimal 50)) (decoded_text (outcome (decode Short s)) (canonical Short s) (reason_of Short s))
 
--- all of it where there is room, else 24
-unfoldable pub dumped : List ℕ → ℕ → Dumped
-dumped text room =
-    cond (ltb room (length text)) (record { answer = NoRoom; length = 0 }) (record { answer = Done; length = length text })
+-- all of it where there is room, and its length; else 24
+unfoldable pub dumped : List ℕ → ℕ → Result ℕ DumpError
+dumped text room = cond (ltb room (length text)) (Err NoRoom) (Ok (length text))
 
-abbrev pub dump_number : DumpAnswer → ℕ
-dump_number Done = 0
+abbrev pub dump_number : DumpError → ℕ
 dump_number NoRoom = 24

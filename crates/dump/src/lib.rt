@@ -2,6 +2,7 @@
 #![tactic(auto)]
 
 ghost use Rattle.std.specs.Prelude.{◌≡◌, true, ◌++◌, ◌≤◌, length};
+ghost use Rattle.octets.specs.Outcome.{length_of};
 ghost use Rattle.octets.specs.Splice.{splice};
 ghost use Rattle.words.specs.Room.{cut};
 ghost use Rattle.dump.specs.Dump.{station_lines, content_lines, spelling_lines, frame_text, refusal_text, dump_text, dumped, dump_number};
@@ -16,26 +17,18 @@ use words::page::Page;
 
 mod append; // append.rt: addresses and a route
 
-#[derive(Clone, Copy)]
-pub enum DumpAnswer {
-    Done,
+// Why nothing is written.
+#[derive(Clone, Copy, Debug, PartialEq, Eq)]
+pub enum DumpError {
     NoRoom,
 }
 
-// How many octets of the output are the text.
-#[derive(Clone, Copy)]
-pub struct Dumped {
-    pub answer: DumpAnswer,
-    pub length: usize,
-}
+impl Numbered for DumpError {
+    ghost number_of = { dump_number };
 
-impl DumpAnswer {
-    pub fn number(self) -> u32
-        ensures { result ≡ dump_number self }
-    {
+    fn number(self) -> u32 {
         match self {
-            DumpAnswer::Done => 0,
-            DumpAnswer::NoRoom => 24,
+            DumpError::NoRoom => 24,
         }
     }
 }
@@ -115,22 +108,13 @@ fn put_dump(page: &mut Page<512>, input: &[u8])
     }
 }
 
-// The text, written at the start of `out`. Where there is no room for all of it, `out` is left alone.
-pub fn dump(input: &[u8], out: &mut [u8]) -> Dumped
+// The text, written at the start of `out`; gives its length. Where there is no room for all of it, `out` is left alone.
+pub fn dump(input: &[u8], out: &mut [u8]) -> Result<usize, DumpError>
     ensures value { result ≡ dumped (dump_text input.now) (length out.old) }
     ensures out_after { out.new ≡ splice out.old 0 (dump_text input.now) }
-    ensures length_in_bounds { result.length ≤ length out.new }
+    ensures length_in_bounds { length_of result ≤ length out.new }
 {
     let mut page = Page::new();
     put_dump(&mut page, input);
-    match page.write_to(out) {
-        Some(length) => Dumped {
-            answer: DumpAnswer::Done,
-            length,
-        },
-        None => Dumped {
-            answer: DumpAnswer::NoRoom,
-            length: 0,
-        },
-    }
+    page.write_to(out).ok_or(DumpError::NoRoom)
 }

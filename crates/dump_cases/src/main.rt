@@ -13,9 +13,9 @@ pub(crate) fn show(output: Stdout, text: &[u8]) {
 
 fn shown(output: Stdout, input: &[u8]) {
     let mut text = [0u8; 512];
-    let dumped = dump::dump(input, &mut text);
-    let length = dumped.length;
-    show(output, &text[..length]);
+    if let Ok(length) = dump::dump(input, &mut text) {
+        show(output, &text[..length]);
+    }
     show(output, b"\n");
 }
 
@@ -34,22 +34,16 @@ fn behind(output: Stdout, front: &[u8], octets: &[u8]) {
     shown(output, &input[..n]);
 }
 
-fn count(octet: u8) -> usize {
-    octet as usize
-}
-
 // A list of octets, each behind those in front: how many they are, and the octets.
 fn each(output: Stdout, front: &[u8], list: &[u8]) {
-    let mut at = 0;
-    while at < list.len() {
-        let n = count(list[at]);
-        let start = at + 1;
-        if list.len() - start < n {
+    let mut rest = list;
+    // A while loop: each turn goes as far as the list says.
+    while let Some((n, octets)) = rest.split_first() {
+        let Some((octets, next)) = octets.split_at_checked(*n as usize) else {
             return;
-        }
-        let end = start + n;
-        behind(output, front, &list[start..end]);
-        at = end;
+        };
+        behind(output, front, octets);
+        rest = next;
     }
 }
 

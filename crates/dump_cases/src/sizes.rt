@@ -1,5 +1,7 @@
 // Long inputs, and buffers that are short, exactly full and longer.
 use super::{show, shown};
+use answer::Numbered;
+use dump::DumpError;
 use std::io::{Print, Stdout};
 
 fn show_field(output: Stdout, name: &[u8], n: usize) {
@@ -47,21 +49,9 @@ fn far(output: Stdout) {
     shown(output, &bare);
 }
 
-// Whether every octet is 0xAA.
-fn untouched(out: &[u8]) -> bool {
-    let mut i = 0;
-    while i < out.len() {
-        if out[i] != 0xAA {
-            return false;
-        }
-        i += 1;
-    }
-    true
-}
-
-// Whether what lies beyond the text is as it was.
+// Whether what lies beyond the text is as it was: 0xAA.
 fn show_rest(output: Stdout, n: usize, rest: &[u8]) {
-    if !untouched(rest) {
+    if rest.iter().any(|b| *b != 0xAA) {
         show(output, b"\n");
         return;
     }
@@ -72,10 +62,9 @@ fn show_rest(output: Stdout, n: usize, rest: &[u8]) {
     show(output, b" untouched after it\n");
 }
 
-fn told(output: Stdout, dumped: dump::Dumped, out: &[u8]) {
-    let answer = dumped.answer;
-    let n = dumped.length;
-    show_field(output, b" answer=", answer.number() as usize);
+fn told(output: Stdout, dumped: Result<usize, DumpError>, out: &[u8]) {
+    let n = dumped.unwrap_or(0);
+    show_field(output, b" answer=", dumped.number() as usize);
     show_field(output, b" length=", n);
     if n <= out.len() {
         show_rest(output, n, &out[n..]);

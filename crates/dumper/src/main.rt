@@ -27,7 +27,7 @@ fn main(rt: HostRuntime) {
     let n = read_full(rt.stdin(), &mut input);
     // All that is ever printed fits.
     let mut text = [0u8; 512];
-    let dumped = dump::dump(&input[..n], &mut text);
-    let length = dumped.length;
-    let _ = rt.stdout().write_all(&text[..length]);
+    if let Ok(length) = dump::dump(&input[..n], &mut text) {
+        let _ = rt.stdout().write_all(&text[..length]);
+    }
 }

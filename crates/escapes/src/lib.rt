@@ -69,7 +69,7 @@ fn first_special(bytes: &[u8]) -> Option<usize>
 }
 
 // How many octets at the start stand for themselves: the place of the first C0 or DB, or the length.
-fn plain_len(bytes: &[u8]) -> usize
+pub fn plain_len(bytes: &[u8]) -> usize
     ensures { result ≡ first special bytes.now }
 {
     let mut passed = 0;

@@ -8,8 +8,9 @@ use borrow.Author.Tests.{eq-eqb, ne_eqb, lt-ltb, le-ltb}
 use lib.Dec.{eqb}
 use lib.ListN.{length, length-append}
 use Rattle.link.specs.Step.{step_of, sender_of}
-use Rattle.link.specs.declared.Sender.{Sender}
-use Rattle.link.specs.declared.Sender.TheVariants.{A, B, Neither}
+use Rattle.link_frame.specs.declared.Side.{Side}
+use Rattle.link_frame.specs.declared.Side.TheVariants.{A, B}
+use Rattle.std.proofs.Common.{Option, Some, None}
 use Rattle.link_record.specs.Record.{number_of}
 use Rattle.octets.proofs.Choice.{either}
 use Rattle.link_record.specs.declared.Link.{Link}
@@ -70,11 +71,11 @@ pub answer_short : (n : ℕ) → length (answer_text n) ≤ 32
 unfolding answer_text
 answer_short n = either (λ (t : List ℕ). length t ≤ 32) (eqb n 0) (λ _. omega arith) (λ _. omega (arith, line-short (ascii "answer=") n))
 
-from-short : (s : Sender) → length (from_text s) ≤ 8
-from-short A = omega arith
-from-short B = omega arith
-from-short Neither = omega arith
+from-short : (s : Option Side) → length (from_text s) ≤ 8
+from-short (Some A) = omega arith
+from-short (Some B) = omega arith
+from-short None = omega arith
 
-pub gap_short : (place : ℕ) (s : Sender) → length (gap_line place s) ≤ 32
+pub gap_short : (place : ℕ) (s : Option Side) → length (gap_line place s) ≤ 32
 gap_short place s =
     omega (arith, length-append (ascii "gap=") (decimal place ++ from_text s), length-append (decimal place) (from_text s), decimal-short place, from-short s)

@@ -1,5 +1,5 @@
 -- What `follow` prints of a recorded link (document 02, M-112): of the two texts that name its stations, of each frame, and at the end.
-use Rattle.std.specs.Prelude.{ℕ, Bool, true, false, cond, List, [], ◌++◌, eqb, ltb}
+use Rattle.std.specs.Prelude.{ℕ, Bool, true, false, cond, List, [], ◌++◌, Option, Some, None, eqb, ltb}
 use Rattle.text.specs.Text.{address_number_of, read_text}
 use Rattle.text.specs.declared.AddressAnswer.{AddressAnswer}
 use Rattle.link_record.specs.Record.{number_of, fresh}
@@ -7,8 +7,8 @@ use Rattle.link_record.specs.declared.Link.{Link}
 use Rattle.link_record.specs.declared.LinkAnswer.{LinkAnswer}
 use Rattle.link_record.specs.declared.LinkAnswer.TheVariants.{Offered, NotEncodable, EqualStations, Unsound, Full, Refused}
 use Rattle.link.specs.Step.{step_of, sender_of}
-use Rattle.link.specs.declared.Sender.{Sender}
-use Rattle.link.specs.declared.Sender.TheVariants.{A, B, Neither}
+use Rattle.link_frame.specs.declared.Side.{Side}
+use Rattle.link_frame.specs.declared.Side.TheVariants.{A, B}
 use Rattle.words.specs.Ascii.{ascii}
 use Rattle.words.specs.Words.{decimal, line}
 use Rattle.words.specs.Room.{behind}
@@ -51,13 +51,13 @@ stops Full = true
 stops (Refused a) = false
 
 -- whose frame it is, by the argument that names its sender. Of others' frames none is a gap
-abbrev pub from_text : Sender → List ℕ
-from_text A = ascii " from=A\n"
-from_text B = ascii " from=B\n"
-from_text Neither = ascii "\n"
+abbrev pub from_text : Option Side → List ℕ
+from_text (Some A) = ascii " from=A\n"
+from_text (Some B) = ascii " from=B\n"
+from_text None = ascii "\n"
 
 -- a gap, by its place among the frames, counted from 1, and its sender
-abbrev pub gap_line : ℕ → Sender → List ℕ
+abbrev pub gap_line : ℕ → Option Side → List ℕ
 gap_line place sender = ascii "gap=" ++ (decimal place ++ from_text sender)
 
 -- a frame that is a gap is one that makes the gaps more; its place is the number offered behind it

@@ -6,7 +6,7 @@ ghost use Rattle.octets.specs.Splice.{splice};
 ghost use Rattle.words.specs.Room.{behind};
 ghost use Rattle.following.specs.Following.{answer_text, refused_by, begin_text, begun, stops, from_text, gap_line, gap_text, offered_text, follow_text, followed, totals_text};
 
-use link::Sender;
+use link_frame::Side;
 use link_record::{Link, LinkAnswer};
 use text::AddressAnswer;
 use words::page::Page;
@@ -56,17 +56,11 @@ pub fn begin(a: &[u8], b: &[u8], out: &mut [u8]) -> Begun
 {
     let first = text::from_str(a);
     let second = text::from_str(b);
-    let answer = first.answer;
-    let other = second.answer;
-    let number = refused_by(answer, other);
-    let station = first.address;
-    let partner = second.address;
-    let link = link_record::fresh(station, partner);
-    let length = put_answer(out, number);
+    let number = refused_by(first.answer, second.answer);
     Begun {
         ready: number == 0,
-        link,
-        length,
+        link: link_record::fresh(first.address, second.address),
+        length: put_answer(out, number),
     }
 }
 
@@ -77,17 +71,17 @@ fn stops(answer: LinkAnswer) -> bool
 }
 
 // Whose frame a gap is, behind its place.
-fn from(sender: Sender) -> &'static [u8]
+fn from(sender: Option<Side>) -> &'static [u8]
     ensures { result.now ≡ from_text sender }
 {
     match sender {
-        Sender::A => b" from=A\n",
-        Sender::B => b" from=B\n",
-        Sender::Neither => b"\n",
+        Some(Side::A) => b" from=A\n",
+        Some(Side::B) => b" from=B\n",
+        None => b"\n",
     }
 }
 
-fn put_gap_line(out: &mut [u8], place: u32, sender: Sender) -> usize
+fn put_gap_line(out: &mut [u8], place: u32, sender: Option<Side>) -> usize
     ensures out_after { out.new ≡ splice out.old 0 (gap_line place sender) }
     ensures value { result ≡ behind (length out.old) 0 (gap_line place sender) }
 {

@@ -6,20 +6,20 @@ ghost use Rattle.group.specs.Group.{address_of, mark_of, mark_set, ssid_octet, g
 
 use address::Address;
 
-#[derive(Clone, Copy)]
+#[derive(Clone, Copy, Debug, PartialEq, Eq)]
 pub struct ParsedAddress {
     pub address: Address,
     pub high_bit: bool,
 }
 
 // How writing a group ended.
-#[derive(Clone, Copy)]
+#[derive(Clone, Copy, Debug, PartialEq, Eq)]
 pub enum GroupAnswer {
     Written,
     NotEncodable,
 }
 
-#[derive(Clone, Copy)]
+#[derive(Clone, Copy, Debug, PartialEq, Eq)]
 pub struct WrittenGroup {
     pub answer: GroupAnswer,
     pub group: [u8; 7],
@@ -40,22 +40,14 @@ impl GroupAnswer {
 pub fn parse_address(group: [u8; 7]) -> ParsedAddress
     ensures { result ≡ record { address = address_of group; high_bit = mark_of group } }
 {
-    let callsign = [
-        group[0] >> 1,
-        group[1] >> 1,
-        group[2] >> 1,
-        group[3] >> 1,
-        group[4] >> 1,
-        group[5] >> 1,
-    ];
-    let last = group[6];
+    let [a, b, c, d, e, f, last] = group;
     ParsedAddress {
         address: Address {
-            callsign,
+            callsign: [a, b, c, d, e, f].map(|octet| octet >> 1),
             ssid: (last >> 1) & 0x0f,
             reserved: (last >> 5) & 0b11,
         },
-        high_bit: last & 0b1000_0000 != 0,
+        high_bit: mark_set(last),
     }
 }
 
@@ -63,39 +55,26 @@ pub fn parse_address(group: [u8; 7]) -> ParsedAddress
 pub fn mark_set(last: u8) -> bool
     ensures { result ≡ mark_set last }
 {
-    let bits = last & 0b1000_0000;
-    bits != 0
-}
-
-fn bit_if(on: bool, value: u8) -> u8
-    ensures { result ≡ cond on value 0 }
-{
-    if on { value } else { 0 }
+    last & 0b1000_0000 != 0
 }
 
 // The seventh octet: SSID in bits 1 to 4, the reserved bits in 5 and 6, mark and end bit.
 pub fn ssid_octet(ssid: u8, reserved: u8, high_bit: bool, final_in_address: bool) -> u8
     ensures { result ≡ ssid_octet ssid reserved high_bit final_in_address }
 {
-    let high = bit_if(high_bit, 0b1000_0000);
-    let low = bit_if(final_in_address, 0b0000_0001);
-    ((ssid & 0x0f) << 1) | ((reserved & 0b11) << 5) | high | low
+    ((ssid & 0x0f) << 1)
+        | ((reserved & 0b11) << 5)
+        | (u8::from(high_bit) << 7)
+        | u8::from(final_in_address)
 }
 
 // The group of an address that can be written.
-fn group_of(address: Address, high_bit: bool, final_in_address: bool) -> [u8; 7]
+pub fn group_of(address: Address, high_bit: bool, final_in_address: bool) -> [u8; 7]
     ensures { result ≡ group_of address high_bit final_in_address }
 {
-    let c = address.callsign;
-    [
-        c[0] << 1,
-        c[1] << 1,
-        c[2] << 1,
-        c[3] << 1,
-        c[4] << 1,
-        c[5] << 1,
-        ssid_octet(address.ssid, address.reserved, high_bit, final_in_address),
-    ]
+    let [a, b, c, d, e, f] = address.callsign.map(|character| character << 1);
+    let last = ssid_octet(address.ssid, address.reserved, high_bit, final_in_address);
+    [a, b, c, d, e, f, last]
 }
 
 // The group of an address; zeros where the address is refused.

@@ -5,11 +5,12 @@ use mathlib.Core.Bool.{cond}
 use mathlib.Core.List.{List, [], ◌∷◌, ◌++◌}
 use lib.Dec.{ltb}
 use lib.ListN.{length}
+use Rattle.octets.specs.Outcome.{number_by}
 use Rattle.octets.specs.Count.{count}
 use Rattle.octets.proofs.Choice.{by}
 use Rattle.escapes.specs.Escape.{fend, escape_of, escaped, special}
 use Rattle.kiss.specs.Packet.{type_of, last_port, packet}
-use Rattle.kiss.specs.Write.{number_of, write_answer}
+use Rattle.kiss.specs.Write.{number_of, written}
 use Rattle.kiss.proofs.Laws.{packet-length}
 
 pub escaped_none : escaped [] ≡ []
@@ -26,8 +27,8 @@ packet_is port s = refl
 
 -- 56, then 24
 pub write-rows : (port : ℕ) (s : List ℕ) (room : ℕ)
-    → number_of (write_answer port s room) ≡ cond (ltb last_port port) 56 (cond (ltb room (3 + length s + count special s)) 24 0)
-unfolding write_answer
+    → number_by number_of (written port s room) ≡ cond (ltb last_port port) 56 (cond (ltb room (3 + length s + count special s)) 24 0)
+unfolding written
 write-rows port s room =
     rw (packet-length port s)
     (by (ltb last_port port)

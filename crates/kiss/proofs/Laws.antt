@@ -1,27 +1,25 @@
 -- What is written: its length, one turn of the writing loop, and the whole packet from its parts.
-use Prim.Native.Nat.{ℕ, suc, ◌+◌, ◌≤◌, ◌<◌}
+use Prim.Native.Nat.{ℕ, ◌+◌, ◌-◌, ◌≤◌, ◌<◌}
 use mathlib.Core.Path.{◌≡◌, refl, ap, sym, ◌∙◌}
 use mathlib.Core.Bool.{true, false, cond}
+use Rattle.std.specs.Prelude.{Ok, Err}
 use mathlib.Core.List.{List, [], ◌∷◌, ◌++◌}
-use native.Mathlib.Numerals.{add-one}
 use native.Mathlib.Omega.{arith}
 use borrow.Author.Tests.{ne_eqb, lt-ltb, le-ltb, ltb-false}
 use lib.Dec.{eqb, ltb}
-use lib.ListN.{length, get_or, set, take, drop, length-append, length-drop, length-set, drop_of_length-le}
-use lib.Seq.{drop-cons, drop-drop, length-take-le}
+use lib.ListN.{length, get_or, set, take, drop, length-append, length-set}
 use Rattle.octets.specs.Splice.{splice}
 use Rattle.octets.specs.Count.{count}
 use Rattle.octets.specs.First.{first}
 use Rattle.octets.proofs.Choice.{by, neither}
 use Rattle.octets.proofs.First.{first_le}
-use Rattle.octets.proofs.Splice.{splice_none, splice_one, splice-length, splice-cons, splice-then}
+use Rattle.octets.proofs.Splice.{splice_none, splice_one, splice-length, splice-cons, splice-then, part_from}
 use Rattle.escapes.specs.Escape.{fend, fesc, tfend, tfesc, escape_of, escaped, special}
 use Rattle.kiss.specs.Packet.{type_of, last_port, packet}
-use Rattle.kiss.specs.Steps.{next_count, next_octets, next_place}
-use Rattle.kiss.specs.Write.{write_answer, given, octets_written, written}
-use Rattle.kiss.specs.declared.KissWriteAnswer.{KissWriteAnswer}
-use Rattle.kiss.specs.declared.KissWriteAnswer.TheVariants.{Written, PortTooHigh, NoRoom}
-use Rattle.kiss.specs.declared.Place.{Place}
+use Rattle.kiss.specs.Steps.{next_count, next_octets, next_step}
+use Rattle.kiss.specs.Write.{octets_written, written}
+use Rattle.kiss.specs.declared.KissWriteError.TheVariants.{PortTooHigh, NoRoom}
+use Rattle.kiss.specs.declared.Step.{Step}
 
 -- ---- one octet
 pub escape-fend : (b : ℕ) → eqb b fend ≡ true → escape_of b ≡ fesc ∷ tfend ∷ []
@@ -67,115 +65,78 @@ escaped_run (x ∷ l) =
     rw (e, escape-plain x n.0 n.1) (ap (λ (t : List ℕ). x ∷ t) (escaped_run l)))
 
 -- ---- one step of the writing loop
-first_none : (x : ℕ) (l : List ℕ) → special x ≡ true → first special (x ∷ l) ≡ 0
-unfolding first
-first_none x l e = rw e refl
+-- what it takes and writes, by the first octet
+pub next_fend : (l : List ℕ) → 1 ≤ length l → get_or l 0 0 ≡ fend → (next_count l ≡ 1) × (next_octets l ≡ fesc ∷ tfend ∷ [])
+unfolding next_count next_octets
+next_fend [] h e = absurd (omega arith)
+next_fend (x ∷ l) h e = rw e (refl, refl)
 
-first_some : (x : ℕ) (l : List ℕ) → special x ≡ false → first special (x ∷ l) ≡ suc (first special l)
-unfolding first
-first_some x l e = rw e refl
+pub next_fesc : (l : List ℕ) → 1 ≤ length l → get_or l 0 0 ≡ fesc → (next_count l ≡ 1) × (next_octets l ≡ fesc ∷ tfesc ∷ [])
+unfolding next_count next_octets
+next_fesc [] h e = absurd (omega arith)
+next_fesc (x ∷ l) h e = rw e (refl, refl)
 
--- a special octet is written as two
-module _ (s : List ℕ) (from to : ℕ) (h : from < length s) where
-  abbrev x : ℕ
-  x = get_or s from 0
+pub next_plain : (l : List ℕ) → 1 ≤ length l → (get_or l 0 0 ≡ fend → ⊥) → (get_or l 0 0 ≡ fesc → ⊥)
+    → (next_count l ≡ first special l) × (next_octets l ≡ take (first special l) l) × (1 ≤ first special l)
+unfolding next_count next_octets first
+next_plain [] h e f = absurd (omega arith)
+next_plain (x ∷ l) h e f = rw (ne_eqb x fend e, ne_eqb x fesc f) (refl, refl, omega arith)
 
-  special-count : special x ≡ true → next_count (drop from s) ≡ 1
-  unfolding next_count
-  special-count e = rw (drop-cons s from 0 h, first_none x (drop (suc from) s) e) refl
+-- either way it is a part of what is to be written
+next_splits : (l : List ℕ) → 1 ≤ length l → escaped l ≡ next_octets l ++ escaped (drop (next_count l) l)
+unfolding escaped next_count next_octets
+next_splits [] h = absurd (omega arith)
+next_splits (x ∷ l) h =
+    by (eqb x fend)
+    (λ e. rw (e, escape-fend x e) refl)
+    (λ e. by (eqb x fesc)
+    (λ f. rw (e, f, escape-fesc x e f) refl)
+    (λ f. rw (e, f) (escaped_run (x ∷ l))))
 
-  plain_some : special x ≡ false → first special (drop from s) ≡ suc (first special (drop (suc from) s))
-  plain_some e = ap (first special) (drop-cons s from 0 h) ∙ first_some x (drop (suc from) s) e
+-- and takes some
+pub next_takes : (l : List ℕ) → 1 ≤ length l → (1 ≤ next_count l) × (next_count l ≤ length l)
+unfolding next_count first
+next_takes [] h = absurd (omega arith)
+next_takes (x ∷ l) h =
+    by (eqb x fend)
+    (λ e. rw e (omega arith, omega arith))
+    (λ e. by (eqb x fesc)
+    (λ f. rw (e, f) (omega arith, omega arith))
+    (λ f. rw (e, f) (omega arith, omega (arith, first_le special l))))
 
-  plain-count : special x ≡ false → next_count (drop from s) ≡ first special (drop from s)
-  unfolding next_count
-  plain-count e =
-      let some = plain_some e in
-      rw (ne_eqb (first special (drop from s)) 0 (λ z. omega arith)) refl
+-- so that it has room where all that is to be written has
+pub next_fits : (l : List ℕ) → 1 ≤ length l → length (next_octets l) ≤ length (escaped l)
+next_fits l h = omega (arith, ap length (next_splits l h), length-append (next_octets l) (escaped (drop (next_count l) l)))
 
-  special_place : (n : ℕ) → next_count (drop from s) ≡ 1 → length (next_octets (drop from s)) ≡ n → record { from = from + 1; to = to + n } ≡ next_place s from to
-  unfolding next_place
-  special_place n c l = rw (c, l) refl
-
-  pub next-fend : eqb x fend ≡ true → (record { from = from + 1; to = to + 2 } ≡ next_place s from to) × (next_octets (drop from s) ≡ fesc ∷ tfend ∷ [])
-  unfolding next_octets
-  next-fend e =
-      let o : next_octets (drop from s) ≡ fesc ∷ tfend ∷ [] = rw (drop-cons s from 0 h) (simp e) in
-      (special_place 2 (special-count (rw e refl)) (ap length o), o)
-
-  pub next-fesc : eqb x fend ≡ false → eqb x fesc ≡ true → (record { from = from + 1; to = to + 2 } ≡ next_place s from to) × (next_octets (drop from s) ≡ fesc ∷ tfesc ∷ [])
-  unfolding next_octets
-  next-fesc e f =
-      let o : next_octets (drop from s) ≡ fesc ∷ tfesc ∷ [] = rw (drop-cons s from 0 h) (simp (e, f)) in
-      (special_place 2 (special-count (rw (e, f) refl)) (ap length o), o)
-
-  -- all others are written as they are, as far as they go
-  pub next-plain : eqb x fend ≡ false → eqb x fesc ≡ false → let k = first special (drop from s) in
-      (record { from = from + k; to = to + k } ≡ next_place s from to) × (next_octets (drop from s) ≡ take k (drop from s))
-  unfolding next_octets next_place
-  next-plain e f =
-      let k : ℕ = first special (drop from s) in
-      let o : next_octets (drop from s) ≡ take k (drop from s) = rw (drop-cons s from 0 h) (simp (e, f)) in
-      let c : next_count (drop from s) ≡ k = plain-count (rw (e, f) refl) in
-      let l : length (next_octets (drop from s)) ≡ k = ap length o ∙ length-take-le k (drop from s) (first_le special (drop from s)) in
-      (rw (c, l) refl, o)
-
-  -- either way it is a part of what is to be written, and goes on by some octets
-  pub next_some : (1 ≤ next_count (drop from s)) × (from + next_count (drop from s) ≤ length s)
-  next_some =
-      by (special x)
-      (λ e. rw (special-count e) (omega arith, omega arith))
-      (λ e. let c = plain-count e in
-      let some = plain_some e in
-      rw c (omega arith, omega (arith, first_le special (drop from s), length-drop from s)))
-
-  pub next_step : escaped (drop from s) ≡ next_octets (drop from s) ++ escaped (drop (from + next_count (drop from s)) s)
-  unfolding escaped
-  next_step =
-      by (eqb x fend)
-      (λ e. one (escape-fend x e) (next-fend e).1 (special-count (rw e refl)))
-      (λ e. by (eqb x fesc)
-      (λ f. one (escape-fesc x e f) (next-fesc e f).1 (special-count (rw (e, f) refl)))
-      (λ f. let k : ℕ = first special (drop from s) in
-      rw ((next-plain e f).1, plain-count (rw (e, f) refl)) (escaped_run (drop from s) ∙ rw (drop-drop k from s) refl)))
-    where
-      one : {a : List ℕ} → escape_of x ≡ a → next_octets (drop from s) ≡ a → next_count (drop from s) ≡ 1
-          → escaped (drop from s) ≡ next_octets (drop from s) ++ escaped (drop (from + next_count (drop from s)) s)
-      one d o c = rw (o, c, add-one) (rw (drop-cons s from 0 h) (ap (λ (t : List ℕ). t ++ escaped (drop (suc from) s)) d))
-
-  -- so that it has room where all that is to be written has
-  pub next-room : length (next_octets (drop from s)) ≤ length (escaped (drop from s))
-  next-room = omega (arith, ap length next_step, length-append (next_octets (drop from s)) (escaped (drop (from + next_count (drop from s)) s)))
-
--- the data from place i on is still to be written from place j on
-pub record Left (s out : List ℕ) (n i j : ℕ) (whole : List ℕ) : Type 0 where
-  pub many : j + length (escaped (drop i s)) ≡ n
-  pub long : n ≤ length out
-  pub is : splice out j (escaped (drop i s)) ≡ whole
-
-pub left_turn : (s out out₁ : List ℕ) (n i j : ℕ) (p : Place) (whole : List ℕ) → Left s out n i j whole → i < length s
-    → p ≡ next_place s i j → out₁ ≡ splice out j (next_octets (drop i s)) → Left s out₁ n p.from p.to whole
-unfolding next_place
-left_turn s out out₁ n i j p whole l h e f =
-    let a : List ℕ = next_octets (drop i s) in
-    let b : List ℕ = escaped (drop (i + next_count (drop i s)) s) in
-    let many = l.many in
-    let long = l.long in
-    let step : escaped (drop i s) ≡ a ++ b = next_step s i j h in
-    let both : length (escaped (drop i s)) ≡ length a + length b = ap length step ∙ length-append a b in
-    rw e (record {
-      many = omega arith;
-      long = rw (f, splice-length) long;
-      is = rw f (splice-then out j (length a) a b refl (omega arith) ∙ ap (splice out j) (sym step) ∙ l.is);
-    })
-
-pub next_further : (s : List ℕ) (from to : ℕ) (p : Place) → from < length s → p ≡ next_place s from to → from < p.from
-unfolding next_place
-next_further s from to p h e = rw e (omega (arith, (next_some s from to h).0))
-
-pub left_none : (s out : List ℕ) (n i j : ℕ) (whole : List ℕ) → Left s out n i j whole → length s ≤ i → out ≡ whole
+escaped_empty : (l : List ℕ) → length l ≡ 0 → escaped l ≡ []
 unfolding escaped
-left_none s out n i j whole l h = sym (splice_none out j) ∙ (rw (drop_of_length-le s h) at l.is)
+escaped_empty [] h = refl
+escaped_empty (x ∷ l) h = absurd (omega arith)
+
+-- what is left of the data is still to be written from place j on
+pub record Left (rest out : List ℕ) (n j : ℕ) (whole : List ℕ) : Type 0 where
+  pub many : j + length (escaped rest) ≡ n
+  pub long : n ≤ length out
+  pub is : splice out j (escaped rest) ≡ whole
+
+module _ (rest out : List ℕ) (n j : ℕ) (whole : List ℕ) (l : Left rest out n j whole) where
+  pub left_turn : (k : Step) (out₁ : List ℕ) → 1 ≤ length rest → k ≡ next_step rest → out₁ ≡ splice out j (next_octets rest)
+      → Left (take (length rest - k.taken) (drop k.taken rest)) out₁ n (j + k.written) whole
+  left_turn k out₁ some e f =
+      let a : List ℕ = next_octets rest in
+      let b : List ℕ = escaped (drop (next_count rest) rest) in
+      let step : escaped rest ≡ a ++ b = next_splits rest some in
+      let both : length (escaped rest) ≡ length a + length b = ap length step ∙ length-append a b in
+      let many = l.many in
+      let long = l.long in
+      rw (part_from, e) (record {
+        many = omega arith;
+        long = rw (f, splice-length) long;
+        is = rw f (splice-then out j (length a) a b refl (omega arith) ∙ ap (splice out j) (sym step) ∙ l.is);
+      })
+
+  pub left_none : length rest ≡ 0 → out ≡ whole
+  left_none h = sym (splice_none out j) ∙ (rw (escaped_empty rest h) at l.is)
 
 -- ---- the packet
 -- three, the data's length, and one for each C0 and DB in it
@@ -201,31 +162,21 @@ packet_parts out port s h =
     ∙ splice-cons out 0 fend (type_of port ∷ (e ++ (fend ∷ []))) (omega arith)
 
 -- ---- the answers
-pub write_port : (port : ℕ) (s : List ℕ) (room : ℕ) → last_port < port → write_answer port s room ≡ PortTooHigh
-unfolding write_answer
+pub write_port : (port : ℕ) (s : List ℕ) (room : ℕ) → last_port < port → written port s room ≡ Err PortTooHigh
+unfolding written
 write_port port s room h = simp (lt-ltb _ _ h)
 
-pub write-short : (port : ℕ) (s : List ℕ) (room : ℕ) → port ≤ last_port → room < length (packet port s) → write_answer port s room ≡ NoRoom
-unfolding write_answer
+pub write-short : (port : ℕ) (s : List ℕ) (room : ℕ) → port ≤ last_port → room < length (packet port s) → written port s room ≡ Err NoRoom
+unfolding written
 write-short port s room p h = simp (le-ltb _ _ p, lt-ltb _ _ h)
 
-pub write_fits : (port : ℕ) (s : List ℕ) (room : ℕ) → port ≤ last_port → length (packet port s) ≤ room → write_answer port s room ≡ Written
-unfolding write_answer
+pub write_fits : (port : ℕ) (s : List ℕ) (room : ℕ) → port ≤ last_port → length (packet port s) ≤ room → written port s room ≡ Ok (packet port s)
+unfolding written
 write_fits port s room p h = simp (le-ltb _ _ p, le-ltb _ _ h)
 
--- length and octets by the answer
-pub written_by : (port : ℕ) (s : List ℕ) (room : ℕ) (a : KissWriteAnswer) → write_answer port s room ≡ a
-    → (written port s room ≡ record { answer = a; length = length (given a (packet port s)) }) × (octets_written port s room ≡ given a (packet port s))
-unfolding written octets_written
-written_by port s room a e = rw e (refl, refl)
-
-pub written_answer : (port : ℕ) (s : List ℕ) (room : ℕ) → (written port s room).answer ≡ write_answer port s room
-unfolding written
-written_answer port s room = refl
-
 -- what is written has room
-pub written-room : (port : ℕ) (s : List ℕ) (room : ℕ) → (written port s room).length ≤ room
-unfolding written octets_written write_answer
+pub written-room : (port : ℕ) (s : List ℕ) (room : ℕ) → length (octets_written port s room) ≤ room
+unfolding written
 written-room port s room =
     by (ltb last_port port)
     (λ e. rw e (omega arith))

@@ -1,12 +1,13 @@
 -- What writing the data does at one place: the steps of the code, which `Write` does not rest on.
-use Rattle.std.specs.Prelude.{ℕ, ◌+◌, cond, List, [], ◌∷◌, length, take, drop, eqb}
+use Rattle.std.specs.Prelude.{ℕ, cond, List, [], ◌∷◌, length, take, eqb}
 use Rattle.octets.specs.First.{first}
 use Rattle.escapes.specs.Escape.{fend, fesc, tfend, tfesc, special}
-use Rattle.kiss.specs.declared.Place.{Place}
+use Rattle.kiss.specs.declared.Step.{Step}
 
 -- how many octets of the data are taken: the first, where it is special, else all before the next special one
 unfoldable pub next_count : List ℕ → ℕ
-next_count l = cond (eqb (first special l) 0) 1 (first special l)
+next_count [] = 0
+next_count (x ∷ l) = cond (eqb x fend) 1 (cond (eqb x fesc) 1 (first special (x ∷ l)))
 
 -- and what is written for them
 unfoldable pub next_octets : List ℕ → List ℕ
@@ -15,5 +16,5 @@ next_octets (x ∷ l) =
     cond (eqb x fend) (fesc ∷ tfend ∷ [])
     (cond (eqb x fesc) (fesc ∷ tfesc ∷ []) (take (first special (x ∷ l)) (x ∷ l)))
 
-unfoldable pub next_place : List ℕ → ℕ → ℕ → Place
-next_place s from to = record { from = from + next_count (drop from s); to = to + length (next_octets (drop from s)) }
+abbrev pub next_step : List ℕ → Step
+next_step l = record { taken = next_count l; written = length (next_octets l) }

@@ -1,262 +1,170 @@
--- One turn of each loop of reading: what the octets from a place on come to, by what stands at that place.
-use Prim.Native.Nat.{ℕ, suc, ◌+◌, ◌-◌, ◌≤◌, ◌<◌}
-use mathlib.Core.Path.{◌≡◌, refl, ap, sym, ◌∙◌}
-use mathlib.Core.Bool.{true, false, cond, false≢true}
-use mathlib.Core.List.{List, [], ◌∷◌, ◌++◌}
-use mathlib.Core.Logic.{◌⊎◌, inl, inr, ⊎_elim}
-use native.Mathlib.Omega.{arith}
-use borrow.Author.Tests.{eqb-true, ne_eqb}
-use lib.Dec.{eqb}
-use lib.ListN.{length, get_or, take, drop, drop_of_length-le, length-drop, length-append}
-use lib.Seq.{drop-cons, drop-drop, length-take-le}
+-- One turn of each loop of reading: what the octets from a place on come to, by the step that stands there.
+use Rattle.std.proofs.Common.{◌≡◌, ℕ, ◌+◌, ◌-◌, ◌≤◌, true, false, List, [], ◌∷◌, ◌++◌, Some, None, Result, Ok, Err, is_ok, eqb, length, take, drop, refl, ap, sym, ◌∙◌, arith, length-append}
+use mathlib.Core.Bool.{false≢true}
+use lib.Seq.{length-take-le}
 use Rattle.octets.specs.First.{first}
+use Rattle.octets.specs.Outcome.{octets_of, measured}
 use Rattle.octets.specs.Splice.{splice}
 use Rattle.octets.proofs.Choice.{by, neither}
 use Rattle.octets.proofs.First.{first_le}
-use Rattle.octets.proofs.Splice.{splice_none, splice-length, splice-then}
+use Rattle.octets.proofs.Splice.{splice_none, splice-length, splice-then, part_from}
 use Rattle.escapes.specs.Escape.{fend, fesc, tfend, tfesc, special}
-use Rattle.kiss_reading.specs.Answer.{is_accepted}
-use Rattle.kiss_reading.specs.Read.{Heard, ends, closed, heard}
-use Rattle.kiss_reading.specs.Steps.{step_of, escape_step, step_from, data_of, restored_of, stopped_at, joined, Goes, measured_of}
-use Rattle.kiss_reading.specs.declared.KissAnswer.{KissAnswer}
-use Rattle.kiss_reading.specs.declared.KissAnswer.TheVariants.{Accepted, BadEscape, NoClosing}
+use Rattle.kiss_reading.specs.Read.{more, heard}
+use Rattle.kiss_reading.specs.Steps.{taken_by, given_by, data_of, escape_step, step_from, stopped_at, plus}
+use Rattle.kiss_reading.specs.declared.KissError.{KissError}
+use Rattle.kiss_reading.specs.declared.KissError.TheVariants.{BadEscape}
 use Rattle.kiss_reading.specs.declared.Step.{Step}
-use Rattle.kiss_reading.specs.declared.Measured.{Measured}
+use Rattle.kiss_reading.specs.declared.Step.TheVariants.{Plain, Escaped}
 
--- ---- the step at a place
-run_step : (x : ℕ) (l : List ℕ) → eqb x fesc ≡ false
-    → (step_from (x ∷ l) ≡ step_of (first special (x ∷ l)) (first special (x ∷ l))) × (data_of (x ∷ l) ≡ take (first special (x ∷ l)) (x ∷ l))
-unfolding step_from data_of
-run_step x l e = (simp e, simp e)
+-- some data, and then what is heard
+abbrev pub joined : List ℕ → Result (List ℕ) KissError → Result (List ℕ) KissError
+joined s (Ok t) = Ok (s ++ t)
+joined s (Err e) = Err e
 
-pub step-plain : (s : List ℕ) (at : ℕ) → at < length s → eqb (get_or s at 0) fesc ≡ false
-    → (step_from (drop at s) ≡ step_of (first special (drop at s)) (first special (drop at s))) × (data_of (drop at s) ≡ take (first special (drop at s)) (drop at s))
-step-plain s at h e = rw (drop-cons s at 0 h) (run_step (get_or s at 0) (drop (suc at) s) e)
+joined_more : (x : ℕ) (s : List ℕ) (h : Result (List ℕ) KissError) → more x (joined s h) ≡ joined (x ∷ s) h
+joined_more x s (Ok t) = refl
+joined_more x s (Err e) = refl
 
-pub step_escape : (s : List ℕ) (at : ℕ) → at < length s → eqb (get_or s at 0) fesc ≡ true → step_from (drop at s) ≡ escape_step (drop (suc at) s)
-unfolding step_from
-step_escape s at h e = rw (drop-cons s at 0 h) (simp e)
+more_joined : (x : ℕ) (h : Result (List ℕ) KissError) → more x h ≡ joined (x ∷ []) h
+more_joined x (Ok t) = refl
+more_joined x (Err e) = refl
 
-pub escape_none : (s : List ℕ) (at : ℕ) → length s ≤ at → escape_step (drop at s) ≡ step_of 0 0
-unfolding escape_step
-escape_none s at h = rw (drop_of_length-le s h) refl
+joined_none : (h : Result (List ℕ) KissError) → h ≡ joined [] h
+joined_none (Ok t) = refl
+joined_none (Err e) = refl
 
-pub escape_at : (s : List ℕ) (at : ℕ) → at < length s
-    → escape_step (drop at s) ≡ cond (eqb (get_or s at 0) tfend) (step_of 2 1) (cond (eqb (get_or s at 0) tfesc) (step_of 2 1) (step_of 0 0))
-unfolding escape_step
-escape_at s at h = rw (drop-cons s at 0 h) refl
-
--- where there is one at a DB, it takes two octets for one
-some_two : (l : List ℕ) → 1 ≤ (escape_step l).width → (escape_step l ≡ step_of 2 1) × (1 ≤ length l)
-unfolding escape_step
-some_two [] h = absurd (omega (arith, h))
-some_two (y ∷ l) h =
-    by (eqb y tfend)
-    (λ a. (simp a, omega arith))
-    (λ a. by (eqb y tfesc)
-    (λ b. (simp (a, b), omega arith))
-    (λ b. absurd (omega (arith, simp (a, b) at h))))
-
-pub step_two : (s : List ℕ) (at : ℕ) → at < length s → eqb (get_or s at 0) fesc ≡ true → Goes (drop at s)
-    → (step_from (drop at s) ≡ step_of 2 1) × (at + 1 < length s) × (data_of (drop at s) ≡ restored_of (get_or s (at + 1) 0) ∷ [])
-unfolding data_of
-step_two s at h e g =
-    let to = step_escape s at h e in
-    let wide : 1 ≤ (step_from (drop at s)).width = omega (arith, g.some, g.short) in
-    let two = some_two (drop (suc at) s) (rw to at wide) in
-    let far : at + 1 < length s = omega (arith, two.1, length-drop (suc at) s) in
-    let next : suc at ≡ at + 1 = omega arith in
-    let here : get_or (drop (suc at) s) 0 0 ≡ get_or s (at + 1) 0 = rw next (ap (λ (l : List ℕ). get_or l 0 0) (drop-cons s (at + 1) 0 far)) in
-    (to ∙ two.0, far, rw (drop-cons s at 0 h) (simp e (rw here refl)))
-
--- ---- what is heard from a place on
 -- octets that stand for themselves are heard as they are
 heard_run : (l : List ℕ) → heard false l ≡ joined (take (first special l) l) (heard false (drop (first special l) l))
 unfolding heard first
 heard_run [] = refl
 heard_run (x ∷ l) =
     by (special x)
-    (λ e. rw e refl)
+    (λ e. rw e (joined_none (heard false (x ∷ l))))
     (λ e. let n = neither (eqb x fend) (eqb x fesc) e in
-    rw (e, n.0, n.1) (ap (λ (h : Heard). joined (x ∷ []) h) (heard_run l)))
-
-abbrev Stops : List ℕ → Type 0
-Stops l = ((step_from l).width ≡ 0) × (heard false l ≡ ends (stopped_at l))
-
-second : (x : ℕ) (l : List ℕ) → eqb x fend ≡ false → eqb x fesc ≡ true → Stops (x ∷ l) ⊎ Goes (x ∷ l)
-unfolding heard step_from escape_step data_of stopped_at
-second x [] f e = inl (simp e, simp (f, e))
-second x (y ∷ l) f e =
-    by (eqb y tfend)
-    (λ a. inr (record {
-      some = simp (e, a) (omega arith);
-      wide = simp (e, a) (omega arith);
-      short = simp (e, a) (omega arith);
-      long = simp (e, a);
-      is = simp (f, e, a);
-    }))
-    (λ a. by (eqb y tfesc)
-    (λ b. inr (record {
-      some = simp (e, a, b) (omega arith);
-      wide = simp (e, a, b) (omega arith);
-      short = simp (e, a, b) (omega arith);
-      long = simp (e, a, b);
-      is = simp (f, e, a, b);
-    }))
-    (λ b. inl (simp (e, a, b), simp (f, e, a, b))))
-
--- a C0
-stops-closed : (x : ℕ) (l : List ℕ) → eqb x fend ≡ true → eqb x fesc ≡ false → Stops (x ∷ l)
-unfolding heard step_from stopped_at first
-stops-closed x l f e = (simp (e, f), simp f)
-
--- octets that stand for themselves
-run_some : (x : ℕ) (l : List ℕ) → special x ≡ false → 1 ≤ first special (x ∷ l)
-unfolding first
-run_some x l e = rw e (omega arith)
-
-goes_run : (x : ℕ) (l : List ℕ) → eqb x fend ≡ false → eqb x fesc ≡ false → Goes (x ∷ l)
-goes_run x l f e =
-    let k : ℕ = first special (x ∷ l) in
-    let t = (run_step x l e).0 in
-    let d = (run_step x l e).1 in
-    let wide : k ≤ length (x ∷ l) = first_le special (x ∷ l) in
-    record {
-      some = rw t (run_some x l (rw (f, e) refl));
-      wide = rw t wide;
-      short = rw t (omega arith);
-      long = rw (t, d) (length-take-le k (x ∷ l) wide);
-      is = rw (t, d) (heard_run (x ∷ l));
-    }
-
-plain : (x : ℕ) (l : List ℕ) → eqb x fesc ≡ false → Stops (x ∷ l) ⊎ Goes (x ∷ l)
-plain x l e = by (eqb x fend) (λ f. inl (stops-closed x l f e)) (λ f. inr (goes_run x l f e))
-
-turn : (x : ℕ) (l : List ℕ) → Stops (x ∷ l) ⊎ Goes (x ∷ l)
-turn x l = by (eqb x fesc) (λ e. second x l (rw (eqb-true x fesc e) refl) e) (plain x l)
-
-turn_at : (s : List ℕ) (i : ℕ) → i < length s → Stops (drop i s) ⊎ Goes (drop i s)
-turn_at s i h = rw (drop-cons s i 0 h) (turn (get_or s i 0) (drop (suc i) s))
-
-pub heard_end : (s : List ℕ) (i : ℕ) → length s ≤ i → heard false (drop i s) ≡ ends NoClosing
-unfolding heard
-heard_end s i h = rw (drop_of_length-le s h) refl
-
-pub heard-stops : (s : List ℕ) (i : ℕ) → i < length s → (step_from (drop i s)).width ≡ 0 → heard false (drop i s) ≡ ends (stopped_at (drop i s))
-heard-stops s i h w =
-    ⊎_elim
-    (λ (b : Stops (drop i s)). b.1)
-    (λ (g : Goes (drop i s)). absurd (omega (arith, w, g.some, g.short)))
-    (turn_at s i h)
-
-pub heard_goes : (s : List ℕ) (i : ℕ) → i < length s → ((step_from (drop i s)).width ≡ 0 → ⊥) → Goes (drop i s)
-heard_goes s i h w =
-    ⊎_elim
-    (λ (b : Stops (drop i s)). absurd (w b.0))
-    (λ (g : Goes (drop i s)). g)
-    (turn_at s i h)
+    rw (e, n.0, n.1) (ap (more x) (heard_run l) ∙ joined_more x (take (first special l) l) (heard false (drop (first special l) l))))
 
 -- where no step is left
-closed_by : (l : List ℕ) → closed l ≡ cond (eqb (suc (length l)) 1) Accepted NoClosing
-closed_by [] = refl
-closed_by (x ∷ l) = rw (ne_eqb (suc (suc (length l))) 1 (λ e. omega arith)) refl
+stops_two : (l : List ℕ) → escape_step l ≡ None → heard true l ≡ Err BadEscape
+unfolding heard escape_step
+stops_two [] e = refl
+stops_two (y ∷ l) e =
+    by (eqb y tfend)
+    (λ a. let n = rw a at e in cc)
+    (λ a. by (eqb y tfesc) (λ b. let n = rw (a, b) at e in cc) (λ b. rw (a, b) refl))
 
-pub stopped_bad : (s : List ℕ) (i : ℕ) → i < length s → eqb (get_or s i 0) fend ≡ false → stopped_at (drop i s) ≡ BadEscape
-unfolding stopped_at
-stopped_bad s i h e = rw (drop-cons s i 0 h) (simp e)
+pub stops : (l : List ℕ) → step_from l ≡ None → heard false l ≡ stopped_at l
+unfolding heard step_from stopped_at
+stops [] e = refl
+stops (x ∷ l) e =
+    by (eqb x fend)
+    (λ a. rw a refl)
+    (λ a. by (eqb x fesc) (λ b. rw (a, b) (stops_two l (rw (a, b) at e))) (λ b. let n = rw (a, b) at e in cc))
 
-pub stopped-closed : (s : List ℕ) (i : ℕ) → i < length s → eqb (get_or s i 0) fend ≡ true
-    → stopped_at (drop i s) ≡ cond (eqb (length s - i) 1) Accepted NoClosing
-unfolding stopped_at
-stopped-closed s i h e =
-    let n : suc (length (drop (suc i) s)) ≡ length s - i = rw (length-drop (suc i) s) (omega arith) in
-    rw (drop-cons s i 0 h) (simp e (closed_by (drop (suc i) s) ∙ rw n refl))
+-- there is a step: what is heard is its data, and then what is heard behind it
+pub record Goes (l : List ℕ) (k : Step) : Type 0 where
+  pub some : 1 ≤ given_by k
+  pub wide : taken_by k ≤ length l
+  pub short : given_by k ≤ taken_by k
+  pub long : length (data_of k l) ≡ given_by k
+  pub is : heard false l ≡ joined (data_of k l) (heard false (drop (taken_by k) l))
 
--- where data is still to come, it goes on
-accepted_goes : (l : List ℕ) → is_accepted (heard false l).answer ≡ true → 0 < length (heard false l).octets → (0 < length l) × Goes l
-unfolding heard
-accepted_goes [] a n = absurd (false≢true a)
-accepted_goes (x ∷ l) a n = (
-  omega arith,
-  ⊎_elim
-      (λ (b : Stops (x ∷ l)). absurd (omega (arith, n, ap (λ (h : Heard). length h.octets) b.1)))
-      (λ (g : Goes (x ∷ l)). g)
-      (turn x l),
-)
-
--- ---- the first pass
--- what is still to come, after so many octets of data
-abbrev pub measured_by : ℕ → Heard → Measured
-measured_by n h = record { answer = h.answer; length = n + length h.octets }
-
-pub measured_start : (h : Heard) → measured_by 0 h ≡ measured_of h
-measured_start h =
-    let z : 0 + length h.octets ≡ length h.octets = omega arith in
-    ap (λ (k : ℕ). record { answer = h.answer; length = k }) z
-
-pub measured-ends : (n : ℕ) (a : KissAnswer) (h : Heard) → h ≡ ends a → record { answer = a; length = n } ≡ measured_by n h
-measured-ends n a h e =
-    let z : n ≡ n + 0 = omega arith in
-    rw e (ap (λ (k : ℕ). record { answer = a; length = k }) z)
-
--- what is heard behind a step
-behind : (s : List ℕ) (i : ℕ) (t : Step) → Goes (drop i s) → t ≡ step_from (drop i s)
-    → heard false (drop i s) ≡ joined (data_of (drop i s)) (heard false (drop (i + t.width) s))
-behind s i t g e = g.is ∙ rw (← e, drop-drop t.width i s) refl
-
-pub measured_turn : (s : List ℕ) (i n : ℕ) (t : Step) → Goes (drop i s) → t ≡ step_from (drop i s)
-    → measured_by (n + t.length) (heard false (drop (i + t.width) s)) ≡ measured_by n (heard false (drop i s))
-measured_turn s i n t g e =
-    let h : Heard = heard false (drop (i + t.width) s) in
-    let d : List ℕ = data_of (drop i s) in
-    let m : n + t.length + length h.octets ≡ n + length (d ++ h.octets) =
-    omega (arith, length-append d h.octets, g.long, ap (λ (x : Step). x.length) e) in
-    rw (behind s i t g e) (ap (λ (k : ℕ). record { answer = h.answer; length = k }) m)
-
--- ---- the second pass
--- the data from place i on is still to be written from place j on
-pub record Left (s : List ℕ) (out : List ℕ) (n i j : ℕ) (whole : List ℕ) : Type 0 where
-  pub good : is_accepted (heard false (drop i s)).answer ≡ true
-  pub many : j + length (heard false (drop i s)).octets ≡ n
-  pub long : n ≤ length out
-  pub is : splice out j (heard false (drop i s)).octets ≡ whole
-
--- the next step has room
-pub left_goes : (s out : List ℕ) (n i j : ℕ) (whole : List ℕ) → Left s out n i j whole → j < n
-    → (i < length s) × Goes (drop i s) × (j + length (data_of (drop i s)) ≤ length out)
-left_goes s out n i j whole l h =
-    let many = l.many in
-    let long = l.long in
-    let g = accepted_goes (drop i s) l.good (omega arith) in
-    let rest : List ℕ = (heard false (drop (step_from (drop i s)).width (drop i s))).octets in
-    let all = ap (λ (x : Heard). length x.octets) g.1.is in
-    (omega (arith, g.0, length-drop i s), g.1, omega (arith, all, length-append (data_of (drop i s)) rest))
-
-pub left_turn : (s out out₁ : List ℕ) (n i j : ℕ) (whole : List ℕ) (t : Step) → Left s out n i j whole → Goes (drop i s) → t ≡ step_from (drop i s)
-    → out₁ ≡ splice out j (data_of (drop i s)) → Left s out₁ n (i + t.width) (j + t.length) whole
-left_turn s out out₁ n i j whole t l g e f =
-    let h : Heard = heard false (drop (i + t.width) s) in
-    let d : List ℕ = data_of (drop i s) in
-    let rest = behind s i t g e in
-    let size : length d ≡ t.length = g.long ∙ sym (ap (λ (x : Step). x.length) e) in
-    let many : j + length (d ++ h.octets) ≡ n = rw (← ap (λ (x : Heard). j + length x.octets) rest) l.many in
-    let both = length-append d h.octets in
-    let fits = l.long in
+goes_run : (x : ℕ) (l : List ℕ) → eqb x fend ≡ false → eqb x fesc ≡ false → Goes (x ∷ l) (Plain (first special (x ∷ l)))
+unfolding first
+goes_run x l f e =
+    let wide = first_le special (x ∷ l) in
     record {
-      good = rw (← ap (λ (x : Heard). is_accepted x.answer) rest) l.good;
-      many = omega arith;
-      long = rw (f, splice-length) fits;
-      is =
-          rw f (splice-then out j t.length d h.octets size (omega arith))
-          ∙ ap (λ (x : Heard). splice out j x.octets) (sym rest) ∙ l.is;
+      some = rw (f, e) (omega arith);
+      wide = wide;
+      short = omega arith;
+      long = length-take-le (first special (x ∷ l)) (x ∷ l) wide;
+      is = heard_run (x ∷ l);
     }
 
-empty : (l : List ℕ) → length l ≡ 0 → l ≡ []
-empty [] e = refl
-empty (x ∷ l) e = absurd (omega (arith, e))
+goes_two : (x : ℕ) (l : List ℕ) (k : Step) → eqb x fend ≡ false → eqb x fesc ≡ true → escape_step l ≡ Some k → Goes (x ∷ l) k
+unfolding heard escape_step
+goes_two x [] k f e s = cc
+goes_two x (y ∷ l) k f e s =
+    by (eqb y tfend)
+    (λ a. let t = rw a at s in
+    let is : Escaped fend ≡ k = cc in
+    rw (← is) (record { some = omega arith; wide = omega arith; short = omega arith; long = refl; is = rw (f, e, a) (more_joined fend (heard false l)) }))
+    (λ a. by (eqb y tfesc)
+    (λ b. let t = rw (a, b) at s in
+    let is : Escaped fesc ≡ k = cc in
+    rw (← is) (record { some = omega arith; wide = omega arith; short = omega arith; long = refl; is = rw (f, e, a, b) (more_joined fesc (heard false l)) }))
+    (λ b. let t = rw (a, b) at s in cc))
 
-pub left_none : (s out : List ℕ) (n i j : ℕ) (whole : List ℕ) → Left s out n i j whole → n ≤ j → out ≡ whole
-left_none s out n i j whole l h =
-    let many = l.many in
-    let none : (heard false (drop i s)).octets ≡ [] = empty (heard false (drop i s)).octets (omega arith) in
-    sym (splice_none out j) ∙ rw (← none) l.is
+pub goes : (l : List ℕ) (k : Step) → step_from l ≡ Some k → Goes l k
+unfolding step_from
+goes [] k e = cc
+goes (x ∷ l) k e =
+    by (eqb x fend)
+    (λ a. let t = rw a at e in cc)
+    (λ a. by (eqb x fesc)
+    (λ b. goes_two x l k a b (rw (a, b) at e))
+    (λ b. let t = rw (a, b) at e in
+    let is : Plain (first special (x ∷ l)) ≡ k = cc in
+    rw (← is) (goes_run x l a b)))
+
+-- ---- the first pass
+plus_joined : (n : ℕ) (d : List ℕ) (h : Result (List ℕ) KissError) → plus (n + length d) (measured h) ≡ plus n (measured (joined d h))
+plus_joined n d (Ok t) = ap (λ (k : ℕ). Ok k) (omega (arith, length-append d t))
+plus_joined n d (Err e) = refl
+
+pub plus_none : (h : Result (List ℕ) KissError) → plus 0 (measured h) ≡ measured h
+plus_none (Ok t) = ap (λ (k : ℕ). Ok k) (omega arith)
+plus_none (Err e) = refl
+
+pub measured_turn : (l : List ℕ) (k : Step) (n : ℕ) → step_from l ≡ Some k
+    → plus (n + given_by k) (measured (heard false (take (length l - taken_by k) (drop (taken_by k) l)))) ≡ plus n (measured (heard false l))
+measured_turn l k n e =
+    let g = goes l k e in
+    rw (part_from, g.is, ← g.long) (plus_joined n (data_of k l) (heard false (drop (taken_by k) l)))
+
+-- ---- the second pass
+joined_ok : (d : List ℕ) (h : Result (List ℕ) KissError) → is_ok (joined d h) ≡ true → (is_ok h ≡ true) × (octets_of (joined d h) ≡ d ++ octets_of h)
+joined_ok d (Ok t) e = (refl, refl)
+joined_ok d (Err x) e = absurd (false≢true e)
+
+stopped_empty : (l : List ℕ) → is_ok (stopped_at l) ≡ true → octets_of (stopped_at l) ≡ []
+unfolding stopped_at
+stopped_empty [] e = absurd (false≢true e)
+stopped_empty (x ∷ []) e = by (eqb x fend) (λ a. rw a refl) (λ a. rw a refl)
+stopped_empty (x ∷ y ∷ l) e = by (eqb x fend) (λ a. rw a refl) (λ a. rw a refl)
+
+-- the data of what is left is still to be written from place j on
+pub record Left (rest out : List ℕ) (j : ℕ) (whole : List ℕ) : Type 0 where
+  pub good : is_ok (heard false rest) ≡ true
+  pub fits : j + length (octets_of (heard false rest)) ≤ length out
+  pub is : splice out j (octets_of (heard false rest)) ≡ whole
+
+module _ (rest out : List ℕ) (j : ℕ) (whole : List ℕ) (l : Left rest out j whole) where
+  module _ (k : Step) (e : step_from rest ≡ Some k) where
+    abbrev d : List ℕ
+    d = data_of k rest
+
+    abbrev h : Result (List ℕ) KissError
+    h = heard false (drop (taken_by k) rest)
+
+    both : (is_ok h ≡ true) × (octets_of (heard false rest) ≡ d ++ octets_of h)
+    both = rw (goes rest k e).is (joined_ok d h (rw (goes rest k e).is at l.good))
+
+    -- the next step has room
+    pub left_room : j + length d ≤ length out
+    left_room = omega (arith, l.fits, ap length both.1, length-append d (octets_of h))
+
+    pub left_turn : (out₁ : List ℕ) → out₁ ≡ splice out j d
+        → Left (take (length rest - taken_by k) (drop (taken_by k) rest)) out₁ (j + given_by k) whole
+    left_turn out₁ f =
+        let g = goes rest k e in
+        let room : j + length d + length (octets_of h) ≤ length out = omega (arith, l.fits, ap length both.1, length-append d (octets_of h)) in
+        rw (part_from, f, ← g.long) (record {
+          good = both.0;
+          fits = rw splice-length room;
+          is = splice-then out j (length d) d (octets_of h) refl room ∙ ap (splice out j) (sym both.1) ∙ l.is;
+        })
+
+  pub left_none : step_from rest ≡ None → out ≡ whole
+  left_none e =
+      let n = stopped_empty rest (rw (stops rest e) at l.good) in
+      sym (splice_none out j) ∙ (rw (stops rest e, n) at l.is)

@@ -8,13 +8,11 @@ ghost use Rattle.octets.specs.Splice.{splice};
 pub fn lacks_room(head: usize, rest: usize, room: usize) -> bool
     ensures { result ≡ ltb room (head + rest) }
 {
-    if room < head {
-        return true;
-    }
-    room - head < rest
+    room < head || room - head < rest
 }
 
 // `part` written into `out` from `at` on. Where it does not fit there whole, nothing is written.
+#[tactic(auto, unfolding(octets::specs::Splice::splice))]
 pub fn put(out: &mut [u8], at: usize, part: &[u8])
     ensures { out.new ≡ splice out.old at part.now }
 {
@@ -22,9 +20,5 @@ pub fn put(out: &mut [u8], at: usize, part: &[u8])
     if lacks_room(at, n, out.len()) {
         return;
     }
-    let mut i = 0;
-    while i < n {
-        out[at + i] = part[i];
-        i += 1;
-    }
+    out[at..at + n].copy_from_slice(part);
 }

@@ -15,37 +15,35 @@ use Rattle.link_record.specs.declared.LinkAnswer.{LinkAnswer}
 use Rattle.link_record.specs.declared.LinkAnswer.TheVariants.{Offered, NotEncodable, EqualStations, Unsound, Full, Refused}
 use Rattle.link_record.proofs.Laws.{takes, counted_is}
 use Rattle.link_frame.specs.Frame.{event_of, heard_of}
-use Rattle.link_frame.specs.declared.Event.TheVariants.{Nothing}
 use Rattle.link_frame.specs.declared.Side.{Side}
-use Rattle.link_frame.specs.declared.Side.TheVariants as side
+use Rattle.link_frame.specs.declared.Side.TheVariants.{A, B}
 use Rattle.link_frame.specs.declared.Verdict.{Verdict}
-use Rattle.link_frame.specs.declared.Verdict.TheVariants.{NotCounted, InOrder, Repeated, Gap, Outside}
+use Rattle.link_frame.specs.declared.Verdict.TheVariants.{InOrder, Repeated, Gap, Outside}
 use Rattle.link_frame.proofs.Laws.{Within, is_counted, is_numbered, heard_as_lem, heard_kept, heard_within, heard-counted}
 use Rattle.link.specs.Step.{is_from_to, sender_in, sender_of, tallied, counted_as, after_hearing, followed_by, followed, offered_to, step_by, step_of}
-use Rattle.link.specs.declared.Sender.{Sender}
-use Rattle.link.specs.declared.Sender.TheVariants.{A, B, Neither}
+use Rattle.std.proofs.Common.{Option, Some, None}
 
 -- who sent a frame
 module _ (l : Link) (f : Ax25Frame) where
-  pub sender_a : is_from_to l.a l.b f ≡ true → sender_in l f ≡ A
+  pub sender_a : is_from_to l.a l.b f ≡ true → sender_in l f ≡ Some A
   unfolding sender_in
   sender_a e = rw e refl
 
   module _ (n : is_from_to l.a l.b f ≡ false) where
-    pub sender_b : is_from_to l.b l.a f ≡ true → sender_in l f ≡ B
+    pub sender_b : is_from_to l.b l.a f ≡ true → sender_in l f ≡ Some B
     unfolding sender_in
     sender_b e = rw (n, e) refl
 
-    pub sender_neither : is_from_to l.b l.a f ≡ false → sender_in l f ≡ Neither
+    pub sender_neither : is_from_to l.b l.a f ≡ false → sender_in l f ≡ None
     unfolding sender_in
     sender_neither e = rw (n, e) refl
 
-  pub followed_by_lem : (p : Sender) → p ≡ sender_in l f → followed_by p f.content l ≡ followed l f
+  pub followed_by_lem : (p : Option Side) → p ≡ sender_in l f → followed_by p f.content l ≡ followed l f
   unfolding followed
   followed_by_lem p e = rw e refl
 
 module _ (l : Link) (s : List ℕ) where
-  pub sent_by_neither : is_accepted (decode Short s).answer ≡ false → sender_of l s ≡ Neither
+  pub sent_by_neither : is_accepted (decode Short s).answer ≡ false → sender_of l s ≡ None
   unfolding sender_of
   sent_by_neither e = rw e refl
 
@@ -59,7 +57,7 @@ module _ (l : Link) (d : Decoding) where
   unfolding offered_to
   offered_frame e = rw e refl
 
-  pub offered-refused : is_accepted d.answer ≡ false → offered_to l d ≡ record { answer = Refused d.answer; link = counted_as NotCounted l }
+  pub offered-refused : is_accepted d.answer ≡ false → offered_to l d ≡ record { answer = Refused d.answer; link = counted_as None l }
   unfolding offered_to
   offered-refused e = rw e refl
 
@@ -120,12 +118,12 @@ tallied_counting l i r g o more e = record {
 }
 
 -- one count is one more where the verdict is one of the four
-as_counting : (v : Verdict) (l : Link) → Counting l (counted_as v l) (cond (is_counted v) 1 0)
-as_counting NotCounted l = tallied_counting l _ _ _ _ 0 (omega arith)
-as_counting InOrder l = tallied_counting l _ _ _ _ 1 (omega arith)
-as_counting Repeated l = tallied_counting l _ _ _ _ 1 (omega arith)
-as_counting Gap l = tallied_counting l _ _ _ _ 1 (omega arith)
-as_counting Outside l = tallied_counting l _ _ _ _ 1 (omega arith)
+as_counting : (v : Option Verdict) (l : Link) → Counting l (counted_as v l) (cond (is_counted v) 1 0)
+as_counting None l = tallied_counting l _ _ _ _ 0 (omega arith)
+as_counting (Some InOrder) l = tallied_counting l _ _ _ _ 1 (omega arith)
+as_counting (Some Repeated) l = tallied_counting l _ _ _ _ 1 (omega arith)
+as_counting (Some Gap) l = tallied_counting l _ _ _ _ 1 (omega arith)
+as_counting (Some Outside) l = tallied_counting l _ _ _ _ 1 (omega arith)
 
 heard_counting : (from : Side) (k : FrameContent) (l : Link) → Counting l (after_hearing (heard_of from k l)) (cond (is_numbered (event_of k)) 1 0)
 heard_counting from k l =
@@ -141,30 +139,27 @@ heard_counting from k l =
     }
 
 -- whether a frame is of the link
-abbrev pub is_sent : Sender → Bool
-is_sent A = true
-is_sent B = true
-is_sent Neither = false
+abbrev pub is_sent : Option Side → Bool
+is_sent (Some from) = true
+is_sent None = false
 
-by_counting : (p : Sender) (k : FrameContent) (l : Link) → Counting l (followed_by p k l) (cond (is_sent p && is_numbered (event_of k)) 1 0)
-by_counting A k l = heard_counting side.A k l
-by_counting B k l = heard_counting side.B k l
-by_counting Neither k l = as_counting NotCounted l
+by_counting : (p : Option Side) (k : FrameContent) (l : Link) → Counting l (followed_by p k l) (cond (is_sent p && is_numbered (event_of k)) 1 0)
+by_counting (Some from) k l = heard_counting from k l
+by_counting None k l = as_counting None l
 
 pub followed_counting : (l : Link) (f : Ax25Frame) → Counting l (followed l f) (cond (is_sent (sender_in l f) && is_numbered (event_of f.content)) 1 0)
 followed_counting l f = rw (← followed_by_lem l f (sender_in l f) refl) (by_counting (sender_in l f) f.content l)
 
-pub refused_counting : (l : Link) → Counting l (counted_as NotCounted l) 0
-refused_counting l = as_counting NotCounted l
+pub refused_counting : (l : Link) → Counting l (counted_as None l) 0
+refused_counting l = as_counting None l
 
 -- a frame of others, or of a kind that is nothing to a link, changes the number offered alone
-pub followed_others : (l : Link) (f : Ax25Frame) → sender_in l f ≡ Neither → followed l f ≡ counted_as NotCounted l
-followed_others l f e = sym (followed_by_lem l f Neither (sym e))
+pub followed_others : (l : Link) (f : Ax25Frame) → sender_in l f ≡ None → followed l f ≡ counted_as None l
+followed_others l f e = sym (followed_by_lem l f None (sym e))
 
-nothing_by : (p : Sender) (k : FrameContent) (l : Link) → event_of k ≡ Nothing → followed_by p k l ≡ counted_as NotCounted l
-nothing_by A k l e = ap after_hearing (sym (heard_as_lem side.A k l Nothing (sym e)))
-nothing_by B k l e = ap after_hearing (sym (heard_as_lem side.B k l Nothing (sym e)))
-nothing_by Neither k l e = refl
+nothing_by : (p : Option Side) (k : FrameContent) (l : Link) → event_of k ≡ None → followed_by p k l ≡ counted_as None l
+nothing_by (Some from) k l e = ap after_hearing (sym (heard_as_lem from k l None (sym e)))
+nothing_by None k l e = refl
 
-pub followed-nothing : (l : Link) (f : Ax25Frame) → event_of f.content ≡ Nothing → followed l f ≡ counted_as NotCounted l
+pub followed-nothing : (l : Link) (f : Ax25Frame) → event_of f.content ≡ None → followed l f ≡ counted_as None l
 followed-nothing l f e = sym (followed_by_lem l f (sender_in l f) refl) ∙ nothing_by (sender_in l f) f.content l e

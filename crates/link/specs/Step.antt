@@ -1,5 +1,5 @@
 -- A frame offered to a link (document 02, M-112): who sent it, how it is counted, and the order of the answers.
-use Rattle.std.specs.Prelude.{ℕ, ◌+◌, Bool, cond, ◌&&◌, List}
+use Rattle.std.specs.Prelude.{ℕ, ◌+◌, Bool, cond, ◌&&◌, List, Option, Some, None}
 use Rattle.control.specs.declared.Mode.TheVariants.{Short}
 use Rattle.address.specs.declared.Address.{Address}
 use Rattle.content.specs.declared.FrameContent.{FrameContent}
@@ -13,11 +13,10 @@ use Rattle.link_record.specs.declared.LinkAnswer.{LinkAnswer}
 use Rattle.link_record.specs.declared.LinkAnswer.TheVariants.{Offered, NotEncodable, EqualStations, Unsound, Full, Refused}
 use Rattle.link_frame.specs.Frame.{heard_of}
 use Rattle.link_frame.specs.declared.Heard.{Heard}
-use Rattle.link_frame.specs.declared.Side.TheVariants as side
+use Rattle.link_frame.specs.declared.Side.{Side}
+use Rattle.link_frame.specs.declared.Side.TheVariants.{A, B}
 use Rattle.link_frame.specs.declared.Verdict.{Verdict}
-use Rattle.link_frame.specs.declared.Verdict.TheVariants.{NotCounted, InOrder, Repeated, Gap, Outside}
-use Rattle.link.specs.declared.Sender.{Sender}
-use Rattle.link.specs.declared.Sender.TheVariants.{A, B, Neither}
+use Rattle.link_frame.specs.declared.Verdict.TheVariants.{InOrder, Repeated, Gap, Outside}
 use Rattle.link.specs.declared.Stepped.{Stepped}
 
 -- from the one station to the other, by callsign and SSID; route, marks and reserved bits play no part
@@ -25,12 +24,12 @@ abbrev pub is_from_to : Address → Address → Ax25Frame → Bool
 is_from_to from to f = same_station from f.source && same_station to f.destination
 
 -- which of the two sent a frame to the other
-unfoldable pub sender_in : Link → Ax25Frame → Sender
-sender_in l f = cond (is_from_to l.a l.b f) A (cond (is_from_to l.b l.a f) B Neither)
+unfoldable pub sender_in : Link → Ax25Frame → Option Side
+sender_in l f = cond (is_from_to l.a l.b f) (Some A) (cond (is_from_to l.b l.a f) (Some B) None)
 
 -- the same of octets: what is refused is of neither
-unfoldable pub sender_of : Link → List ℕ → Sender
-sender_of l s = cond (is_accepted (decode Short s).answer) (sender_in l (decode Short s).frame) Neither
+unfoldable pub sender_of : Link → List ℕ → Option Side
+sender_of l s = cond (is_accepted (decode Short s).answer) (sender_in l (decode Short s).frame) None
 
 -- a record with these counts and this number offered; all else stays
 abbrev pub tallied : Link → ℕ → ℕ → ℕ → ℕ → ℕ → Link
@@ -50,21 +49,20 @@ tallied l in_order repeated gaps outside offered = record {
 }
 
 -- one more was offered, and the count of its verdict is one more too
-abbrev pub counted_as : Verdict → Link → Link
-counted_as NotCounted l = tallied l l.in_order l.repeated l.gaps l.outside (l.offered + 1)
-counted_as InOrder l = tallied l (l.in_order + 1) l.repeated l.gaps l.outside (l.offered + 1)
-counted_as Repeated l = tallied l l.in_order (l.repeated + 1) l.gaps l.outside (l.offered + 1)
-counted_as Gap l = tallied l l.in_order l.repeated (l.gaps + 1) l.outside (l.offered + 1)
-counted_as Outside l = tallied l l.in_order l.repeated l.gaps (l.outside + 1) (l.offered + 1)
+abbrev pub counted_as : Option Verdict → Link → Link
+counted_as None l = tallied l l.in_order l.repeated l.gaps l.outside (l.offered + 1)
+counted_as (Some InOrder) l = tallied l (l.in_order + 1) l.repeated l.gaps l.outside (l.offered + 1)
+counted_as (Some Repeated) l = tallied l l.in_order (l.repeated + 1) l.gaps l.outside (l.offered + 1)
+counted_as (Some Gap) l = tallied l l.in_order l.repeated (l.gaps + 1) l.outside (l.offered + 1)
+counted_as (Some Outside) l = tallied l l.in_order l.repeated l.gaps (l.outside + 1) (l.offered + 1)
 
 abbrev pub after_hearing : Heard → Link
 after_hearing h = counted_as h.verdict h.link
 
 -- a frame with this content by its sender. One of others changes only the number offered
-abbrev pub followed_by : Sender → FrameContent → Link → Link
-followed_by A k l = after_hearing (heard_of side.A k l)
-followed_by B k l = after_hearing (heard_of side.B k l)
-followed_by Neither k l = counted_as NotCounted l
+abbrev pub followed_by : Option Side → FrameContent → Link → Link
+followed_by (Some from) k l = after_hearing (heard_of from k l)
+followed_by None k l = counted_as None l
 
 unfoldable pub followed : Link → Ax25Frame → Link
 followed l f = followed_by (sender_in l f) f.content l
@@ -74,7 +72,7 @@ unfoldable pub offered_to : Link → Decoding → Stepped
 offered_to l d =
     cond (is_accepted d.answer)
     (record { answer = Offered; link = followed l d.frame })
-    (record { answer = Refused d.answer; link = counted_as NotCounted l })
+    (record { answer = Refused d.answer; link = counted_as None l })
 
 -- with the record's own refusal in hand: 22, 72, 73 and 71 change nothing
 abbrev pub step_by : LinkAnswer → Link → List ℕ → Stepped

@@ -1,15 +1,15 @@
 -- What one frame between the two stations does to the record of their link (document 02, M-112).
-use Rattle.std.specs.Prelude.{ℕ, ◌+◌, ◌%◌, Bool, true, false, cond, not, ◌&&◌, eqb}
+use Rattle.std.specs.Prelude.{ℕ, ◌+◌, ◌%◌, Bool, true, false, cond, not, ◌&&◌, Option, Some, None, eqb}
 use Rattle.content.specs.declared.FrameContent.{FrameContent}
 use Rattle.content.specs.declared.FrameContent.TheVariants as kind
 use Rattle.link_record.specs.Record.{idle, asked_by_a, asked_by_b, up}
 use Rattle.link_record.specs.declared.Link.{Link}
 use Rattle.link_frame.specs.declared.Event.{Event}
-use Rattle.link_frame.specs.declared.Event.TheVariants.{Nothing, Asks, Acknowledges, Ends, Numbered}
+use Rattle.link_frame.specs.declared.Event.TheVariants.{Asks, Acknowledges, Ends, Numbered}
 use Rattle.link_frame.specs.declared.Side.{Side}
 use Rattle.link_frame.specs.declared.Side.TheVariants.{A, B}
 use Rattle.link_frame.specs.declared.Verdict.{Verdict}
-use Rattle.link_frame.specs.declared.Verdict.TheVariants.{NotCounted, InOrder, Repeated, Gap, Outside}
+use Rattle.link_frame.specs.declared.Verdict.TheVariants.{InOrder, Repeated, Gap, Outside}
 use Rattle.link_frame.specs.declared.Heard.{Heard}
 
 -- the state that a SABM from that side makes
@@ -79,7 +79,6 @@ verdict_of from n l =
 
 -- only a frame in order moves its direction
 abbrev pub moves : Verdict → Bool
-moves NotCounted = false
 moves InOrder = true
 moves Repeated = false
 moves Gap = false
@@ -87,38 +86,38 @@ moves Outside = false
 
 -- an I frame with this N(S): its verdict, and the record behind it
 abbrev pub numbered : Side → ℕ → Link → Heard
-numbered from n l = record { verdict = verdict_of from n l; link = cond (moves (verdict_of from n l)) (moved_on from l) l }
+numbered from n l = record { verdict = Some (verdict_of from n l); link = cond (moves (verdict_of from n l)) (moved_on from l) l }
 
 -- a frame that is not counted, and the record behind it
 abbrev pub quiet : Link → Heard
-quiet l = record { verdict = NotCounted; link = l }
+quiet l = record { verdict = None; link = l }
 
 -- what a frame is to the link, by its kind: SABM asks for it, UA acknowledges that, DISC, DM and SABME end it, I frames are numbered, and the
 -- other kinds are nothing to it
-abbrev pub event_of : FrameContent → Event
-event_of (kind.Information k) = Numbered k.send_sequence
-event_of (kind.ReceiveReady k) = Nothing
-event_of (kind.ReceiveNotReady k) = Nothing
-event_of (kind.Reject k) = Nothing
-event_of (kind.SelectiveReject k) = Nothing
-event_of (kind.SetAsynchronousBalancedMode k) = Asks
-event_of (kind.SetAsynchronousBalancedModeExtended k) = Ends
-event_of (kind.Disconnect k) = Ends
-event_of (kind.DisconnectedMode k) = Ends
-event_of (kind.UnnumberedAcknowledge k) = Acknowledges
-event_of (kind.FrameReject k) = Nothing
-event_of (kind.UnnumberedInformation k) = Nothing
-event_of (kind.ExchangeIdentification k) = Nothing
-event_of (kind.Test k) = Nothing
-event_of kind.UnknownContent = Nothing
+abbrev pub event_of : FrameContent → Option Event
+event_of (kind.Information k) = Some (Numbered k.send_sequence)
+event_of (kind.ReceiveReady k) = None
+event_of (kind.ReceiveNotReady k) = None
+event_of (kind.Reject k) = None
+event_of (kind.SelectiveReject k) = None
+event_of (kind.SetAsynchronousBalancedMode k) = Some Asks
+event_of (kind.SetAsynchronousBalancedModeExtended k) = Some Ends
+event_of (kind.Disconnect k) = Some Ends
+event_of (kind.DisconnectedMode k) = Some Ends
+event_of (kind.UnnumberedAcknowledge k) = Some Acknowledges
+event_of (kind.FrameReject k) = None
+event_of (kind.UnnumberedInformation k) = None
+event_of (kind.ExchangeIdentification k) = None
+event_of (kind.Test k) = None
+event_of kind.UnknownContent = None
 
 -- such a frame from that side. Asking and ending change the state alone, in every state
-abbrev pub heard_as : Side → Event → Link → Heard
-heard_as from Nothing l = quiet l
-heard_as from Asks l = quiet (with_state (asked_by from) l)
-heard_as from Acknowledges l = quiet (acknowledged from l)
-heard_as from Ends l = quiet (with_state idle l)
-heard_as from (Numbered n) l = numbered from n l
+abbrev pub heard_as : Side → Option Event → Link → Heard
+heard_as from None l = quiet l
+heard_as from (Some Asks) l = quiet (with_state (asked_by from) l)
+heard_as from (Some Acknowledges) l = quiet (acknowledged from l)
+heard_as from (Some Ends) l = quiet (with_state idle l)
+heard_as from (Some (Numbered n)) l = numbered from n l
 
 -- a frame with this content from that side
 unfoldable pub heard_of : Side → FrameContent → Link → Heard

@@ -2,7 +2,7 @@
 #![tactic(auto)]
 
 ghost use Rattle.std.specs.Prelude.{◌≡◌};
-ghost use Rattle.link_frame.specs.Frame.{asked_by, other, expected_from, moved_from, turned, with_state, acknowledged, moved_on, verdict_of, moves, numbered, quiet, event_of, heard_of};
+ghost use Rattle.link_frame.specs.Frame.{asked_by, other, expected_from, moved_from, acknowledged, moved_on, verdict_of, moves, numbered, quiet, event_of, heard_of};
 
 use content::FrameContent;
 use link_record::{ASKED_BY_A, ASKED_BY_B, IDLE, Link, UP};
@@ -14,30 +14,28 @@ pub enum Side {
     B,
 }
 
-// What a frame between the two is to their link.
+// What a frame between the two is to their link, of the kinds that are something to it.
 #[derive(Clone, Copy)]
 pub enum Event {
-    Nothing,
     Asks,
     Acknowledges,
     Ends,
     Numbered(u8),
 }
 
-// What an I frame is counted as. Frames of other kinds are not.
+// What an I frame is counted as.
 #[derive(Clone, Copy)]
 pub enum Verdict {
-    NotCounted,
     InOrder,
     Repeated,
     Gap,
     Outside,
 }
 
-// What a frame is counted as, and the record behind it, in which it is not counted yet.
+// What a frame is counted as, if it is an I frame, and the record behind it, in which it is not counted yet.
 #[derive(Clone, Copy)]
 pub struct Heard {
-    pub verdict: Verdict,
+    pub verdict: Option<Verdict>,
     pub link: Link,
 }
 
@@ -77,56 +75,22 @@ fn moved_from(from: Side, link: Link) -> bool
     }
 }
 
-// The record with another state, and other expected numbers and memories.
-fn turned(
-    link: Link,
-    state: u32,
-    expected_from_a: u32,
-    expected_from_b: u32,
-    moved_from_a: u32,
-    moved_from_b: u32,
-) -> Link
-    ensures { result ≡ turned link state expected_from_a expected_from_b moved_from_a moved_from_b }
-{
-    let a = link.a;
-    let b = link.b;
-    Link {
-        a,
-        b,
-        state,
-        expected_from_a,
-        expected_from_b,
-        moved_from_a,
-        moved_from_b,
-        in_order: link.in_order,
-        repeated: link.repeated,
-        gaps: link.gaps,
-        outside: link.outside,
-        offered: link.offered,
-    }
-}
-
-fn with_state(state: u32, link: Link) -> Link
-    ensures { result ≡ with_state state link }
-{
-    turned(
-        link,
-        state,
-        link.expected_from_a,
-        link.expected_from_b,
-        link.moved_from_a,
-        link.moved_from_b,
-    )
-}
-
 // UA: only the other side's asking is answered by it.
+#[tactic(auto, unfolding(crate::specs::Frame::acknowledged))]
 fn acknowledged(from: Side, link: Link) -> Link
     ensures { result ≡ acknowledged from link }
 {
     if link.state != asked_by(other(from)) {
         return link;
     }
-    turned(link, UP, 0, 0, 0, 0)
+    Link {
+        state: UP,
+        expected_from_a: 0,
+        expected_from_b: 0,
+        moved_from_a: 0,
+        moved_from_b: 0,
+        ..link
+    }
 }
 
 // That direction one on.
@@ -135,25 +99,20 @@ fn moved_on(from: Side, link: Link) -> Link
 {
     let next = (expected_from(from, link) % 8 + 1) % 8;
     match from {
-        Side::A => turned(
-            link,
-            link.state,
-            next,
-            link.expected_from_b,
-            1,
-            link.moved_from_b,
-        ),
-        Side::B => turned(
-            link,
-            link.state,
-            link.expected_from_a,
-            next,
-            link.moved_from_a,
-            1,
-        ),
+        Side::A => Link {
+            expected_from_a: next,
+            moved_from_a: 1,
+            ..link
+        },
+        Side::B => Link {
+            expected_from_b: next,
+            moved_from_b: 1,
+            ..link
+        },
     }
 }
 
+#[tactic(auto, unfolding(crate::specs::Frame::verdict_of))]
 fn verdict_of(from: Side, sent: u8, link: Link) -> Verdict
     ensures { result ≡ verdict_of from sent link }
 {
@@ -164,26 +123,17 @@ fn verdict_of(from: Side, sent: u8, link: Link) -> Verdict
     if sent as u32 == expected {
         return Verdict::InOrder;
     }
-    if !moved_from(from, link) {
-        return Verdict::Gap;
+    if moved_from(from, link) && (sent as u32 + 1) % 8 == expected {
+        return Verdict::Repeated;
     }
-    if (sent as u32 + 1) % 8 != expected {
-        return Verdict::Gap;
-    }
-    Verdict::Repeated
+    Verdict::Gap
 }
 
 // Whether such a frame moves its direction.
 fn moves(verdict: Verdict) -> bool
     ensures { result ≡ moves verdict }
 {
-    match verdict {
-        Verdict::NotCounted => false,
-        Verdict::InOrder => true,
-        Verdict::Repeated => false,
-        Verdict::Gap => false,
-        Verdict::Outside => false,
-    }
+    matches!(verdict, Verdict::InOrder)
 }
 
 // An I frame with this N(S).
@@ -191,57 +141,57 @@ fn numbered(from: Side, sent: u8, link: Link) -> Heard
     ensures { result ≡ numbered from sent link }
 {
     let verdict = verdict_of(from, sent, link);
-    if !moves(verdict) {
-        return Heard { verdict, link };
-    }
-    let behind = moved_on(from, link);
     Heard {
-        verdict,
-        link: behind,
+        verdict: Some(verdict),
+        link: if moves(verdict) {
+            moved_on(from, link)
+        } else {
+            link
+        },
     }
 }
 
+// A frame that is not counted.
 fn quiet(link: Link) -> Heard
     ensures { result ≡ quiet link }
 {
     Heard {
-        verdict: Verdict::NotCounted,
+        verdict: None,
         link,
     }
 }
 
-// What a frame is to the link, by its kind.
-fn event_of(content: FrameContent) -> Event
+// What a frame is to the link, by its kind: most are nothing to it.
+fn event_of(content: FrameContent) -> Option<Event>
     ensures { result ≡ event_of content }
 {
     match content {
-        FrameContent::Information(i) => Event::Numbered(i.send_sequence),
-        FrameContent::ReceiveReady(_) => Event::Nothing,
-        FrameContent::ReceiveNotReady(_) => Event::Nothing,
-        FrameContent::Reject(_) => Event::Nothing,
-        FrameContent::SelectiveReject(_) => Event::Nothing,
-        FrameContent::SetAsynchronousBalancedMode(_) => Event::Asks,
-        FrameContent::SetAsynchronousBalancedModeExtended(_) => Event::Ends,
-        FrameContent::Disconnect(_) => Event::Ends,
-        FrameContent::DisconnectedMode(_) => Event::Ends,
-        FrameContent::UnnumberedAcknowledge(_) => Event::Acknowledges,
-        FrameContent::FrameReject(_) => Event::Nothing,
-        FrameContent::UnnumberedInformation(_) => Event::Nothing,
-        FrameContent::ExchangeIdentification(_) => Event::Nothing,
-        FrameContent::Test(_) => Event::Nothing,
-        FrameContent::UnknownContent => Event::Nothing,
+        FrameContent::Information(i) => Some(Event::Numbered(i.send_sequence)),
+        FrameContent::SetAsynchronousBalancedMode(_) => Some(Event::Asks),
+        FrameContent::UnnumberedAcknowledge(_) => Some(Event::Acknowledges),
+        FrameContent::SetAsynchronousBalancedModeExtended(_)
+        | FrameContent::Disconnect(_)
+        | FrameContent::DisconnectedMode(_) => Some(Event::Ends),
+        _ => None,
     }
 }
 
 // A frame with this content from that side.
+#[tactic(auto, unfolding(crate::specs::Frame::heard_of))]
 pub fn hear(from: Side, content: FrameContent, link: Link) -> Heard
     ensures { result ≡ heard_of from content link }
 {
     match event_of(content) {
-        Event::Nothing => quiet(link),
-        Event::Asks => quiet(with_state(asked_by(from), link)),
-        Event::Acknowledges => quiet(acknowledged(from, link)),
-        Event::Ends => quiet(with_state(IDLE, link)),
-        Event::Numbered(sent) => numbered(from, sent, link),
+        None => quiet(link),
+        Some(Event::Asks) => quiet(Link {
+            state: asked_by(from),
+            ..link
+        }),
+        Some(Event::Acknowledges) => quiet(acknowledged(from, link)),
+        Some(Event::Ends) => quiet(Link {
+            state: IDLE,
+            ..link
+        }),
+        Some(Event::Numbered(sent)) => numbered(from, sent, link),
     }
 }

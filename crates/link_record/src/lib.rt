@@ -1,7 +1,7 @@
 // The record of a link that is followed, which its owner keeps, and which records are refused.
 #![tactic(auto)]
 
-ghost use Rattle.std.specs.Prelude.{◌≡◌, ◌<◌, ◌^◌};
+ghost use Rattle.std.specs.Prelude.{◌≡◌};
 ghost use Rattle.link_record.specs.Record.{number_of, fresh, stations_encodable, counted, unsound, refusal};
 
 use address::Address;
@@ -64,6 +64,7 @@ impl LinkAnswer {
     }
 }
 
+#[tactic(auto, unfolding(crate::specs::Record::fresh))]
 pub fn fresh(a: Address, b: Address) -> Link
     ensures { result ≡ fresh a b }
 {
@@ -86,40 +87,22 @@ pub fn fresh(a: Address, b: Address) -> Link
 fn are_encodable(link: Link) -> bool
     ensures { result ≡ stations_encodable link }
 {
-    let a = link.a;
-    if !a.is_encodable() {
-        return false;
-    }
-    let b = link.b;
-    b.is_encodable()
+    link.a.is_encodable() && link.b.is_encodable()
 }
 
-// A count in a width that holds the sum of four, whatever they are.
-fn wide(count: u32) -> u64
-    ensures value { result ≡ count }
-    ensures upper_bound { result < 2 ^ 32 }
-{
-    count as u64
-}
-
-// The four counts together.
+// The four counts together, in a width that holds their sum, whatever they are.
+#[tactic(auto, unfolding(crate::specs::Record::counted))]
 fn counted(link: Link) -> u64
     ensures { result ≡ counted link }
 {
-    wide(link.in_order) + wide(link.repeated) + wide(link.gaps) + wide(link.outside)
+    link.in_order as u64 + link.repeated as u64 + link.gaps as u64 + link.outside as u64
 }
 
+#[tactic(auto, unfolding(crate::specs::Record::unsound))]
 fn is_unsound(link: Link) -> bool
     ensures { result ≡ unsound link }
 {
-    let sum = counted(link);
-    if sum > wide(link.offered) {
-        return true;
-    }
-    if link.expected_from_a > 7 {
-        return true;
-    }
-    link.expected_from_b > 7
+    counted(link) > link.offered as u64 || link.expected_from_a > 7 || link.expected_from_b > 7
 }
 
 // What a record is refused by before a frame is looked at; `Offered` where it takes one more.
@@ -129,9 +112,7 @@ pub fn refusal(link: Link) -> LinkAnswer
     if !are_encodable(link) {
         return LinkAnswer::NotEncodable;
     }
-    let a = link.a;
-    let b = link.b;
-    if hops::same_station(a, b) {
+    if hops::same_station(link.a, link.b) {
         return LinkAnswer::EqualStations;
     }
     if is_unsound(link) {

@@ -4,6 +4,7 @@
 
 ghost use Rattle.std.specs.Prelude.{◌≡◌, cond, length, length as list_length};
 ghost use Rattle.octets.specs.Splice.{splice};
+ghost use Rattle.octets.specs.Outcome.{number_by};
 ghost use Rattle.decode.specs.Answer.{report_of};
 ghost use Rattle.decode.specs.Read.{decode};
 ghost use Rattle.old_captures.specs.Old.{decode_old};
@@ -14,14 +15,16 @@ ghost use Rattle.captures.specs.Capture.{filled_all};
 ghost use Rattle.respelling.specs.Reencode.{due, reencode, reencoded, report_of as reencode_report};
 ghost use Rattle.relay.specs.Relay.{relay_answer_as, relayed_as, report_of as relay_report};
 ghost use Rattle.kiss.specs.Write.{number_of as write_number, written, octets_written};
-ghost use Rattle.kiss_reading.specs.Answer.{number_of as read_number};
+ghost use Rattle.kiss_reading.specs.Answer.{number_of as read_number, port_given, octets_given};
 ghost use Rattle.kiss_reading.specs.Read.{read_into};
 ghost use Rattle.kiss_stream.specs.Feed.{feed_of};
 ghost use Rattle.link_record.specs.Record.{number_of as link_number};
 ghost use Rattle.link.specs.Step.{step_of};
 
+use answer::Numbered;
 use captures::CaptureRecord;
 use control::Mode;
+use kiss_reading::KissRead;
 use kiss_state::Stream;
 use kiss_stream::Packet;
 use link_record::Link;
@@ -121,16 +124,16 @@ pub extern "C" fn ax25_kiss_read(
     port: &mut u8,
     length: &mut usize,
 ) -> u32
-    ensures value { result ≡ read_number (read_into input.now (list_length output.old)).answer }
-    ensures output_after { output.new ≡ splice output.old 0 (read_into input.now (list_length output.old)).octets }
-    ensures port_after { port.new ≡ (read_into input.now (list_length output.old)).port }
-    ensures length_after { length.new ≡ list_length (read_into input.now (list_length output.old)).octets }
+    ensures value { result ≡ number_by read_number (read_into input.now (list_length output.old)) }
+    ensures output_after { output.new ≡ splice output.old 0 (octets_given (read_into input.now (list_length output.old))) }
+    ensures port_after { port.new ≡ port_given (read_into input.now (list_length output.old)) }
+    ensures length_after { length.new ≡ list_length (octets_given (read_into input.now (list_length output.old))) }
 {
     let done = kiss_reading::read(input, output);
-    *port = done.port;
-    *length = done.length;
-    let answer = done.answer;
-    answer.number()
+    let read = done.unwrap_or(KissRead { port: 0, length: 0 });
+    *port = read.port;
+    *length = read.length;
+    done.number()
 }
 
 // One whole KISS packet written to the start of the output, and its length. A refusal leaves the output alone and gives length 0.
@@ -141,14 +144,13 @@ pub extern "C" fn ax25_kiss_write(
     output: &mut [u8],
     length: &mut usize,
 ) -> u32
-    ensures value { result ≡ write_number (written port input.now (list_length output.old)).answer }
+    ensures value { result ≡ number_by write_number (written port input.now (list_length output.old)) }
     ensures output_after { output.new ≡ splice output.old 0 (octets_written port input.now (list_length output.old)) }
-    ensures length_after { length.new ≡ (written port input.now (list_length output.old)).length }
+    ensures length_after { length.new ≡ list_length (octets_written port input.now (list_length output.old)) }
 {
-    let done = kiss::write(port, input, output);
-    *length = done.length;
-    let answer = done.answer;
-    answer.number()
+    let written = kiss::write(port, input, output);
+    *length = written.unwrap_or(0);
+    written.number()
 }
 
 // A piece of a serial line taken through the first octet that completes a packet, else the whole: how many octets were taken, and the

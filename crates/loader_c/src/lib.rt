@@ -4,6 +4,7 @@
 
 ghost use Rattle.std.specs.Prelude.{◌≡◌, cond, length, length as list_length};
 ghost use Rattle.octets.specs.Splice.{splice};
+ghost use Rattle.octets.specs.Outcome.{number_by};
 ghost use Rattle.decode.specs.Answer.{report_of};
 ghost use Rattle.decode.specs.Read.{decode};
 ghost use Rattle.old_captures.specs.Old.{decode_old};
@@ -14,7 +15,7 @@ ghost use Rattle.captures.specs.Capture.{filled_all};
 ghost use Rattle.respelling.specs.Reencode.{due, reencode, reencoded, report_of as reencode_report};
 ghost use Rattle.relay.specs.Relay.{relay_answer_as, relayed_as, report_of as relay_report};
 ghost use Rattle.kiss.specs.Write.{number_of as write_number, written, octets_written};
-ghost use Rattle.kiss_reading.specs.Answer.{number_of as read_number};
+ghost use Rattle.kiss_reading.specs.Answer.{number_of as read_number, port_given, octets_given};
 ghost use Rattle.kiss_reading.specs.Read.{read_into};
 ghost use Rattle.kiss_stream.specs.Feed.{feed_of};
 ghost use Rattle.link_record.specs.Record.{number_of as link_number};
@@ -93,10 +94,10 @@ pub extern "C" fn ax25_kiss_read(
     port: &mut u8,
     length: &mut usize,
 ) -> u32
-    ensures value { result ≡ read_number (read_into input.now (list_length output.old)).answer }
-    ensures output_after { output.new ≡ splice output.old 0 (read_into input.now (list_length output.old)).octets }
-    ensures port_after { port.new ≡ (read_into input.now (list_length output.old)).port }
-    ensures length_after { length.new ≡ list_length (read_into input.now (list_length output.old)).octets }
+    ensures value { result ≡ number_by read_number (read_into input.now (list_length output.old)) }
+    ensures output_after { output.new ≡ splice output.old 0 (octets_given (read_into input.now (list_length output.old))) }
+    ensures port_after { port.new ≡ port_given (read_into input.now (list_length output.old)) }
+    ensures length_after { length.new ≡ list_length (octets_given (read_into input.now (list_length output.old))) }
 {
     loader::ax25_kiss_read(input, output, port, length)
 }
@@ -108,9 +109,9 @@ pub extern "C" fn ax25_kiss_write(
     output: &mut [u8],
     length: &mut usize,
 ) -> u32
-    ensures value { result ≡ write_number (written port input.now (list_length output.old)).answer }
+    ensures value { result ≡ number_by write_number (written port input.now (list_length output.old)) }
     ensures output_after { output.new ≡ splice output.old 0 (octets_written port input.now (list_length output.old)) }
-    ensures length_after { length.new ≡ (written port input.now (list_length output.old)).length }
+    ensures length_after { length.new ≡ list_length (octets_written port input.now (list_length output.old)) }
 {
     loader::ax25_kiss_write(port, input, output, length)
 }

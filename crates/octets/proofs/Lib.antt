@@ -10,3 +10,4 @@ pub mod Count
 pub mod Table
 pub mod Lent
 pub mod Position
+pub mod Library

@@ -10,7 +10,7 @@ use Rattle.octets.proofs.Choice.{by}
 use Rattle.octets.proofs.First.{first_le}
 
 module _ {A : Type 0} (p : A → Bool) (s : List A) where
-  first_position : first p s ≡ position_or_len p s
+  pub first_position : first p s ≡ position_or_len p s
   unfolding first
   first_position = is_position_or_len (first p) p refl (λ x xs. rw one-add refl) s
 

@@ -1,5 +1,5 @@
 -- What is or is not refused, as numbers: what the papers say of a refusal, its number and its length 0, of a `Result`.
-use Rattle.std.specs.Prelude.{ℕ, Result, Ok, Err}
+use Rattle.std.specs.Prelude.{ℕ, List, [], Result, Ok, Err, length}
 
 -- the number of an answer: 0 where nothing is refused, else that of the refusal
 abbrev pub number_by : {T E : Type 0} → (E → ℕ) → Result T E → ℕ
@@ -10,3 +10,13 @@ number_by number (Err e) = number e
 abbrev pub length_of : {E : Type 0} → Result ℕ E → ℕ
 length_of (Ok n) = n
 length_of (Err e) = 0
+
+-- what is put into a lent buffer: nothing where that is refused
+abbrev pub octets_of : {E : Type 0} → Result (List ℕ) E → List ℕ
+octets_of (Ok s) = s
+octets_of (Err e) = []
+
+-- the same with how many octets there are in their place
+abbrev pub measured : {E : Type 0} → Result (List ℕ) E → Result ℕ E
+measured (Ok s) = Ok (length s)
+measured (Err e) = Err e

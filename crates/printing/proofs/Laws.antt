@@ -1,14 +1,14 @@
 -- How the printer comes to its definitions: the callsign's length by one pass, and the text in two parts.
-use Prim.Native.Nat.{ℕ, suc, ◌+◌, ◌≤◌, ◌<◌}
+use Prim.Native.Nat.{ℕ, zero, suc, ◌+◌, ◌≤◌, ◌<◌}
+use mathlib.Core.Logic.{◌≢◌}
 use mathlib.Core.Path.{◌≡◌, refl, sym, ◌∙◌}
 use mathlib.Core.Bool.{true, cond, not, ◌&&◌}
 use mathlib.Core.List.{List, [], ◌∷◌, ◌++◌}
-use native.Mathlib.Numerals.{add-one}
 use native.Mathlib.Omega.{arith}
 use borrow.Author.Tests.{ne_eqb, ltb-true, ltb-false, le-ltb}
 use lib.Dec.{eqb, ltb}
 use lib.ListN.{length, get_or, take, drop, length-append}
-use lib.Seq.{take-suc, length-take-le}
+use lib.Seq.{length-take-le}
 use Rattle.octets.proofs.Choice.{by, either}
 use Rattle.octets.specs.Splice.{splice}
 use Rattle.octets.proofs.Splice.{splice_in, splice_out, splice-more}
@@ -22,18 +22,20 @@ used_le [] = omega arith
 used_le (c ∷ s) =
     either (λ (n : ℕ). n ≤ suc (length s)) (eqb (used s) 0 && space c) (λ e. omega arith) (λ e. omega (arith, used_le s))
 
--- one character more
-used-more : (s : List ℕ) (c : ℕ) → used (s ++ (c ∷ [])) ≡ cond (space c) (used s) (suc (length s))
+-- none is used where all are spaces
+pub used_none : (s : List ℕ) → ((k : ℕ) → k < length s → get_or s k 0 ≡ 32) → used s ≡ 0
 unfolding used
-used-more [] c = refl
-used-more (x ∷ s) c =
-    by (space c)
-    (λ e. let h : used (s ++ (c ∷ [])) ≡ used s = used-more s c ∙ simp e in simp (e, h))
-    (λ e. let h : used (s ++ (c ∷ [])) ≡ suc (length s) = used-more s c ∙ simp e in simp (e, h, ne_eqb (suc (length s)) 0 (λ z. omega arith)))
+used_none [] f = refl
+used_none (c ∷ s) f = rw (used_none s (λ k h. f (suc k) (omega arith)), f 0 (omega arith)) refl
 
-pub used_turn : (s : List ℕ) (i : ℕ) → i < length s → used (take (i + 1) s) ≡ cond (space (get_or s i 0)) (used (take i s)) (i + 1)
-used_turn s i h =
-    rw (add-one, take-suc s i 0) (used-more (take i s) (get_or s i 0) ∙ rw (length-take-le i s (omega arith)) refl)
+-- and else all up to the last that is no space
+pub used_last : (s : List ℕ) (i : ℕ) → i < length s → get_or s i 0 ≢ 32 → ((k : ℕ) → i < k → k < length s → get_or s k 0 ≡ 32) → used s ≡ i + 1
+unfolding used
+used_last [] i h n f = absurd (omega arith)
+used_last (c ∷ s) zero h n f = rw (used_none s (λ k l. f (suc k) (omega arith) (omega arith)), ne_eqb c 32 n) refl
+used_last (c ∷ s) (suc i) h n f =
+    let e : used s ≡ i + 1 = used_last s i (omega arith) n (λ k l m. f (suc k) (omega arith) (omega arith)) in
+    rw (e, ne_eqb (i + 1) 0 (λ z. omega arith)) (omega arith)
 
 -- the callsign without its padding is as long as that
 pub trimmed-length : (s : List ℕ) → length (take (used s) s) ≡ used s

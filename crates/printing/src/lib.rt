@@ -1,21 +1,21 @@
 // The text of an address: its callsign, then a hyphen and the SSID where it is not 0, as VK7NTK-5. The crate `text` reads it.
 #![tactic(auto)]
 
-ghost use Rattle.std.specs.Prelude.{◌≡◌, length};
+ghost use Rattle.std.specs.Prelude.{◌≡◌, ◌≢◌, ◌<◌, ℕ, length, slice_index, MatchOption};
 ghost use Rattle.octets.specs.Splice.{splice};
 ghost use Rattle.printing.specs.Print.{used, ssid_suffix, text_of, print_number_of, printed, printed_into};
 
 use address::Address;
 
 // How printing ended.
-#[derive(Clone, Copy)]
+#[derive(Clone, Copy, Debug, PartialEq, Eq)]
 pub enum PrintAnswer {
     Printed,
     NotEncodable,
     NoRoom,
 }
 
-#[derive(Clone, Copy)]
+#[derive(Clone, Copy, Debug, PartialEq, Eq)]
 pub struct Printed {
     pub answer: PrintAnswer,
     pub length: usize,
@@ -78,40 +78,39 @@ fn put_text(address: Address, out: &mut [u8]) -> usize
 pub fn callsign_length(callsign: &[u8]) -> usize
     ensures { result ≡ used callsign.now }
 {
-    let mut n: usize = 0;
-    let mut i = 0;
-    while i < callsign.len() {
-        if callsign[i] != b' ' {
-            n = i + 1;
-        }
-        i += 1;
+    match last_character(callsign) {
+        Some(last) => last + 1,
+        None => 0,
     }
-    n
+}
+
+// The place of the last character that is no space.
+fn last_character(callsign: &[u8]) -> Option<usize>
+    ensures { MatchOption result ((k : ℕ) → k < length callsign.now → slice_index callsign.now k ≡ 32) (λ i. (i < length callsign.now) × (slice_index callsign.now i ≢ 32) × ((k : ℕ) → i < k → k < length callsign.now → slice_index callsign.now k ≡ 32)) }
+{
+    callsign.iter().rposition(|c| *c != b' ')
 }
 
 // How many octets `put_suffix` writes.
+#[tactic(auto, unfolding(crate::specs::Print::ssid_suffix, crate::specs::Print::decimal_text))]
 fn suffix_length(ssid: u8) -> usize
     ensures { result ≡ length (ssid_suffix ssid) }
 {
-    if ssid >= 10 {
-        return 3;
+    match ssid {
+        0 => 0,
+        1..=9 => 2,
+        _ => 3,
     }
-    if ssid > 0 {
-        return 2;
-    }
-    0
 }
 
 // A hyphen and the SSID in decimal; nothing for SSID 0. `print` has refused an SSID over 15.
+#[tactic(auto, using(octets::proofs::Splice::splice_none), unfolding(crate::specs::Print::ssid_suffix, crate::specs::Print::decimal_text))]
 fn put_suffix(out: &mut [u8], at: usize, ssid: u8)
     ensures { out.new ≡ splice out.old at (ssid_suffix ssid) }
 {
-    if ssid == 0 {
-        return;
+    match ssid {
+        0 => {}
+        1..=9 => lent_buffer::put(out, at, &[b'-', b'0' + ssid]),
+        _ => lent_buffer::put(out, at, &[b'-', b'0' + ssid / 10, b'0' + ssid % 10]),
     }
-    if ssid < 10 {
-        lent_buffer::put(out, at, &[b'-', b'0' + ssid]);
-        return;
-    }
-    lent_buffer::put(out, at, &[b'-', b'0' + ssid / 10, b'0' + ssid % 10]);
 }

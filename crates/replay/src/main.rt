@@ -4,41 +4,31 @@
 
 ghost use Rattle.std.specs.Prelude.{◌≤◌, length};
 
-use crate::words::{after, first, number, octets, place, show, word};
+use crate::words::{number, octets, show};
 use std::io::{Read, Stdin, Stdout};
 
-mod words; // words.rt: the words of a line, hex and decimal
+mod words; // words.rt: hex and decimal
 mod answers; // answers.rt: the code's answer to one line
 
-// What stands after the letter: octets, octets and a number.
+// What stands after the letter: octets, octets and a number. A word that is not there is an empty one.
 fn input(output: Stdout, letter: u8, l: &[u8]) {
+    let mut words = l.split(|c| *c == b' ').skip(1);
     let mut one = [0u8; 512];
-    let n = octets(word(l), &mut one);
-    let rest = after(l);
     let mut other = [0u8; 512];
-    let m = octets(word(rest), &mut other);
-    let k = number(word(after(rest)));
-    answers::answer(output, letter, first(&one, n), first(&other, m), k);
+    let one = octets(words.next().unwrap_or(b""), &mut one);
+    let other = octets(words.next().unwrap_or(b""), &mut other);
+    let n = number(words.next().unwrap_or(b""));
+    answers::answer(output, letter, one, other, n);
 }
 
 // A line without its end: a heading stands as it is, any other is a letter and the input.
 fn line(output: Stdout, l: &[u8]) {
-    if l.len() == 0 {
+    let Some(letter) = l.first() else {
         return;
-    }
+    };
     show(output, l);
-    input(output, l[0], after(l));
+    input(output, *letter, l);
     show(output, b"\n");
-}
-
-fn lines(output: Stdout, list: &[u8]) {
-    let mut at = 0;
-    while at < list.len() {
-        let rest = &list[at..];
-        let n = place(rest, b'\n');
-        line(output, first(rest, n));
-        at = at + n + 1;
-    }
 }
 
 // Reads until the buffer is full or nothing is left to read, and gives how many octets stand at its start. A read that fails is taken for
@@ -47,6 +37,7 @@ fn read_full(mut stdin: Stdin, octets: &mut [u8]) -> usize
     ensures { result ≤ length octets.new }
 {
     let mut done = 0;
+    // A while loop: each turn goes as far as a read goes.
     while done < octets.len() {
         let n = stdin.read(&mut octets[done..]).unwrap_or(0);
         if n == 0 {
@@ -59,7 +50,9 @@ fn read_full(mut stdin: Stdin, octets: &mut [u8]) -> usize
 
 fn replay(stdin: Stdin, output: Stdout, list: &mut [u8]) {
     let n = read_full(stdin, list);
-    lines(output, first(list, n));
+    for l in list[..n].split(|c| *c == b'\n') {
+        line(output, l);
+    }
 }
 
 fn main(rt: HostRuntime) {

@@ -14,6 +14,7 @@ use Rattle.octets.specs.All.{all}
 use Rattle.octets.specs.First.{first}
 use Rattle.octets.proofs.Choice.{by, both, and_false, either}
 use Rattle.octets.proofs.All.{all_nil, all_cons, all_at, all_append, all-follows}
+use Rattle.octets.proofs.Count.{count_append}
 use Rattle.octets.proofs.First.{first_step, first_end, first_past}
 use Rattle.octets.proofs.Octet.{octet_where}
 use Rattle.address.specs.declared.Address.{Address}
@@ -204,14 +205,6 @@ count_none (x ∷ c) e =
     let h = both (other x) (all other c) (rw all_cons at e) in
     rw (not-true (hyphen x) h.0) (count_none c h.1)
 
-count-append : (c u : List ℕ) → count hyphen (c ++ u) ≡ count hyphen c + count hyphen u
-unfolding count
-count-append [] u = omega arith
-count-append (x ∷ c) u =
-    by (hyphen x)
-    (λ e. rw e (omega (arith, count-append c u)))
-    (λ e. rw e (count-append c u))
-
 -- a callsign without hyphens and a suffix come apart again
 module _ (c u : List ℕ) (s : ℕ) (q : Suffix u s) (o : all other c ≡ true) where
   seam : first hyphen (c ++ u) ≡ length c
@@ -241,7 +234,7 @@ module _ (c u : List ℕ) (s : ℕ) (q : Suffix u s) (o : all other c ≡ true) 
   value = rw (has, back) q.value
 
   few : many_hyphens (c ++ u) ≡ false
-  few = le-ltb 1 (count hyphen (c ++ u)) (omega (arith, count-append c u, count_none c o, q.hyphens))
+  few = le-ltb 1 (count hyphen (c ++ u)) (omega (arith, count_append hyphen c u, count_none c o, q.hyphens))
 
 accepted : (c : List ℕ) (s : ℕ) → 0 < length c → length c ≤ 6 → all alphanumeric c ≡ true → s ≤ 15
     → read_callsign c s ≡ record { answer = Accepted; address = with_ones (padded c) s }

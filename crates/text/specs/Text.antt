@@ -1,5 +1,5 @@
 -- Reading the text of an address: callsign, hyphen, SSID. The conditions of document 01's number table, and the readers.
-use Rattle.std.specs.Prelude.{ℕ, ◌+◌, ◌*◌, ◌-◌, ◌≤◌, ◌<◌, ◌≡◌, Bool, true, cond, not, ◌&&◌, ◌||◌, List, [], ◌∷◌, eqb, ltb, leb, length, get_or, take, drop}
+use Rattle.std.specs.Prelude.{ℕ, ◌+◌, ◌*◌, ◌-◌, ◌≤◌, ◌<◌, ◌≡◌, Bool, true, cond, not, ◌&&◌, ◌||◌, List, [], ◌∷◌, eqb, ltb, leb, length, get_or, take, drop, Option, Some, None}
 use Rattle.octets.specs.All.{all}
 use Rattle.octets.specs.Count.{count}
 use Rattle.octets.specs.First.{first}
@@ -7,8 +7,6 @@ use Rattle.address.specs.declared.Address.{Address}
 use Rattle.text.specs.declared.AddressAnswer.{AddressAnswer}
 use Rattle.text.specs.declared.AddressAnswer.TheVariants.{Accepted, CallsignTooLong, InvalidFormat, InvalidSsid, SsidOutOfRange, NotAscii}
 use Rattle.text.specs.declared.AddressRead.{AddressRead}
-use Rattle.text.specs.declared.Ssid.{Ssid}
-use Rattle.text.specs.declared.Ssid.TheVariants.{Number, NotANumber}
 use Rattle.address.specs.Address.{low, with_ones, no_call}
 use Rattle.printing.specs.Print.{used, trimmed}
 
@@ -137,16 +135,9 @@ read_text t =
     (cond (bad_ssid t) (refused InvalidSsid)
     (read_callsign (callsign_text t) (ssid_value t))))
 
--- the steps of the text's reader: what digits say, what the text says from the hyphen at a place on, and the address of both parts
-unfoldable pub digits_say : List ℕ → Ssid
-digits_say ds = cond (digits8 ds) (Number (decimal ds)) NotANumber
-
-unfoldable pub ssid_from : List ℕ → ℕ → Ssid
-ssid_from t at = cond (ltb at (length t)) (digits_say (after_plus (drop (at + 1) t))) (Number 0)
-
-abbrev pub read_with : List ℕ → Ssid → AddressRead
-read_with c (Number s) = read_callsign c s
-read_with c NotANumber = refused InvalidSsid
+-- what the text of an SSID says: the number, if it is one
+unfoldable pub digits_say : List ℕ → Option ℕ
+digits_say ds = cond (digits8 ds) (Some (decimal ds)) None
 
 -- an address as people write it: 1 to 6 upper-case letters and digits, then spaces; an SSID up to 15. Its reserved bits are any that
 -- printing takes

@@ -1,16 +1,15 @@
 // Reading the text of an address: a callsign, then a hyphen and an SSID, as VK7NTK-5. The crate `printing` writes it.
 #![tactic(auto)]
 
-ghost use Rattle.std.specs.Prelude.{◌≡◌};
+ghost use Rattle.std.specs.Prelude.{◌≡◌, ◌+◌, ◌-◌, ◌*◌, ◌<◌, ◌≤◌, MatchOption, position, count_by};
 ghost use Rattle.octets.specs.All.{all};
-ghost use Rattle.octets.specs.First.{first};
-ghost use Rattle.octets.specs.Count.{count};
-ghost use Rattle.text.specs.Text.{address_number_of, hyphen, digits_say, after_plus, ssid_from, alphanumeric, upper, upper_at, padded, refused, read_callsign, read_with, read_parts, read_text};
+ghost use Rattle.text.specs.Text.{address_number_of, hyphen, digits_say, after_plus, alphanumeric, upper_at, padded, refused, read_callsign, read_parts, read_text};
 
 use address::Address;
+use std::array;
 
 // How reading an address ended.
-#[derive(Clone, Copy)]
+#[derive(Clone, Copy, Debug, PartialEq, Eq)]
 pub enum AddressAnswer {
     Accepted,
     CallsignTooLong,
@@ -20,17 +19,10 @@ pub enum AddressAnswer {
     NotAscii,
 }
 
-#[derive(Clone, Copy)]
+#[derive(Clone, Copy, Debug, PartialEq, Eq)]
 pub struct AddressRead {
     pub answer: AddressAnswer,
     pub address: Address,
-}
-
-// What the text of an SSID says.
-#[derive(Clone, Copy)]
-enum Ssid {
-    Number(u8),
-    NotANumber,
 }
 
 impl AddressAnswer {
@@ -65,20 +57,15 @@ pub fn from_str(text: &[u8]) -> AddressRead
     if !address::is_ascii(text) {
         return refusal(AddressAnswer::NotAscii);
     }
-    let n = first_hyphen(text);
     if hyphens(text) > 1 {
         return refusal(AddressAnswer::InvalidFormat);
     }
-    read_with(&text[..n], ssid_from(text, n))
-}
-
-// An address from a callsign and what the text of its SSID says.
-fn read_with(callsign: &[u8], ssid: Ssid) -> AddressRead
-    ensures { result ≡ read_with callsign.now ssid }
-{
-    match ssid {
-        Ssid::Number(ssid) => read_callsign(callsign, ssid),
-        Ssid::NotANumber => refusal(AddressAnswer::InvalidSsid),
+    let Some(at) = first_hyphen(text) else {
+        return read_callsign(text, 0);
+    };
+    match parse_ssid(&text[at + 1..]) {
+        Some(ssid) => read_callsign(&text[..at], ssid),
+        None => refusal(AddressAnswer::InvalidSsid),
     }
 }
 
@@ -93,87 +80,60 @@ fn refusal(answer: AddressAnswer) -> AddressRead
 
 // How many hyphens there are.
 fn hyphens(text: &[u8]) -> usize
-    ensures { result ≡ count hyphen text.now }
+    ensures { result ≡ count_by hyphen text.now }
 {
-    let mut n: usize = 0;
-    let mut i = 0;
-    while i < text.len() {
-        if text[i] == b'-' {
-            n += 1;
-        }
-        i += 1;
-    }
-    n
+    text.iter().filter(|c| **c == b'-').count()
 }
 
-// The place of the first hyphen; the length where there is none.
-fn first_hyphen(text: &[u8]) -> usize
-    ensures { result ≡ first hyphen text.now }
+// The place of the first hyphen.
+fn first_hyphen(text: &[u8]) -> Option<usize>
+    ensures { result ≡ position hyphen text.now }
 {
-    let mut i = 0;
-    while i < text.len() {
-        if text[i] == b'-' {
-            return i;
-        }
-        i += 1;
-    }
-    i
-}
-
-// The SSID of a text whose first hyphen is at `at`: 0 where none is.
-fn ssid_from(text: &[u8], at: usize) -> Ssid
-    ensures { result ≡ ssid_from text.now at }
-{
-    if at >= text.len() {
-        return Ssid::Number(0);
-    }
-    parse_ssid(&text[at + 1..])
+    text.iter().position(|c| *c == b'-')
 }
 
 // Digits, with one optional plus sign before them.
-fn parse_ssid(text: &[u8]) -> Ssid
+#[tactic(auto, unfolding(crate::specs::Text::after_plus))]
+fn parse_ssid(text: &[u8]) -> Option<u8>
     ensures { result ≡ digits_say (after_plus text.now) }
 {
-    if text.len() == 0 {
-        return Ssid::NotANumber;
+    match text {
+        [b'+', digits @ ..] => parse_digits(digits),
+        digits => parse_digits(digits),
     }
-    if text[0] == b'+' {
-        return parse_digits(&text[1..]);
-    }
-    parse_digits(text)
 }
 
 // One or more digits of a number up to 255. Once the value is over 255 no digit brings it back.
-fn parse_digits(text: &[u8]) -> Ssid
+fn parse_digits(text: &[u8]) -> Option<u8>
     ensures { result ≡ digits_say text.now }
 {
-    if text.len() == 0 {
-        return Ssid::NotANumber;
+    if text.is_empty() {
+        return None;
     }
-    let mut value: u16 = 0;
-    let mut i = 0;
-    while i < text.len() {
-        let d = text[i];
-        if d < b'0' {
-            return Ssid::NotANumber;
+    let mut value: u8 = 0;
+    for digit in text {
+        if !digit.is_ascii_digit() {
+            return None;
         }
-        if d > b'9' {
-            return Ssid::NotANumber;
-        }
-        value = value * 10 + (d - b'0') as u16;
-        if value > 255 {
-            return Ssid::NotANumber;
-        }
-        i += 1;
+        value = with_digit(value, *digit)?;
     }
-    Ssid::Number(value as u8)
+    Some(value)
+}
+
+// The number with one digit more, if eight bits hold it.
+fn with_digit(value: u8, digit: u8) -> Option<u8>
+    requires { 48 ≤ digit }
+    ensures { MatchOption result (255 < value * 10 + (digit - 48)) (λ next. next ≡ value * 10 + (digit - 48)) }
+{
+    value.checked_mul(10)?.checked_add(digit - b'0')
 }
 
 // An address from a callsign without octets of 128 or more, and an SSID.
+#[tactic(auto, unfolding(crate::specs::Text::read_callsign))]
 fn read_callsign(callsign: &[u8], ssid: u8) -> AddressRead
     ensures { result ≡ read_callsign callsign.now ssid }
 {
-    if callsign.len() == 0 {
+    if callsign.is_empty() {
         return refusal(AddressAnswer::InvalidFormat);
     }
     if callsign.len() > 6 {
@@ -199,70 +159,28 @@ fn read_callsign(callsign: &[u8], ssid: u8) -> AddressRead
 fn are_alphanumeric(callsign: &[u8]) -> bool
     ensures { result ≡ all alphanumeric callsign.now }
 {
-    let mut i = 0;
-    while i < callsign.len() {
-        if !is_alphanumeric(callsign[i]) {
-            return false;
-        }
-        i += 1;
-    }
-    true
+    callsign.iter().all(|c| is_alphanumeric(*c))
 }
 
-// The ranges of digits, upper case and lower case, from below.
+// Whether it is a digit, or a letter of either case.
 pub fn is_alphanumeric(c: u8) -> bool
     ensures { result ≡ alphanumeric c }
 {
-    if c < b'0' {
-        return false;
-    }
-    if c <= b'9' {
-        return true;
-    }
-    if c < b'A' {
-        return false;
-    }
-    if c <= b'Z' {
-        return true;
-    }
-    if c < b'a' {
-        return false;
-    }
-    c <= b'z'
+    c.is_ascii_alphanumeric()
 }
 
 // The callsign in upper case, padded with spaces; of a longer one, its first six characters.
 fn pad(callsign: &[u8]) -> [u8; 6]
     ensures { result ≡ padded callsign.now }
 {
-    [
-        upper_at(callsign, 0),
-        upper_at(callsign, 1),
-        upper_at(callsign, 2),
-        upper_at(callsign, 3),
-        upper_at(callsign, 4),
-        upper_at(callsign, 5),
-    ]
+    array::from_fn(|k| upper_at(callsign, k))
 }
 
 // A character in upper case; a space past the end.
+#[tactic(auto, unfolding(crate::specs::Text::upper))]
 fn upper_at(callsign: &[u8], k: usize) -> u8
     ensures { result ≡ upper_at callsign.now k }
 {
-    if k >= callsign.len() {
-        return b' ';
-    }
-    to_upper(callsign[k])
-}
-
-fn to_upper(c: u8) -> u8
-    ensures { result ≡ upper c }
-{
-    if c < b'a' {
-        return c;
-    }
-    if c > b'z' {
-        return c;
-    }
-    c - 32
+    let character = callsign.get(k).copied().unwrap_or(b' ');
+    character.to_ascii_uppercase()
 }

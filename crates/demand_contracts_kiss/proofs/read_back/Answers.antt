@@ -6,7 +6,7 @@ use lib.ListN.{length}
 use lib.Seq.{length-take-le}
 use Rattle.octets.specs.Splice.{splice}
 use Rattle.octets.proofs.Splice.{splice-length}
-use Rattle.kiss.specs.Write.{written, octets_written}
+use Rattle.kiss.specs.Write.{octets_written}
 use Rattle.kiss.proofs.Laws.{written-room}
 use Rattle.demands_kiss.proofs.Kiss.{kiss_round}
 use Rattle.octets.proofs.Lent.{splice_start}
@@ -14,7 +14,7 @@ use Rattle.demand_contracts_kiss.proofs.read_back.Goals as goal
 
 -- the length that the first call gave is within the line
 within : (port : ℕ) (s line left : List ℕ) (n : ℕ) → left ≡ splice line 0 (octets_written port s (length line))
-    → n ≡ (written port s (length line)).length → n ≤ length left
+    → n ≡ length (octets_written port s (length line)) → n ≤ length left
 within port s line left n e f = rw (e, f, splice-length line 0 (octets_written port s (length line))) (written-room port s (length line))
 
 pub slice_bounds-ax25_kiss_read-end : goal.slice_bounds-ax25_kiss_read-end

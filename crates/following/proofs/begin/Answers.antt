@@ -5,12 +5,12 @@ use Rattle.following.proofs.begin.Goals as goal
 
 pub returns : goal.returns
 returns c =
-    let put = c.put_answer-length.ensures in
+    let put = c.put_answer.ensures in
     let refused = c.refused_by-number.ensures in
     let first = c.from_str-first.ensures in
     let second = c.from_str-second.ensures in
     record {
-      value = rw (← first, ← second, ← refused, ← c.fresh-link.ensures, ← put.value) refl;
+      value = rw (← first, ← second, ← refused, ← c.fresh.ensures, ← put.value) refl;
       out_after = rw (← first, ← second, ← refused) put.out_after;
       length_in_bounds = rw (put.out_after, put.value, splice-length) (behind-most _ _);
     }

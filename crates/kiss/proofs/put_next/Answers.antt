@@ -1,54 +1,36 @@
 -- The three ways of going on.
-use Prim.Native.Nat.{◌+◌, ◌-◌, ◌≤◌}
-use mathlib.Core.Path.{◌≡◌, ap, sym, ◌∙◌}
-use native.Mathlib.Omega.{arith}
-use borrow.Author.Tests.{eq-eqb, ne_eqb}
-use lib.ListN.{length, drop, length-drop}
+use Rattle.std.proofs.Common.{◌≡◌, length, get_or, ap, arith}
+use lib.Seq.{length-take-le}
 use Rattle.octets.specs.First.{first}
-use Rattle.octets.specs.Splice.{splice}
 use Rattle.octets.proofs.First.{first_le}
-use Rattle.escapes.specs.Escape.{special}
-use Rattle.kiss.proofs.Laws.{next-fend, next-fesc, next-plain, next-room}
+use Rattle.escapes.specs.Escape.{fend, fesc, special}
+use Rattle.kiss.proofs.Laws.{next_fend, next_fesc, next_plain, next_fits}
 use Rattle.kiss.proofs.put_next.Goals as goal
-use Rattle.kiss.proofs.put_next.Goals.{After-plain_to-stop}
-
--- the run ends within the data
-reach : (c : After-plain_to-stop) → c.args.from + first special (drop c.args.from c.args.info.now) ≤ length c.args.info.now
-reach c =
-    omega (arith, first_le special (drop c.args.from c.args.info.now), length-drop c.args.from c.args.info.now, c.requires.0)
 
 pub put_escape-requires : goal.put_escape-requires
 put_escape-requires c =
-    let s = c.args.info.now in
-    let o = next-fend s c.args.from 0 c.requires.0 (eq-eqb _ _ c.if-octet.true) in
-    omega (arith, ap length o.1, next-room s c.args.from 0 c.requires.0, c.requires.1)
+    let o = next_fend c.args.rest.now c.requires.some c.in-192.is in
+    omega (arith, ap length o.1, next_fits c.args.rest.now c.requires.some)
 
-pub returns-then-octet : goal.returns-then-octet
-returns-then-octet c =
-    let o = next-fend c.args.info.now c.args.from c.args.to c.requires.0 (eq-eqb _ _ c.if-octet.true) in
-    record { value = o.0; out_after = c.put_escape.ensures ∙ ap (splice c.args.out.now c.args.to) (sym o.1) }
+pub returns-in-192 : goal.returns-in-192
+returns-in-192 c =
+    let o = next_fend c.args.rest.now c.requires.some c.in-192.is in
+    rw (o.0, o.1) (record { value = c.put_escape.ensures.value; out_after = c.put_escape.ensures.out_after })
 
-pub put_escape-requires-then-octet-2 : goal.put_escape-requires-then-octet-2
-put_escape-requires-then-octet-2 c =
-    let s = c.args.info.now in
-    let o = next-fesc s c.args.from 0 c.requires.0 (ne_eqb _ _ c.if-octet.false) (eq-eqb _ _ c.if-octet-2.true) in
-    omega (arith, ap length o.1, next-room s c.args.from 0 c.requires.0, c.requires.1)
+pub put_escape-requires-in-219 : goal.put_escape-requires-in-219
+put_escape-requires-in-219 c =
+    let o = next_fesc c.args.rest.now c.requires.some c.in-219.is in
+    omega (arith, ap length o.1, next_fits c.args.rest.now c.requires.some)
 
-pub returns-then-octet-2 : goal.returns-then-octet-2
-returns-then-octet-2 c =
-    let o = next-fesc c.args.info.now c.args.from c.args.to c.requires.0 (ne_eqb _ _ c.if-octet.false) (eq-eqb _ _ c.if-octet-2.true) in
-    record { value = o.0; out_after = c.put_escape-then-octet-2.ensures ∙ ap (splice c.args.out.now c.args.to) (sym o.1) }
+pub returns-in-219 : goal.returns-in-219
+returns-in-219 c =
+    let o = next_fesc c.args.rest.now c.requires.some c.in-219.is in
+    rw (o.0, o.1) (record { value = c.put_escape-in-219.ensures.value; out_after = c.put_escape-in-219.ensures.out_after })
 
-pub slice_bounds-put-end : goal.slice_bounds-put-end
-slice_bounds-put-end c = omega (arith, c.plain_to-stop.ensures, reach (goal.at.slice_bounds-put-end c).After-plain_to-stop)
-
-pub overflow_add-result-2 : goal.overflow_add-result-2
-overflow_add-result-2 c = omega (arith, c.plain_to-stop.ensures, reach (goal.at.overflow_add-result-2 c).After-plain_to-stop)
-
-pub returns : goal.returns
-returns c =
-    let s = c.args.info.now in
-    let k = c.plain_to-stop.ensures in
-    let o = next-plain s c.args.from c.args.to c.requires.0 (ne_eqb _ _ c.if-octet.false) (ne_eqb _ _ c.if-octet-2.false) in
-    let n : c.plain_to-stop.result - c.args.from ≡ first special (drop c.args.from s) = omega (arith, k) in
-    record { value = rw (n, k) o.0; out_after = c.put.ensures ∙ rw n (ap (splice c.args.out.now c.args.to) (sym o.1)) }
+pub returns-in_default : goal.returns-in_default
+returns-in_default c =
+    let a : get_or c.args.rest.now 0 0 ≡ fend → ⊥ = λ e. omega arith in
+    let b : get_or c.args.rest.now 0 0 ≡ fesc → ⊥ = λ e. omega arith in
+    let o = next_plain c.args.rest.now c.requires.some a b in
+    let long = length-take-le (first special c.args.rest.now) c.args.rest.now (first_le special c.args.rest.now) in
+    rw (o.0, o.1, long) (record { value = c.put_plain.ensures.value; out_after = c.put_plain.ensures.out_after })

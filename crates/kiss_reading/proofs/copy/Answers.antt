@@ -1,46 +1,46 @@
-use mathlib.Core.Path.{refl, ap, ◌∙◌}
-use native.Mathlib.Omega.{arith}
-use lib.ListN.{length-drop}
-use lib.ListN.{length as list_length}
-use Rattle.octets.proofs.Splice.{splice-length}
-use Rattle.kiss_reading.specs.declared.Step.{Step}
-use Rattle.kiss_reading.proofs.Turns.{left_goes, left_turn, left_none}
+use Rattle.std.proofs.Common.{◌-◌, ◌<◌, length, take, drop, refl, ap, sym, ◌∙◌, arith, length-drop}
+use Rattle.octets.proofs.Splice.{splice-length, part_from}
+use Rattle.kiss_reading.proofs.Turns.{Goes, goes, left_room, left_turn, left_none}
 use Rattle.kiss_reading.proofs.copy.Goals as goal
+use Rattle.kiss_reading.proofs.copy.Goals.{In-Some}
 
-pub loop-j-init : goal.loop-j-init
-loop-j-init c =
-    let p = c.requires in
-    (refl, record { good = p.0; many = omega (arith, p.1); long = p.2; is = refl })
+turn : (c : In-Some) → Goes c.loop-step.rest.now c.in-Some.step
+turn c = goes _ _ (sym c.in-Some.ensures)
 
-pub copy_step-step-requires : goal.copy_step-step-requires
-copy_step-step-requires c = left_goes _ _ _ _ _ _ c.loop-j.invariant.1 c.loop-j-test.true
+pub loop-step-init : goal.loop-step-init
+loop-step-init c = (refl, record { good = c.requires.good; fits = omega (arith, c.requires.room); is = refl })
 
-pub overflow_add-i : goal.overflow_add-i
-overflow_add-i c =
-    let g = left_goes _ _ _ _ _ _ c.loop-j.invariant.1 c.loop-j-test.true in
-    let i = c.loop-j.i in
-    omega (arith, ap (λ (t : Step). t.width) c.copy_step-step.ensures.value, g.1.wide, length-drop i c.args.input.now, g.0)
+pub put_step-requires : goal.put_step-requires
+put_step-requires c = record {
+  taken = (turn (goal.at.put_step-requires c).In-Some).wide;
+  room = left_room _ _ _ _ c.loop-step.invariant.1 c.in-Some.step (sym c.in-Some.ensures);
+}
 
-pub overflow_add-j : goal.overflow_add-j
-overflow_add-j c =
-    let g = left_goes _ _ _ _ _ _ c.loop-j.invariant.1 c.loop-j-test.true in
-    omega (arith, ap (λ (t : Step). t.length) c.copy_step-step.ensures.value, g.1.long, g.2)
+pub slice_bounds-rest-count : goal.slice_bounds-rest-count
+slice_bounds-rest-count c = rw c.taken.ensures (turn (goal.at.slice_bounds-rest-count c).In-Some).wide
 
-pub loop-j-smaller : goal.loop-j-smaller
-loop-j-smaller c =
-    let g = left_goes _ _ _ _ _ _ c.loop-j.invariant.1 c.loop-j-test.true in
-    omega (arith, ap (λ (t : Step). t.length) c.copy_step-step.ensures.value, g.1.some, c.loop-j-test.true)
+pub slice_bounds-rest-start : goal.slice_bounds-rest-start
+slice_bounds-rest-start c = rw c.taken.ensures (turn (goal.at.slice_bounds-rest-start c).In-Some).wide
 
-pub loop-j-preserved : goal.loop-j-preserved
-loop-j-preserved c =
-    let l = c.loop-j in
-    let g = left_goes _ _ _ _ _ _ l.invariant.1 c.loop-j-test.true in (
-      ap list_length c.copy_step-step.ensures.out_after ∙ splice-length _ _ _ ∙ l.invariant.0,
-      left_turn _ _ _ _ _ _ _ _ l.invariant.1 g.1 c.copy_step-step.ensures.value c.copy_step-step.ensures.out_after,
+pub overflow_add-to : goal.overflow_add-to
+overflow_add-to c =
+    let g = turn (goal.at.overflow_add-to c).In-Some in
+    omega (arith, g.long, left_room _ _ _ _ c.loop-step.invariant.1 c.in-Some.step (sym c.in-Some.ensures))
+
+pub loop-step-smaller : goal.loop-step-smaller
+loop-step-smaller c =
+    let g = turn (goal.at.loop-step-smaller c).In-Some in
+    let s = c.loop-step.rest.now in
+    let k = c.taken.result in
+    let less : length (take (length s - k) (drop k s)) < length s = rw part_from (omega (arith, length-drop k s, g.some, g.short, g.wide)) in
+    less
+
+pub loop-step-preserved : goal.loop-step-preserved
+loop-step-preserved c =
+    let l = c.loop-step in (
+      ap length c.put_step.ensures ∙ splice-length _ _ _ ∙ l.invariant.0,
+      rw (c.taken.ensures, c.given-to.ensures) (left_turn _ _ _ _ l.invariant.1 c.in-Some.step (sym c.in-Some.ensures) c.put_step.new.out c.put_step.ensures),
     )
 
-pub shape_of-out : goal.shape_of-out
-shape_of-out c = c.loop-j.invariant.0
-
 pub returns : goal.returns
-returns c = left_none _ _ _ _ _ _ c.loop-j.invariant.1 c.loop-j-test.false
+returns c = left_none _ _ _ _ c.loop-step.invariant.1 (sym c.in_default.ensures)

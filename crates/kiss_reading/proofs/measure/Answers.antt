@@ -1,68 +1,44 @@
-use Prim.Native.Nat.{ℕ, ◌+◌, ◌≤◌, ◌<◌}
-use mathlib.Core.Path.{◌≡◌, ap, sym, ◌∙◌}
-use mathlib.Core.Bool.{false}
-use mathlib.Core.List.{List}
-use native.Mathlib.Omega.{arith}
-use lib.ListN.{drop, length-drop}
-use lib.ListN.{length as list_length}
-use Rattle.kiss_reading.specs.Read.{heard, ends}
-use Rattle.kiss_reading.specs.Steps.{step_from, Goes}
-use Rattle.kiss_reading.specs.declared.Step.{Step}
-use Rattle.kiss_reading.proofs.Turns.{heard_end, heard-stops, heard_goes, measured_start, measured-ends, measured_turn}
+use Rattle.std.proofs.Common.{◌+◌, ◌-◌, ◌≤◌, ◌<◌, take, drop, sym, ◌∙◌, arith, length-drop}
+use Rattle.std.proofs.Common.{length as list_length}
+use Rattle.octets.proofs.Splice.{part_from}
+use Rattle.kiss_reading.proofs.Turns.{Goes, goes, stops, measured_turn, plus_none}
 use Rattle.kiss_reading.proofs.measure.Goals as goal
+use Rattle.kiss_reading.proofs.measure.Goals.{In-Some}
 
-width : (t : Step) (l : List ℕ) → t ≡ step_from l → t.width ≡ (step_from l).width
-width t l e = ap (λ (x : Step). x.width) e
+turn : (c : In-Some) → Goes c.loop-step.rest.now c.in-Some.step
+turn c = goes _ _ (sym c.in-Some.ensures)
 
--- what a step does to the place and to the length
-record Further (s : List ℕ) (i : ℕ) (t : Step) : Type 0 where
-  goes : Goes (drop i s)
-  some : 1 ≤ t.width
-  wide : i + t.width ≤ list_length s
-  short : t.length ≤ t.width
+pub loop-step-init : goal.loop-step-init
+loop-step-init c = (omega arith, plus_none _)
 
-further : (s : List ℕ) (i : ℕ) (t : Step) → i < list_length s → t ≡ step_from (drop i s) → (t.width ≡ 0 → ⊥) → Further s i t
-further s i t h e n =
-    let w = width t (drop i s) e in
-    let g = heard_goes s i h (λ z. n (w ∙ z)) in
-    let l = ap (λ (x : Step). x.length) e in
-    record {
-      goes = g;
-      some = omega (arith, w, g.some, g.short);
-      wide = omega (arith, w, g.wide, length-drop i s, h);
-      short = omega (arith, w, l, g.short);
-    }
+pub slice_bounds-rest-count : goal.slice_bounds-rest-count
+slice_bounds-rest-count c = rw c.taken.ensures (turn (goal.at.slice_bounds-rest-count c).In-Some).wide
 
-pub loop-i-init : goal.loop-i-init
-loop-i-init c = (c.requires, omega arith, measured_start (heard false (drop c.args.at c.args.input.now)))
-
-pub returns-then-step-eq0 : goal.returns-then-step-eq0
-returns-then-step-eq0 c =
-    let l = c.loop-i in
-    measured-ends l.length _ _
-    (heard-stops _ _ c.loop-i-test.true (sym (width _ _ c.step_at-step.ensures) ∙ c.if-step-eq0.true) ∙ ap ends (sym c.stopped.ensures))
-    ∙ l.invariant.2
-
-pub overflow_add-i : goal.overflow_add-i
-overflow_add-i c = omega (arith, (further c.args.input.now _ _ c.loop-i-test.true c.step_at-step.ensures c.if-step-eq0.false).wide)
+pub slice_bounds-rest-start : goal.slice_bounds-rest-start
+slice_bounds-rest-start c = rw c.taken.ensures (turn (goal.at.slice_bounds-rest-start c).In-Some).wide
 
 pub overflow_add-length : goal.overflow_add-length
 overflow_add-length c =
-    let f = further c.args.input.now _ _ c.loop-i-test.true c.step_at-step.ensures c.if-step-eq0.false in
-    omega (arith, f.wide, f.short)
+    let g = turn (goal.at.overflow_add-length c).In-Some in
+    omega (arith, g.wide, g.short)
 
-pub loop-i-smaller : goal.loop-i-smaller
-loop-i-smaller c =
-    let f = further c.args.input.now _ _ c.loop-i-test.true c.step_at-step.ensures c.if-step-eq0.false in
-    omega (arith, f.wide, f.some)
+pub loop-step-smaller : goal.loop-step-smaller
+loop-step-smaller c =
+    let g = turn (goal.at.loop-step-smaller c).In-Some in
+    let s = c.loop-step.rest.now in
+    let k = c.taken.result in
+    let less : list_length (take (list_length s - k) (drop k s)) < list_length s = rw part_from (omega (arith, length-drop k s, g.some, g.short, g.wide)) in
+    less
 
-pub loop-i-preserved : goal.loop-i-preserved
-loop-i-preserved c =
-    let f = further c.args.input.now _ _ c.loop-i-test.true c.step_at-step.ensures c.if-step-eq0.false in
-    let l = c.loop-i in
-    (f.wide, omega (arith, f.short), measured_turn _ _ l.length _ f.goes c.step_at-step.ensures ∙ l.invariant.2)
+pub loop-step-preserved : goal.loop-step-preserved
+loop-step-preserved c =
+    let g = turn (goal.at.loop-step-preserved c).In-Some in
+    let l = c.loop-step in
+    let s = l.rest.now in
+    let k = c.taken.result in
+    let fits : l.length + c.given-length.result + list_length (take (list_length s - k) (drop k s)) ≤ list_length c.args.behind.now =
+    rw part_from (omega (arith, length-drop k s, g.short, g.wide)) in
+    (fits, rw (c.taken.ensures, c.given-length.ensures) (measured_turn s c.in-Some.step l.length (sym c.in-Some.ensures) ∙ l.invariant.1))
 
 pub returns : goal.returns
-returns c =
-    let l = c.loop-i in
-    measured-ends l.length _ _ (heard_end _ _ c.loop-i-test.false) ∙ l.invariant.2
+returns c = c.closing.ensures ∙ rw (← stops _ (sym c.in_default.ensures)) c.loop-step.invariant.1

@@ -1,16 +1,14 @@
--- What the octets from here on come to, after so many octets of data, is what the whole comes to.
-use Prim.Native.Nat.{◌-◌, ◌≤◌}
-use mathlib.Core.Path.{◌≡◌}
-use mathlib.Core.Bool.{false}
-use lib.ListN.{drop}
-use lib.ListN.{length as list_length}
+-- What is left comes to, after so many octets of data, what the whole comes to.
+use Rattle.std.proofs.Common.{◌≡◌, ◌+◌, ◌≤◌, false}
+use Rattle.std.proofs.Common.{length as list_length}
+use Rattle.octets.specs.Outcome.{measured}
 use Rattle.kiss_reading.specs.Read.{heard}
-use Rattle.kiss_reading.specs.Steps.{measured_of}
-use Rattle.kiss_reading.proofs.Turns.{measured_by}
+use Rattle.kiss_reading.specs.Steps.{plus}
 use Rattle.kiss_reading.proofs.measure.Given as goal
 
-abbrev pub invariant-loop-i : goal.invariant-loop-i
-invariant-loop-i l = (l.i ≤ list_length l.input) × (l.length ≤ l.i) × (measured_by l.length (heard false (drop l.i l.input)) ≡ measured_of (heard false (drop l.at l.input)))
+abbrev pub invariant-loop-step : goal.invariant-loop-step
+invariant-loop-step l =
+    (l.length + list_length l.rest ≤ list_length l.behind) × (plus l.length (measured (heard false l.rest)) ≡ measured (heard false l.behind))
 
-abbrev pub decreases-loop-i : goal.decreases-loop-i
-decreases-loop-i l = list_length l.input - l.i
+abbrev pub decreases-loop-step : goal.decreases-loop-step
+decreases-loop-step l = list_length l.rest

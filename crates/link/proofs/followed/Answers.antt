@@ -1,13 +1,20 @@
--- Each sender by its own way.
-use mathlib.Core.Path.{sym, ◌∙◌}
+-- Hearing keeps the counts, so that one more fits.
+use Rattle.std.proofs.Common.{sym, ◌∙◌}
+use Rattle.link_frame.proofs.Laws.{heard_kept}
 use Rattle.link.proofs.Laws.{followed_by_lem}
 use Rattle.link.proofs.followed.Goals as goal
 
-pub returns-in-A : goal.returns-in-A
-returns-in-A c = c.heard_and_counted.ensures ∙ followed_by_lem _ _ _ (sym c.in-A.is ∙ c.sender_in.ensures)
+pub returns-in_default : goal.returns-in_default
+returns-in_default c = c.counted_as.ensures ∙ followed_by_lem _ _ _ (sym c.in_default.is ∙ c.sender_in.ensures)
 
-pub returns-in-B : goal.returns-in-B
-returns-in-B c = c.heard_and_counted-in-B.ensures ∙ followed_by_lem _ _ _ (sym c.in-B.is ∙ c.sender_in.ensures)
+pub invariant_of-counted_as : goal.invariant_of-counted_as
+invariant_of-counted_as c =
+    let k = heard_kept c.in-Some.from c.args.frame.content c.args.open.link in
+    record {
+      counts = rw (c.hear-heard.ensures, k.counts) c.args.open.counts;
+      room = rw (c.hear-heard.ensures, k.offered) c.args.open.room;
+    }
 
-pub returns-in-Neither : goal.returns-in-Neither
-returns-in-Neither c = c.counted_as.ensures ∙ followed_by_lem _ _ _ (sym c.in-Neither.is ∙ c.sender_in.ensures)
+pub returns : goal.returns
+returns c =
+    c.counted_as-2.ensures ∙ rw c.hear-heard.ensures (followed_by_lem _ _ _ (sym c.in-Some.is ∙ c.sender_in.ensures))

@@ -1,5 +1,5 @@
 -- Nobody of what is refused, or the frame's sender.
-use mathlib.Core.Path.{refl, sym, ◌∙◌}
+use Rattle.std.proofs.Common.{refl, sym, ◌∙◌}
 use Rattle.decode.proofs.Read.{told-refused}
 use Rattle.link.proofs.Laws.{sent_by, sent_by_neither}
 use Rattle.link.proofs.sender_of.Goals as goal

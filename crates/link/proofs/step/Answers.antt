@@ -10,12 +10,12 @@ use Rattle.link.proofs.step.Goals as goal
 pub returns-in_default : goal.returns-in_default
 returns-in_default c = sym (still _ _ _ (told_taken c.refusal-answer.result c.in_default.not-Offered)) ∙ step_by_lem _ _ _ c.refusal-answer.ensures
 
-pub offered_to-requires : goal.offered_to-requires
-offered_to-requires c =
+pub invariant_of-offered_to : goal.invariant_of-offered_to
+invariant_of-offered_to c =
     let l = c.args.link in
     let e : takes (refusal l) ≡ true = rw (← c.refusal-answer.ensures, c.in-Offered.is) refl in
     let t = taking l e in
-    (omega (arith, (sound l t.is_sound).counts, t.room), t.room)
+    record { counts = omega (arith, (sound l t.is_sound).counts, t.room); room = t.room }
 
 pub returns : goal.returns
 returns c = c.offered_to.ensures ∙ step_by_lem _ _ _ (sym c.in-Offered.is ∙ c.refusal-answer.ensures)

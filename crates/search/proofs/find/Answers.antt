@@ -1,25 +1,30 @@
-use mathlib.Core.Path.{ap}
-use mathlib.Core.Bool.{not}
-use native.Mathlib.Omega.{arith}
-use borrow.Author.Tests.{eq-eqb, ne_eqb}
-use Rattle.octets.proofs.First.{first_step, first_end}
+-- Each turn looks at the first eight octets of the rest.
+use Rattle.std.proofs.Common.{◌≡◌, ◌++◌, take-append-drop, sym, arith}
+use Rattle.octets.proofs.Library.{position-first, first_in_front, first_in_rest}
 use Rattle.search.specs.Search.{masked}
-use Rattle.search.proofs.Reached.{reached_next}
 use Rattle.search.proofs.find.Goals as goal
 
-pub loop-i-init : goal.loop-i-init
-loop-i-init c = (c.by_eights-i.ensures.upper_bound, c.by_eights-i.ensures.bytes_value)
+pub returns-in-Some-place-clause-value : goal.returns-in-Some-place-clause-value
+returns-in-Some-place-clause-value c =
+    let found = rw c.in-Some-place.is at (position-first (masked c.args.mask) c.in-Some.eight.now _ c.place.ensures) in
+    let h = c.in-Some.ensures.cases in
+    let parts : c.loop-eight.rest.now ≡ c.in-Some.eight.now ++ c.in-Some.after.now = rw (h.0, h.1) (sym (take-append-drop 8 c.loop-eight.rest.now)) in
+    omega (arith, found, first_in_front (masked c.args.mask) c.in-Some.eight.now c.in-Some.after.now c.loop-eight.rest.now parts (omega (arith, found)))
 
-pub returns-then-bytes-i-ne0 : goal.returns-then-bytes-i-ne0
-returns-then-bytes-i-ne0 c =
-    let a = c.args in
-    let i = c.loop-i.i in
-    record { value = omega (arith, simp (ne_eqb _ _ c.if-bytes-i-ne0.true) at (first_step (masked a.mask) a.bytes.now i 0 (omega arith))); upper_bound = omega (arith, simp (ne_eqb _ _ c.if-bytes-i-ne0.true) at (first_step (masked a.mask) a.bytes.now i 0 (omega arith))) }
+pub loop-eight-preserved : goal.loop-eight-preserved
+loop-eight-preserved c =
+    let none = rw c.in_default-place.is at (position-first (masked c.args.mask) c.in-Some.eight.now _ c.place.ensures) in
+    let h = c.in-Some.ensures.cases in
+    let parts : c.loop-eight.rest.now ≡ c.in-Some.eight.now ++ c.in-Some.after.now = rw (h.0, h.1) (sym (take-append-drop 8 c.loop-eight.rest.now)) in
+    let turned = first_in_rest (masked c.args.mask) _ _ c.loop-eight.rest.now parts none in
+    record { within = omega (arith, h); onward = omega (arith, none, h, turned) }
 
-pub loop-i-preserved : goal.loop-i-preserved
-loop-i-preserved c = reached_next _ _ _ _ c.loop-i.invariant (omega arith) (ap not (eq-eqb _ _ c.if-bytes-i-ne0.false)) (omega arith)
+pub returns-in-Some-place-2-clause-value : goal.returns-in-Some-place-2-clause-value
+returns-in-Some-place-2-clause-value c =
+    let found = rw c.in-Some-place-2.is at (position-first (masked c.args.mask) c.loop-eight.rest.now _ c.place-2.ensures) in
+    omega (arith, found)
 
-pub returns : goal.returns
-returns c =
-    let a = c.args in
-    record { value = omega (arith, first_end (masked a.mask) a.bytes.now c.loop-i.i (omega arith)); upper_bound = omega (arith, first_end (masked a.mask) a.bytes.now c.loop-i.i (omega arith)) }
+pub returns-in-None-clause-value : goal.returns-in-None-clause-value
+returns-in-None-clause-value c =
+    let none = rw c.in-None.is at (position-first (masked c.args.mask) c.loop-eight.rest.now _ c.place-2.ensures) in
+    omega (arith, none)

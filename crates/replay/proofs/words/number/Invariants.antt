@@ -1,10 +1,6 @@
--- The loop stays in its bounds.
-use Prim.Native.Nat.{◌-◌, ◌≤◌}
-use lib.ListN.{length}
+-- The number keeps to four digits.
+use Rattle.std.proofs.Common.{◌≤◌}
 use Rattle.replay.proofs.words.number.Given as goal
 
-abbrev pub invariant-loop-i : goal.invariant-loop-i
-invariant-loop-i l = (l.i ≤ length l.w) × (l.n ≤ 9999)
-
-abbrev pub decreases-loop-i : goal.decreases-loop-i
-decreases-loop-i l = length l.w - l.i
+abbrev pub invariant-loop-c : goal.invariant-loop-c
+invariant-loop-c l = l.n ≤ 9999
