@@ -22,7 +22,8 @@ use Rattle.frame.specs.Spell.{groups_of, address_field, spell}
 use Rattle.decode.specs.Answer.{number_of, is_accepted, DecodeAnswer}
 use Rattle.decode.specs.Numbers.{no_start, leading_null, no_end, short_field, no_content, many_repeaters}
 use Rattle.decode.specs.Read.{end_of, parsed_at, entry_at, place_at, route_at, frame_at, refused_with, accepted_with, with_content, decode_field, decode, Decoding}
-use Rattle.decode.specs.declared.DecodeAnswer.TheVariants as read
+use Rattle.decode.specs.declared.DecodeError.TheVariants as error
+use Rattle.std.specs.Prelude.{Ok, Err}
 use Rattle.decode.proofs.Accepts.{accepts}
 use Rattle.decode.proofs.Read.{zero-accepted}
 use Rattle.grammar.proofs.Numbers.{decode-rows}
@@ -45,18 +46,18 @@ both-cases Long = refl
 
 -- no answer has the number 6
 six_free : (a : DecodeAnswer) → number_of a ≡ 6 → ⊥
-six_free read.Accepted e = omega (arith, e)
-six_free read.OnlyNullBytes e = omega (arith, e)
-six_free read.NoEndToAddressField e = omega (arith, e)
-six_free (read.AddressFieldTooShort start end) e = omega (arith, e)
-six_free (read.FrameTooShort len) e = omega (arith, e)
-six_free read.MissingPidField e = omega (arith, e)
-six_free read.UnrecognisedUFieldType e = omega (arith, e)
-six_free read.WrongSizeFrmrInfo e = omega (arith, e)
-six_free read.TooManyRepeaters e = omega (arith, e)
-six_free read.LeadingNullBytes e = omega (arith, e)
-six_free read.FrameRejectInLongMode e = omega (arith, e)
-six_free read.MissingControlOctet e = omega (arith, e)
+six_free (Ok u) e = omega (arith, e)
+six_free (Err error.OnlyNullBytes) e = omega (arith, e)
+six_free (Err error.NoEndToAddressField) e = omega (arith, e)
+six_free (Err (error.AddressFieldTooShort start end)) e = omega (arith, e)
+six_free (Err (error.FrameTooShort len)) e = omega (arith, e)
+six_free (Err error.MissingPidField) e = omega (arith, e)
+six_free (Err error.UnrecognisedUFieldType) e = omega (arith, e)
+six_free (Err error.WrongSizeFrmrInfo) e = omega (arith, e)
+six_free (Err error.TooManyRepeaters) e = omega (arith, e)
+six_free (Err error.LeadingNullBytes) e = omega (arith, e)
+six_free (Err error.FrameRejectInLongMode) e = omega (arith, e)
+six_free (Err error.MissingControlOctet) e = omega (arith, e)
 
 pub never_six : (m : Mode) (s : List ℕ) → number_of (decode m s).answer ≡ 6 → ⊥
 never_six m s = six_free (decode m s).answer

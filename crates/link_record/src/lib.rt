@@ -5,7 +5,8 @@ ghost use Rattle.std.specs.Prelude.{◌≡◌};
 ghost use Rattle.link_record.specs.Record.{number_of, fresh, stations_encodable, counted, unsound, refusal};
 
 use address::Address;
-use decode::DecodeAnswer;
+use answer::Numbered;
+use decode::DecodeError;
 
 // The states. A number over these is read as idle.
 pub const IDLE: u32 = 0;
@@ -46,7 +47,7 @@ pub enum LinkAnswer {
     EqualStations,
     Unsound,
     Full,
-    Refused(DecodeAnswer),
+    Refused(DecodeError),
 }
 
 impl LinkAnswer {
@@ -59,7 +60,7 @@ impl LinkAnswer {
             LinkAnswer::EqualStations => 72,
             LinkAnswer::Unsound => 73,
             LinkAnswer::Full => 71,
-            LinkAnswer::Refused(answer) => answer.number(),
+            LinkAnswer::Refused(error) => error.number(),
         }
     }
 }

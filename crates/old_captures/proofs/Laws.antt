@@ -10,8 +10,8 @@ use Rattle.octets.specs.Octet.{bit}
 use Rattle.octets.proofs.Choice.{by}
 use Rattle.octets.proofs.First.{first_le, first_skip}
 use Rattle.control.specs.declared.Mode.{Mode}
-use Rattle.decode.specs.Answer.{report_of, number_of, is_accepted, DecodeAnswer}
-use Rattle.decode.specs.Read.{nonzero, start_of, end_of, decode, Decoding}
+use Rattle.decode.specs.Answer.{report_of, number_of, is_accepted}
+use Rattle.decode.specs.Read.{nonzero, start_of, end_of, decode}
 use Rattle.decode.specs.declared.DecodeError.{DecodeError}
 use Rattle.decode.specs.declared.DecodeError.TheVariants as error
 use Rattle.std.specs.Prelude.{Ok, Err}

@@ -6,7 +6,8 @@
 ghost use Rattle.std.specs.Prelude.{◌≡◌, cond, ◌||◌, [], ◌∷◌, length};
 ghost use Rattle.text.specs.Text.{address_number_of, read_parts, read_text};
 ghost use Rattle.printing.specs.Print.{print_number_of, printed, printed_into};
-ghost use Rattle.decode.specs.Answer.{number_of};
+ghost use Rattle.octets.specs.Outcome.{number_by};
+ghost use Rattle.decode.specs.Answer.{error_number, number_of};
 ghost use Rattle.frame.specs.Frame.{write_number, simple_ui, default_frame};
 ghost use Rattle.decode.specs.Read.{decode};
 ghost use Rattle.old_captures.specs.Old.{decode_old};
@@ -19,12 +20,12 @@ ghost use Rattle.hops.specs.Station.{same_station};
 ghost use Rattle.octets.specs.Splice.{splice};
 ghost use Rattle.flat.specs.Laid.{address_flat, flat_of};
 ghost use Rattle.flat.specs.Given.{address_at, content_at, frame_from};
-ghost use Rattle.probe.specs.Places.{places_of};
+ghost use Rattle.probe.specs.Places.{places_of, places_in, shown};
 ghost use Rattle.probe.specs.Calls.{lacks, answers, leaves, leaves_by, read_flat, hops_of};
 
 use answer::Numbered;
 use control::Mode;
-use decode::Decoded;
+use decode::{DecodeError, Decoded};
 use frame::Ax25Frame;
 
 mod places; // places.rt: the places of a decode
@@ -46,10 +47,14 @@ const ACCEPTED: u32 = 0;
 const NO_ROOM: u32 = 24;
 
 // What was decoded: the number, the frame, and its places, which a refusal's details are among.
-fn put_decoded(decoded: Decoded, flat: &mut [u8], places: &mut [usize]) -> u32
-    ensures value { result ≡ answers (lacks flat.old 102 || lacks places.old 5) (number_of decoded.answer) }
-    ensures flat_after { flat.new ≡ leaves_by (lacks flat.old 102 || lacks places.old 5) (number_of decoded.answer) flat.old (flat_of decoded.frame) }
-    ensures places_after { places.new ≡ leaves (lacks flat.old 102 || lacks places.old 5) places.old (places_of decoded) }
+fn put_decoded(
+    decoded: Result<Decoded, DecodeError>,
+    flat: &mut [u8],
+    places: &mut [usize],
+) -> u32
+    ensures value { result ≡ answers (lacks flat.old 102 || lacks places.old 5) (number_by error_number decoded) }
+    ensures flat_after { flat.new ≡ leaves_by (lacks flat.old 102 || lacks places.old 5) (number_by error_number decoded) flat.old (flat_of (shown decoded).frame) }
+    ensures places_after { places.new ≡ leaves (lacks flat.old 102 || lacks places.old 5) places.old (places_in decoded) }
 {
     if flat.len() < FRAME {
         return NO_ROOM;
@@ -57,14 +62,13 @@ fn put_decoded(decoded: Decoded, flat: &mut [u8], places: &mut [usize]) -> u32
     if places.len() < PLACES {
         return NO_ROOM;
     }
-    let answer = decoded.answer;
     places::put_places(places, decoded);
-    let number = answer.number();
+    let number = decoded.number();
     if number != ACCEPTED {
         return number;
     }
-    let frame = decoded.frame;
-    flat::laid::put_frame(flat, frame);
+    let shown = places::shown(decoded);
+    flat::laid::put_frame(flat, shown.frame);
     number
 }
 

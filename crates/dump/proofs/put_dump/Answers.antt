@@ -1,5 +1,5 @@
 -- Over 4,096 octets the answer alone; else the frame, or why there is none.
-use Rattle.std.proofs.Common.{◌≡◌, ◌∙◌, refl, sym, ap}
+use Rattle.std.proofs.Common.{◌∙◌, refl, sym, ap}
 use borrow.Author.Tests.{lt-ltb, le-ltb}
 use Rattle.control.specs.declared.Mode.TheVariants.{Short}
 use Rattle.decode.specs.Read.{decode}

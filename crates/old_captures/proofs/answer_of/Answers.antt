@@ -1,10 +1,9 @@
 -- The answer of the remainder's outline, moved.
-use Rattle.std.proofs.Common.{rules, ◌≡◌, ◌∙◌, refl, sym, Ok, Err}
+use Rattle.std.proofs.Common.{rules, ◌≡◌, ◌∙◌, refl, sym}
 use Rattle.std.specs.Prelude.{drop}
 use Rattle.octets.proofs.Splice.{part_from}
 use Rattle.decode.specs.Outline.{outline_of}
-use Rattle.decode.specs.Read.{start_of, decode}
-use Rattle.decode.specs.declared.DecodeError.{DecodeError}
+use Rattle.decode.specs.Read.{start_of}
 use Rattle.decode.proofs.Read.{start-masked, answer_accepted}
 use Rattle.decode.proofs.Whole.{outlined, not_outlined}
 use Rattle.old_captures.proofs.Laws.{places_inside, old_refused, old_accepted}

@@ -1,5 +1,5 @@
 -- What is decoded of the remainder, moved.
-use Rattle.std.proofs.Common.{rules, ◌≡◌, ◌∙◌, refl, sym, ap, Ok, Err, arith}
+use Rattle.std.proofs.Common.{rules, ◌≡◌, ◌∙◌, refl, sym, ap, arith}
 use Rattle.std.specs.Prelude.{drop}
 use Rattle.octets.proofs.Splice.{part_from}
 use Rattle.decode.specs.Read.{start_of, decode, outcome}
