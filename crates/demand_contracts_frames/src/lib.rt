@@ -7,6 +7,7 @@ ghost use Rattle.content.specs.declared.FrameContent.TheVariants.{UnknownContent
 ghost use Rattle.decode.specs.Answer.{number_of, report_of, is_accepted};
 ghost use Rattle.decode.specs.Numbers.{reported};
 ghost use Rattle.decode.specs.Read.{decode};
+ghost use Rattle.octets.specs.Outcome.{length_of};
 ghost use Rattle.frame.specs.Frame.{write_number, default_frame};
 ghost use Rattle.frame.specs.Spell.{spell};
 ghost use Rattle.grammar.specs.Stations.{Reserves};
@@ -23,7 +24,7 @@ ghost use Rattle.demand_contracts_frames.specs.Shown.{decoding_of, shown_of};
 
 use control::Mode;
 use decode::{DecodeError, Decoded};
-use frame::{Ax25Frame, Written};
+use frame::{Ax25Frame, WriteError};
 use respelling::ReencodeError;
 
 // Demand 3: yes exactly when some plain frame spells the input.
@@ -85,10 +86,15 @@ pub fn old_capture(mode: Mode, capture: &[u8]) -> Shown
 
 // Demand 1: so for the number of writing, and a refusal has length 0 and leaves the buffer as it was. Demand 2: an accepted frame
 // stands at the start of the buffer as it spells, with that length, and the octets beyond it stay.
-pub fn written(mode: Mode, frame: Ax25Frame, info: &[u8], out: &mut [u8]) -> Written
-    ensures first_row { FirstRow (write_table mode frame info.now (length out.old)) (write_number result.answer) }
-    ensures length_value { (write_number result.answer ≡ 0 → ⊥) → (result.length ≡ 0) × (out.new ≡ out.old) }
-    ensures length_value_2 { write_number result.answer ≡ 0 → (result.length ≡ length (spell mode frame info.now))
+pub fn written(
+    mode: Mode,
+    frame: Ax25Frame,
+    info: &[u8],
+    out: &mut [u8],
+) -> Result<usize, WriteError>
+    ensures first_row { FirstRow (write_table mode frame info.now (length out.old)) (write_number result) }
+    ensures length_value { (write_number result ≡ 0 → ⊥) → (length_of result ≡ 0) × (out.new ≡ out.old) }
+    ensures length_value_2 { write_number result ≡ 0 → (length_of result ≡ length (spell mode frame info.now))
         × (out.new ≡ starting (spell mode frame info.now) out.old) }
 {
     frame.to_bytes(mode, info, out)

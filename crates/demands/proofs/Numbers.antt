@@ -21,10 +21,12 @@ use Rattle.frame.specs.Frame.{write_number}
 use Rattle.decode.specs.Read.{decode}
 use Rattle.frame.specs.Spell.{spell}
 use Rattle.frame.specs.Write.{write_answer, octets_written, written}
-use Rattle.frame.specs.declared.Written.{Written}
+use Rattle.std.specs.Prelude.{Result, Ok, Err}
+use Rattle.octets.specs.Outcome.{length_of, giving}
+use Rattle.frame.specs.declared.WriteError.{WriteError}
 use Rattle.frame.specs.declared.Ax25Frame.{Ax25Frame}
 use Rattle.grammar.proofs.Numbers.{decode-rows, write-rows}
-use Rattle.grammar.proofs.Refused.{refused-octets, accepted-octets}
+use Rattle.grammar.proofs.Refused.{refused-octets, accepted-octets, number_zero}
 use Rattle.grammar.proofs.Respell.{written_is}
 use Rattle.octets.specs.Table.{Table, given, FirstRow}
 use Rattle.demands.specs.Numbers.{decode_table, write_table, print_table, parts_table, text_table}
@@ -60,17 +62,25 @@ text t n = by-table _ (text_table t) (text_numbers t) n
 pub info-or_pid : (f : Ax25Frame) (n : ℕ) → stray_info f.content n ≡ true → stray_pid f.content ≡ true → ⊥
 info-or_pid f n i p = false≢true (sym (stray_one f.content n i) ∙ p)
 
+-- the length of a refusal, and of an answer that is none
+no_length : (a : Result Unit WriteError) (n : ℕ) → (write_number a ≡ 0 → ⊥) → length_of (giving a n) ≡ 0
+no_length (Ok tt) n h = absurd (h refl)
+no_length (Err e) n h = refl
+
+its_length : (a : Result Unit WriteError) (n : ℕ) → write_number a ≡ 0 → length_of (giving a n) ≡ n
+its_length a n h = rw (number_zero a h) refl
+
 -- a refused write has length 0, and what it leaves in a buffer is what was there
 pub refused_write : (mode : Mode) (f : Ax25Frame) (info : List ℕ) (room : ℕ) → (write_number (write_answer mode f info room) ≡ 0 → ⊥)
-    → ((written mode f info room).length ≡ 0) × ((out : List ℕ) → splice out 0 (octets_written mode f info room) ≡ out)
+    → (length_of (written mode f info room) ≡ 0) × ((out : List ℕ) → splice out 0 (octets_written mode f info room) ≡ out)
 refused_write mode f info room n =
     let e : octets_written mode f info room ≡ [] = refused-octets mode f info room n in
-    (ap (λ (w : Written). w.length) (written_is mode f info room) ∙ rw e refl, λ out. rw e (splice_none out 0))
+    (ap length_of (written_is mode f info room) ∙ no_length (write_answer mode f info room) (length (spell mode f info)) n, λ out. rw e (splice_none out 0))
 
 -- an accepted write puts what the frame spells at the start of the buffer
 pub accepted_write : (mode : Mode) (f : Ax25Frame) (info out : List ℕ) → write_number (write_answer mode f info (length out)) ≡ 0
-    → ((written mode f info (length out)).length ≡ length (spell mode f info))
+    → (length_of (written mode f info (length out)) ≡ length (spell mode f info))
     × (splice out 0 (octets_written mode f info (length out)) ≡ starting (spell mode f info) out)
 accepted_write mode f info out n =
     let o = accepted-octets mode f info (length out) n in
-    (ap (λ (w : Written). w.length) (written_is mode f info (length out)) ∙ rw o.0 refl, rw o.0 (splice_start out (spell mode f info) o.1))
+    (ap length_of (written_is mode f info (length out)) ∙ its_length (write_answer mode f info (length out)) (length (spell mode f info)) n, rw o.0 (splice_start out (spell mode f info) o.1))

@@ -9,8 +9,9 @@ use borrow.Author.Tests.{eqb-true, eqb-false}
 use lib.Dec.{eqb}
 use Rattle.octets.proofs.Choice.{by}
 use Rattle.frame.specs.Frame.{write_number}
-use Rattle.frame.specs.declared.WriteAnswer.{WriteAnswer}
-use Rattle.frame.specs.declared.WriteAnswer.TheVariants as write
+use Rattle.std.specs.Prelude.{Result, Ok, Err}
+use Rattle.frame.specs.declared.WriteError.{WriteError}
+use Rattle.frame.specs.declared.WriteError.TheVariants as write
 use Rattle.printing.specs.Print.{print_number_of}
 use Rattle.printing.specs.declared.PrintAnswer.{PrintAnswer}
 use Rattle.printing.specs.declared.PrintAnswer.TheVariants as print
@@ -48,22 +49,23 @@ one-flag {P} a b p x q y =
 its_own : {A : Type 0} (number : A → ℕ) (by_number : ℕ → A) → ((a : A) → by_number (number a) ≡ a) → (a b : A) → number a ≡ number b → a ≡ b
 its_own number by_number back a b e = sym (back a) ∙ ap by_number e ∙ back b
 
-written : ℕ → WriteAnswer
+written : ℕ → Result Unit WriteError
 written n =
-    cond (eqb n 0) write.Accepted (cond (eqb n 21) write.RouteTooLong (cond (eqb n 22) write.NotEncodable
-    (cond (eqb n 11) write.FrameRejectInLongMode (cond (eqb n 23) write.InfoNotAllowed (cond (eqb n 25) write.PidOutsideClass write.NoRoom)))))
+    cond (eqb n 0) (Ok tt) (cond (eqb n 21) (Err write.RouteTooLong) (cond (eqb n 22) (Err write.NotEncodable)
+    (cond (eqb n 11) (Err write.FrameRejectInLongMode) (cond (eqb n 23) (Err write.InfoNotAllowed)
+    (cond (eqb n 25) (Err write.PidOutsideClass) (Err write.NoRoom))))))
 
-written_back : (a : WriteAnswer) → written (write_number a) ≡ a
+written_back : (a : Result Unit WriteError) → written (write_number a) ≡ a
 unfolding written
-written_back write.Accepted = refl
-written_back write.RouteTooLong = refl
-written_back write.NotEncodable = refl
-written_back write.FrameRejectInLongMode = refl
-written_back write.InfoNotAllowed = refl
-written_back write.PidOutsideClass = refl
-written_back write.NoRoom = refl
+written_back (Ok tt) = refl
+written_back (Err write.RouteTooLong) = refl
+written_back (Err write.NotEncodable) = refl
+written_back (Err write.FrameRejectInLongMode) = refl
+written_back (Err write.InfoNotAllowed) = refl
+written_back (Err write.PidOutsideClass) = refl
+written_back (Err write.NoRoom) = refl
 
-pub one_answer : (a b : WriteAnswer) → write_number a ≡ write_number b → a ≡ b
+pub one_answer : (a b : Result Unit WriteError) → write_number a ≡ write_number b → a ≡ b
 one_answer = its_own write_number written written_back
 
 printed : ℕ → PrintAnswer

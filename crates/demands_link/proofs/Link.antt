@@ -32,16 +32,14 @@ use Rattle.decode.proofs.Read.{zero-accepted}
 use Rattle.grammar.proofs.Numbers.{decode-rows}
 use Rattle.hops.specs.Station.{same_station}
 use Rattle.captures.specs.Capture.{kind_of}
-use Rattle.link_record.specs.Record.{number_of, most, fresh, counted, unsound, stations_encodable, refusal}
+use Rattle.link_record.specs.Record.{LinkAnswer, number_of, most, fresh, counted, unsound, stations_encodable, refusal}
 use Rattle.link_record.specs.declared.Link.{Link}
-use Rattle.link_record.specs.declared.LinkAnswer.{LinkAnswer}
-use Rattle.link_record.specs.declared.LinkAnswer.TheVariants as answer
 use Rattle.link_record.proofs.Laws.{takes, Sound, not-unsound, sound-number, unsound_is, counted_is, fresh_a, fresh_b, fresh-offered, fresh-counted, fresh_sound, refused_station, refused_equal, refused-unsound, refused_full, takes_one}
 use Rattle.link_frame.specs.Frame.{acknowledged, verdict_of, event_of, heard_of}
 use Rattle.link_frame.proofs.Laws.{is_numbered}
 use Rattle.link.specs.Step.{is_from_to, sender_in, followed, offered_to, step_of}
 use Rattle.link_frame.specs.declared.Side.{Side}
-use Rattle.std.proofs.Common.{Option, Some, None}
+use Rattle.std.proofs.Common.{Option, Some, None, Ok, Err}
 use Rattle.link.specs.declared.Stepped.{Stepped}
 use Rattle.link.proofs.Laws.{sender_a, sender_b, sender_neither, offered_frame, refused_number, refused_link_lem, step-refused, step-offered, Counting, is_sent, followed_counting, refused_counting, followed_others, followed-nothing}
 use Rattle.demands.specs.Numbers.{decode_table}
@@ -59,7 +57,7 @@ module _ (l : Link) (s : List ℕ) where
   refused-number : (a : LinkAnswer) → refusal l ≡ a → takes a ≡ false → number_of (step_of l s).answer ≡ number_of a
   refused-number a e t = ap (λ (r : Stepped). number_of r.answer) (step-refused l s (ap takes e ∙ t)) ∙ ap number_of e
 
-  offered-number : refusal l ≡ answer.Offered → number_of (step_of l s).answer ≡ decode_number (decode Short s).answer
+  offered-number : refusal l ≡ Ok tt → number_of (step_of l s).answer ≡ decode_number (decode Short s).answer
   offered-number e =
       ap (λ (r : Stepped). number_of r.answer) (step-offered l s (ap takes e))
       ∙ by (is_accepted (decode Short s).answer)
@@ -250,13 +248,9 @@ decode_below (Err error.LeadingNullBytes) = omega arith
 decode_below (Err error.FrameRejectInLongMode) = omega arith
 decode_below (Err error.MissingControlOctet) = omega arith
 
-offered_only : (x : LinkAnswer) → takes x ≡ true → x ≡ answer.Offered
-offered_only answer.Offered e = refl
-offered_only answer.NotEncodable e = absurd (false≢true e)
-offered_only answer.EqualStations e = absurd (false≢true e)
-offered_only answer.Unsound e = absurd (false≢true e)
-offered_only answer.Full e = absurd (false≢true e)
-offered_only (answer.Refused a) e = absurd (false≢true e)
+offered_only : (x : LinkAnswer) → takes x ≡ true → x ≡ Ok tt
+offered_only (Ok u) e = refl
+offered_only (Err x) e = absurd (false≢true e)
 
 -- whatever the stations are, and whatever is offered next
 pub never_73 : NeverUnsound

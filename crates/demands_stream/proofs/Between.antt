@@ -7,7 +7,7 @@ use mathlib.Core.Logic.{inr}
 use native.Mathlib.Numerals.{add-one}
 use native.Mathlib.Omega.{arith}
 use borrow.Author.Tests.{eqb-true, eq-eqb, ltb-true, ltb-false, lt-ltb, le-ltb, le-leb, lt-leb}
-use Rattle.std.specs.Prelude.{Result, Ok, Err, is_ok}
+use Rattle.std.specs.Prelude.{Some, Result, Ok, Err, is_ok}
 use lib.Dec.{eqb, ltb, leb}
 use lib.ListN.{length, get_or, set, take, length-set}
 use lib.Seq.{take-suc-set, append_snoc}
@@ -58,7 +58,7 @@ module _ (f : ℕ) (o : List ℕ) (n p d : ℕ) (b : ℕ) (l : List ℕ) where
   put_in : (z : ℕ) → move_of h b ≡ put_of h z → n < room → run_of (at f o n p d) (b ∷ l) ≡ run_of (at in_data (set o n z) (n + 1) p d) l
   unfolding put_of stored_by
   put_in z is r =
-      run_move (at f o n p d) b l (record { head = head_of (n + 1) p in_data d; octet = z; store = true; ready = false })
+      run_move (at f o n p d) b l (record { head = head_of (n + 1) p in_data d; octet = Some z; ready = false })
       (is ∙ rw (lt-ltb n room r) refl)
 
   put_full : (z : ℕ) → move_of h b ≡ put_of h z → room ≤ n → run_of (at f o n p d) (b ∷ l) ≡ run_of (spoiled o d) l

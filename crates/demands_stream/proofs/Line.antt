@@ -6,7 +6,7 @@ use mathlib.Core.List.{List, [], ◌∷◌, ◌++◌, append_assoc, append-nil}
 use mathlib.Core.Logic.{◌⊎◌, inl, inr}
 use native.Mathlib.Omega.{arith}
 use borrow.Author.Tests.{eqb-true, ltb-true, ltb-false, lt-ltb, le-ltb, le-leb, leb-true}
-use Rattle.std.specs.Prelude.{is_ok}
+use Rattle.std.specs.Prelude.{Option, Some, None, is_ok}
 use lib.Dec.{eqb, ltb}
 use lib.ListN.{length, length-set}
 use lib.Seq.{append_snoc}
@@ -21,7 +21,7 @@ use Rattle.kiss_state.specs.declared.Head.{Head}
 use Rattle.kiss_state.specs.State.{room, outside, opened, in_data, in_escape, in_type}
 use Rattle.kiss_octet.specs.declared.Move.{Move}
 use Rattle.kiss_state.specs.declared.Stream.{Stream}
-use Rattle.kiss_octet.specs.Step.{last_count, counted_of, drop_of, stray_of, unescaped, outside_of, opened_of, data_of, move_of, stored_by, step_of, gives}
+use Rattle.kiss_octet.specs.Step.{last_count, counted_of, drop_of, stray_of, unescaped, outside_of, opened_of, data_of, move_of, stored, stored_by, step_of, gives}
 use Rattle.kiss_octet.proofs.Laws.{move_by, idle_move}
 use Rattle.demands_stream.specs.Run.{Run, packet_in, run_of, then}
 use Rattle.demands_stream.specs.Line.{own, whole, spoilt, between, cut_at_fend, given_out, at_most}
@@ -31,7 +31,11 @@ use Rattle.demands_stream.proofs.Between.{NoFend, Opened, closed}
 -- ---- the array, C0, and all other octets
 stored-length : (m : Move) (at : ℕ) (o : List ℕ) → length (stored_by m at o) ≡ length o
 unfolding stored_by
-stored-length m at o = either (λ (l : List ℕ). length l ≡ length o) m.store (λ _. length-set o at m.octet) (λ _. refl)
+stored-length m at o = by_octet m.octet
+  where
+    by_octet : (b : Option ℕ) → length (stored b at o) ≡ length o
+    by_octet None = refl
+    by_octet (Some b) = length-set o at b
 
 step_array : (s : Stream) (b : ℕ) → length (step_of s b).octets ≡ length s.octets
 unfolding step_of

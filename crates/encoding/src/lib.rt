@@ -1,42 +1,60 @@
 // Writing content into a lent buffer.
 #![tactic(auto)]
 
-ghost use Rattle.std.specs.Prelude.{◌≡◌, length};
+ghost use Rattle.std.specs.Prelude.{◌≡◌, ◌+◌, length};
 ghost use Rattle.octets.specs.Splice.{splice};
 ghost use Rattle.content.specs.Spell.{front};
-ghost use Rattle.encoding.specs.Encode.{encode_number, encode_of, encoded};
+ghost use Rattle.encoding.specs.Encode.{error_number, judged, encode_of, encoded};
 
+use answer::Numbered;
 use content::FrameContent;
 use control::Mode;
 
-// What writing content gives.
-#[derive(Clone, Copy)]
-pub enum EncodeAnswer {
-    Written,
+// Why content is not written.
+#[derive(Clone, Copy, Debug, PartialEq, Eq)]
+pub enum EncodeError {
     FrameRejectInLongMode,
     InfoNotAllowed,
     PidOutsideClass,
     NoRoom,
 }
 
-#[derive(Clone, Copy)]
-pub struct ContentWritten {
-    pub answer: EncodeAnswer,
-    pub length: usize,
-}
+impl Numbered for EncodeError {
+    ghost number_of = { error_number };
 
-impl EncodeAnswer {
-    pub fn number(self) -> u32
-        ensures { result ≡ encode_number self }
-    {
+    fn number(self) -> u32 {
         match self {
-            EncodeAnswer::Written => 0,
-            EncodeAnswer::FrameRejectInLongMode => 11,
-            EncodeAnswer::InfoNotAllowed => 23,
-            EncodeAnswer::PidOutsideClass => 25,
-            EncodeAnswer::NoRoom => 24,
+            EncodeError::FrameRejectInLongMode => 11,
+            EncodeError::InfoNotAllowed => 23,
+            EncodeError::PidOutsideClass => 25,
+            EncodeError::NoRoom => 24,
         }
     }
+}
+
+// Whether content with info of this length is written, where `head` octets stand before the info: of the content, or of a whole frame.
+pub fn judge(
+    mode: Mode,
+    content: FrameContent,
+    head: usize,
+    carried: usize,
+    room: usize,
+) -> Result<(), EncodeError>
+    ensures { result ≡ judged mode content carried (head + carried) room }
+{
+    if content.long_frmr(mode) {
+        return Err(EncodeError::FrameRejectInLongMode);
+    }
+    if content.stray_info(carried) {
+        return Err(EncodeError::InfoNotAllowed);
+    }
+    if content.stray_pid() {
+        return Err(EncodeError::PidOutsideClass);
+    }
+    if lent_buffer::lacks_room(head, carried, room) {
+        return Err(EncodeError::NoRoom);
+    }
+    Ok(())
 }
 
 // The octets before the info, from the start of `out` on.
@@ -57,39 +75,24 @@ fn put_front(mode: Mode, content: FrameContent, out: &mut [u8]) -> usize
     n
 }
 
-// The content's octets, then the lent info, from the start of `out` on. A refusal writes nothing.
-pub fn encode(mode: Mode, content: FrameContent, info: &[u8], out: &mut [u8]) -> ContentWritten
+// The content's octets, then the lent info, from the start of `out` on, and how many they are. A refusal writes nothing.
+pub fn encode(
+    mode: Mode,
+    content: FrameContent,
+    info: &[u8],
+    out: &mut [u8],
+) -> Result<usize, EncodeError>
     ensures value { result ≡ encode_of mode content (length info.now) (length out.old) }
     ensures out_after { out.new ≡ splice out.old 0 (encoded mode content info.now (length out.old)) }
 {
-    if content.long_frmr(mode) {
-        return ContentWritten {
-            answer: EncodeAnswer::FrameRejectInLongMode,
-            length: 0,
-        };
-    }
-    if content.stray_info(info.len()) {
-        return ContentWritten {
-            answer: EncodeAnswer::InfoNotAllowed,
-            length: 0,
-        };
-    }
-    if content.stray_pid() {
-        return ContentWritten {
-            answer: EncodeAnswer::PidOutsideClass,
-            length: 0,
-        };
-    }
-    if lent_buffer::lacks_room(content.front_len(mode), info.len(), out.len()) {
-        return ContentWritten {
-            answer: EncodeAnswer::NoRoom,
-            length: 0,
-        };
-    }
+    judge(
+        mode,
+        content,
+        content.front_len(mode),
+        info.len(),
+        out.len(),
+    )?;
     let n = put_front(mode, content, out);
     lent_buffer::put(out, n, info);
-    ContentWritten {
-        answer: EncodeAnswer::Written,
-        length: n + info.len(),
-    }
+    Ok(n + info.len())
 }

@@ -1,11 +1,10 @@
 -- What `follow` prints of a recorded link (document 02, M-112): of the two texts that name its stations, of each frame, and at the end.
-use Rattle.std.specs.Prelude.{ℕ, Bool, true, false, cond, List, [], ◌++◌, Option, Some, None, eqb, ltb}
+use Rattle.std.specs.Prelude.{ℕ, Bool, true, false, cond, List, [], ◌++◌, Option, Some, None, Ok, Err, eqb, ltb}
 use Rattle.text.specs.Text.{address_number_of, read_text}
 use Rattle.text.specs.declared.AddressAnswer.{AddressAnswer}
-use Rattle.link_record.specs.Record.{number_of, fresh}
+use Rattle.link_record.specs.Record.{LinkAnswer, number_of, fresh}
 use Rattle.link_record.specs.declared.Link.{Link}
-use Rattle.link_record.specs.declared.LinkAnswer.{LinkAnswer}
-use Rattle.link_record.specs.declared.LinkAnswer.TheVariants.{Offered, NotEncodable, EqualStations, Unsound, Full, Refused}
+use Rattle.link_record.specs.declared.LinkError.TheVariants.{NotEncodable, EqualStations, Unsound, Full, Refused}
 use Rattle.link.specs.Step.{step_of, sender_of}
 use Rattle.link_frame.specs.declared.Side.{Side}
 use Rattle.link_frame.specs.declared.Side.TheVariants.{A, B}
@@ -43,12 +42,12 @@ begun a b room = record {
 -- the answers at which no further frame is offered: 22, 72 and 71, which every later frame would be given too, and 73, which no fresh record
 -- comes to. A frame that decoding refuses is passed over
 abbrev pub stops : LinkAnswer → Bool
-stops Offered = false
-stops NotEncodable = true
-stops EqualStations = true
-stops Unsound = true
-stops Full = true
-stops (Refused a) = false
+stops (Ok u) = false
+stops (Err NotEncodable) = true
+stops (Err EqualStations) = true
+stops (Err Unsound) = true
+stops (Err Full) = true
+stops (Err (Refused a)) = false
 
 -- whose frame it is, by the argument that names its sender. Of others' frames none is a gap
 abbrev pub from_text : Option Side → List ℕ

@@ -6,12 +6,14 @@ ghost use Rattle.octets.specs.Splice.{splice};
 ghost use Rattle.words.specs.Room.{behind};
 ghost use Rattle.following.specs.Following.{answer_text, refused_by, begin_text, begun, stops, from_text, gap_line, gap_text, offered_text, follow_text, followed, totals_text};
 
+use answer::Numbered;
 use link_frame::Side;
-use link_record::{Link, LinkAnswer};
+use link_record::{Link, LinkError};
 use text::AddressAnswer;
 use words::page::Page;
 
-// What the two texts come to: whether both are read, the record of the link between their stations, and how many octets are printed.
+// What the two texts come to: whether both are read, the record of the link between their stations, and how many octets are printed. A flag
+// beside the record: the definition `begun` has a record of refused texts too.
 #[derive(Clone, Copy)]
 pub struct Begun {
     pub ready: bool,
@@ -19,7 +21,8 @@ pub struct Begun {
     pub length: usize,
 }
 
-// What a frame comes to: the record behind it, whether no further frame is offered, and how many octets are printed.
+// What a frame comes to: the record behind it, whether no further frame is offered, and how many octets are printed. A flag beside the
+// record: the totals of a link that has stopped are printed of it too.
 #[derive(Clone, Copy)]
 pub struct Followed {
     pub link: Link,
@@ -64,10 +67,10 @@ pub fn begin(a: &[u8], b: &[u8], out: &mut [u8]) -> Begun
     }
 }
 
-fn stops(answer: LinkAnswer) -> bool
+fn stops(answer: Result<(), LinkError>) -> bool
     ensures { result ≡ stops answer }
 {
-    !matches!(answer, LinkAnswer::Offered | LinkAnswer::Refused(_))
+    !matches!(answer, Ok(()) | Err(LinkError::Refused(_)))
 }
 
 // Whose frame a gap is, behind its place.

@@ -1,31 +1,34 @@
 -- Laws of writing that the functions' proofs share: lengths, the groups one after the other, which addresses can be written.
 use Prim.Native.Nat.{ℕ, zero, suc, ◌+◌, ◌-◌, ◌*◌, ◌≤◌, ◌<◌}
-use mathlib.Core.Path.{◌≡◌, refl, subst, ◌∙◌}
-use mathlib.Core.Bool.{true, false, not, ◌&&◌}
+use mathlib.Core.Path.{◌≡◌, refl, sym, subst, ◌∙◌}
+use mathlib.Core.Bool.{true, false, true≢false, not, ◌&&◌}
 use mathlib.Core.List.{List, [], ◌++◌, append_assoc}
-use mathlib.Core.Logic.{⊎_elim}
-use native.Mathlib.Nat.{eq-or-lt_of_le, le_of_suc-le-suc, not-suc-le-zero}
 use native.Mathlib.Numerals.{add-one}
 use native.Mathlib.Omega.{arith}
 use borrow.Author.Tests.{ltb-false, le-ltb, not-false}
 use lib.Dec.{eqb, ltb}
 use lib.ListN.{length, take, drop, length-append, length-drop}
 use Rattle.octets.specs.Splice.{splice}
-use Rattle.octets.proofs.Choice.{both, either, and_false}
+use Rattle.octets.proofs.Choice.{by, both, either}
 use Rattle.octets.proofs.Splice.{part_from, splice-length, splice-more, splice-then, splice_part}
 use Rattle.address.specs.Address.{encodable}
 use Rattle.group.specs.Group.{group_of}
 use Rattle.group.proofs.Laws.{group-length}
 use Rattle.content.specs.Spell.{front}
 use Rattle.content.specs.Refused.{long_frmr, stray_info, stray_pid}
-use Rattle.encoding.specs.Encode.{answer_of, encode_of, encoded}
+use Rattle.encoding.specs.Encode.{judged, answer_of, encode_of, encoded}
+use Rattle.content.specs.declared.FrameContent.{FrameContent}
 use Rattle.control.specs.declared.Mode.{Mode}
-use Rattle.encoding.specs.declared.EncodeAnswer.TheVariants.{Written}
-use Rattle.encoding.proofs.Laws.{answer-written}
-use Rattle.frame.specs.Spell.{repeater_at, groups_of, destination_mark, source_mark, address_field, spell}
-use Rattle.frame.specs.Write.{route_encodable, frame_encodable, content_answer, write_answer, Taken, octets_by}
-use Rattle.frame.specs.declared.WriteAnswer.{WriteAnswer}
-use Rattle.frame.specs.declared.WriteAnswer.TheVariants.{Accepted, RouteTooLong, NotEncodable, FrameRejectInLongMode, InfoNotAllowed, PidOutsideClass, NoRoom}
+use Rattle.encoding.specs.declared.EncodeError.{EncodeError}
+use Rattle.encoding.proofs.Laws.{answer-written, judged_by}
+use Rattle.std.specs.List.{list_all}
+use Rattle.std.proofs.lemmas.List.{get_or-take}
+use Rattle.std.proofs.lemmas.List.Folds.{list_all_more, list_all_at}
+use Rattle.frame.specs.Spell.{past, repeater_at, groups_of, destination_mark, source_mark, address_field, spell}
+use Rattle.frame.specs.Write.{entry_encodable, route_encodable, frame_encodable, content_answer, write_answer, Taken}
+use Rattle.std.specs.Prelude.{Result, Ok, Err}
+use Rattle.frame.specs.declared.WriteError.{WriteError}
+use Rattle.frame.specs.Frame.{error_of}
 use Rattle.frame.specs.declared.Mark.{Mark}
 use Rattle.frame.specs.declared.Mark.TheVariants.{Command, Response, Absent}
 use Rattle.frame.specs.declared.RouteEntry.{RouteEntry}
@@ -52,23 +55,27 @@ groups-more l at route total i h =
     let e : length (group_of (repeater_at route i).repeater (repeater_at route i).has_repeated (eqb (suc i) total)) ≡ 7 = group-length _ _ _ in
     rw (add-one, ← n) (splice-more l at (groups_of route total i) _ (omega arith))
 
--- each repeater of a route that can be written can be
-pub route_each : (route : List RouteEntry) (n i : ℕ) → route_encodable route n ≡ true → i < n → encodable (repeater_at route i).repeater ≡ true
+-- the first n entries of a route can be written where the first n repeaters can
+pub first_encodable : (route : List RouteEntry) (n : ℕ) → n ≤ length route → list_all entry_encodable (take n route) ≡ route_encodable route n
 unfolding route_encodable
-route_each route zero i e h = absurd (not-suc-le-zero h)
-route_each route (suc n) i e h =
-    let b = both (route_encodable route n) _ e in
-    ⊎_elim (λ (q : i ≡ n). rw q b.1) (λ (l : i < n). route_each route n i b.0 l) (eq-or-lt_of_le (le_of_suc-le-suc h))
+first_encodable route zero h = refl
+first_encodable route (suc n) h =
+    let more : list_all entry_encodable (take (n + 1) route) ≡ (list_all entry_encodable (take n route) && entry_encodable (repeater_at route n)) =
+    list_all_more entry_encodable route n past h in
+    rw (← add-one) (more ∙ rw (first_encodable route n (omega arith)) refl)
 
--- one repeater that can't be written is enough
-pub route_one : (route : List RouteEntry) (n i : ℕ) → encodable (repeater_at route i).repeater ≡ false → i < n → route_encodable route n ≡ false
-unfolding route_encodable
-route_one route zero i e h = absurd (not-suc-le-zero h)
-route_one route (suc n) i e h =
-    ⊎_elim
-    (λ (q : i ≡ n). rw (← q, e) (and_false (route_encodable route i)))
-    (λ (l : i < n). rw (route_one route n i e l))
-    (eq-or-lt_of_le (le_of_suc-le-suc h))
+-- and each of them can be
+pub entry_each : (route : List RouteEntry) (i : ℕ) → list_all entry_encodable route ≡ true → i < length route
+    → encodable (repeater_at route i).repeater ≡ true
+entry_each route i e h =
+    by (encodable (repeater_at route i).repeater) (λ t. t)
+    (λ f. absurd (true≢false (sym e ∙ list_all_at entry_encodable route i past h f)))
+
+-- the groups of the first n entries
+pub groups_first : (route : List RouteEntry) (total n k : ℕ) → k ≤ n → groups_of (take n route) total k ≡ groups_of route total k
+unfolding groups_of
+groups_first route total n zero h = refl
+groups_first route total n (suc k) h = rw (groups_first route total n k (omega arith), get_or-take n route k past h) refl
 
 pub field-length : (f : Ax25Frame) → length (address_field f) ≡ 14 + 7 * f.route_count
 unfolding address_field
@@ -119,20 +126,24 @@ pub content_decides : (m : Mode) (f : Ax25Frame) (info : List ℕ) (room head : 
 unfolding write_answer
 content_decides m f info room head n e h = rw (le-ltb 8 f.route_count n, e, spell-length m f info, h)
 
+-- the content's answer, of which the frame's is the same with the frame's errors
+unfoldable pub through : Result Unit EncodeError → Result Unit WriteError
+through (Ok tt) = Ok tt
+through (Err e) = Err (error_of e)
+
+pub content_through : (m : Mode) (k : FrameContent) (info whole room : ℕ) → through (judged m k info whole room) ≡ content_answer m k info whole room
+unfolding content_answer through
+content_through = judged_by through
+
 -- an accepted answer says that nothing was refused
-Says : Mode → Ax25Frame → List ℕ → ℕ → WriteAnswer → Type 0
-Says m f info room Accepted = Taken m f info room
-Says m f info room RouteTooLong = Unit {0}
-Says m f info room NotEncodable = Unit {0}
-Says m f info room FrameRejectInLongMode = Unit {0}
-Says m f info room InfoNotAllowed = Unit {0}
-Says m f info room PidOutsideClass = Unit {0}
-Says m f info room NoRoom = Unit {0}
+Says : Mode → Ax25Frame → List ℕ → ℕ → Result Unit WriteError → Type 0
+Says m f info room (Ok tt) = Taken m f info room
+Says m f info room (Err e) = Unit {0}
 
 says : (m : Mode) (f : Ax25Frame) (info : List ℕ) (room : ℕ) → Says m f info room (write_answer m f info room)
 unfolding write_answer content_answer Says
 says m f info room =
-    let P : WriteAnswer → Type 0 = Says m f info room in
+    let P : Result Unit WriteError → Type 0 = Says m f info room in
     either P (ltb 8 f.route_count) (λ _. tt)
     (λ a. either P (not (frame_encodable f)) (λ _. tt)
     (λ b. either P (long_frmr m f.content) (λ _. tt)
@@ -141,19 +152,9 @@ says m f info room =
     (λ d. either P (ltb room (length (spell m f info))) (λ _. tt)
     (λ e. record { count = ltb-false _ _ a; addresses = not-false _ b; known = k; info = c; pid = d; room = ltb-false _ _ e }))))))
 
-pub accepted_taken : (m : Mode) (f : Ax25Frame) (info : List ℕ) (room : ℕ) → write_answer m f info room ≡ Accepted → Taken m f info room
+pub accepted_taken : (m : Mode) (f : Ax25Frame) (info : List ℕ) (room : ℕ) → write_answer m f info room ≡ Ok tt → Taken m f info room
 unfolding Says
 accepted_taken m f info room e = subst (Says m f info room) e (says m f info room)
-
--- what a match on the answer tells
-pub told-refused : (a : WriteAnswer) (s : List ℕ) → (a ≡ Accepted → ⊥) → octets_by a s ≡ []
-told-refused Accepted s h = absurd (h refl)
-told-refused RouteTooLong s h = refl
-told-refused NotEncodable s h = refl
-told-refused FrameRejectInLongMode s h = refl
-told-refused InfoNotAllowed s h = refl
-told-refused PidOutsideClass s h = refl
-told-refused NoRoom s h = refl
 
 -- the address field, then the content in the room that is left
 module _ (m : Mode) (f : Ax25Frame) (info l : List ℕ) (t : Taken m f info (length l)) where
@@ -172,14 +173,14 @@ module _ (m : Mode) (f : Ax25Frame) (info l : List ℕ) (t : Taken m f info (len
   fits : at + (length (front m f.content) + length info) ≤ length l
   fits = omega (arith, spell-length m f info, t.room)
 
-  content-written : answer_of m f.content (length info) (length left) ≡ Written
+  content-written : answer_of m f.content (length info) (length left) ≡ Ok tt
   content-written =
       let n : length after ≡ length l = splice-length l 0 (address_field f) in
       let r : length left ≡ length after - at = rw part_from (length-drop at after) in
       answer-written m f.content (length info) (length left) t.known t.info t.pid
       (le-ltb (length left) (length (front m f.content) + length info) (omega (arith, fits)))
 
-  pub content-length : (encode_of m f.content (length info) (length left)).length ≡ length (front m f.content) + length info
+  pub content-length : encode_of m f.content (length info) (length left) ≡ Ok (length (front m f.content) + length info)
   content-length = rw content-written
 
   pub content-put : take at after ++ (splice left 0 (encoded m f.content info (length left)) ++ drop (length after - at) (drop at after))

@@ -1,6 +1,7 @@
 -- Writing a frame: document 01's numbers 21 to 24 in their order, document 02's 11 (M-109) before 23 and 25 (M-105) before 24, and the
 -- octets.
-use Rattle.std.specs.Prelude.{ℕ, zero, suc, ◌≤◌, ◌≡◌, Bool, true, false, cond, not, ◌&&◌, List, [], ltb, length}
+use Rattle.std.specs.Prelude.{ℕ, zero, suc, ◌≤◌, ◌≡◌, Bool, true, false, cond, not, ◌&&◌, Result, Ok, Err, List, ltb, length}
+use Rattle.octets.specs.Outcome.{giving, octets_by}
 use Rattle.address.specs.Address.{encodable}
 use Rattle.content.specs.Refused.{long_frmr, stray_info, stray_pid}
 use Rattle.content.specs.declared.FrameContent.{FrameContent}
@@ -8,9 +9,12 @@ use Rattle.control.specs.declared.Mode.{Mode}
 use Rattle.frame.specs.Spell.{repeater_at, spell}
 use Rattle.frame.specs.declared.RouteEntry.{RouteEntry}
 use Rattle.frame.specs.declared.Ax25Frame.{Ax25Frame}
-use Rattle.frame.specs.declared.Written.{Written}
-use Rattle.frame.specs.declared.WriteAnswer.{WriteAnswer}
-use Rattle.frame.specs.declared.WriteAnswer.TheVariants.{Accepted, RouteTooLong, NotEncodable, FrameRejectInLongMode, InfoNotAllowed, PidOutsideClass, NoRoom}
+use Rattle.frame.specs.declared.WriteError.{WriteError}
+use Rattle.frame.specs.declared.WriteError.TheVariants.{RouteTooLong, NotEncodable, FrameRejectInLongMode, InfoNotAllowed, PidOutsideClass, NoRoom}
+
+-- the repeater of an entry can be written
+abbrev pub entry_encodable : RouteEntry → Bool
+entry_encodable e = encodable e.repeater
 
 -- the first n repeaters can be written
 unfoldable pub route_encodable : List RouteEntry → ℕ → Bool
@@ -22,19 +26,19 @@ unfoldable pub frame_encodable : Ax25Frame → Bool
 frame_encodable f = encodable f.destination && encodable f.source && route_encodable f.route f.route_count
 
 -- the answer from 11 on: of the content, the length of its info, the octets that all of the frame takes, and the room
-unfoldable pub content_answer : Mode → FrameContent → ℕ → ℕ → ℕ → WriteAnswer
+unfoldable pub content_answer : Mode → FrameContent → ℕ → ℕ → ℕ → Result Unit WriteError
 content_answer m k info whole room =
-    cond (long_frmr m k) FrameRejectInLongMode
-    (cond (stray_info k info) InfoNotAllowed
-    (cond (stray_pid k) PidOutsideClass
-    (cond (ltb room whole) NoRoom
-    Accepted)))
+    cond (long_frmr m k) (Err FrameRejectInLongMode)
+    (cond (stray_info k info) (Err InfoNotAllowed)
+    (cond (stray_pid k) (Err PidOutsideClass)
+    (cond (ltb room whole) (Err NoRoom)
+    (Ok tt))))
 
 -- the answer to writing a frame with its info into so much room. The Rust has no such refusals (docs/DIFFERENCES.md, B3 and B4)
-unfoldable pub write_answer : Mode → Ax25Frame → List ℕ → ℕ → WriteAnswer
+unfoldable pub write_answer : Mode → Ax25Frame → List ℕ → ℕ → Result Unit WriteError
 write_answer m f info room =
-    cond (ltb 8 f.route_count) RouteTooLong
-    (cond (not (frame_encodable f)) NotEncodable
+    cond (ltb 8 f.route_count) (Err RouteTooLong)
+    (cond (not (frame_encodable f)) (Err NotEncodable)
     (content_answer m f.content (length info) (length (spell m f info)) room))
 
 -- what writing takes: none of the six refusals holds
@@ -47,18 +51,9 @@ pub record Taken (m : Mode) (f : Ax25Frame) (i : List ℕ) (n : ℕ) : Type 0 wh
   pub room : length (spell m f i) ≤ n
 
 -- the octets that are written: what the frame spells, and none at a refusal
-abbrev pub octets_by : WriteAnswer → List ℕ → List ℕ
-octets_by Accepted s = s
-octets_by RouteTooLong s = []
-octets_by NotEncodable s = []
-octets_by FrameRejectInLongMode s = []
-octets_by InfoNotAllowed s = []
-octets_by PidOutsideClass s = []
-octets_by NoRoom s = []
-
 unfoldable pub octets_written : Mode → Ax25Frame → List ℕ → ℕ → List ℕ
 octets_written m f info room = octets_by (write_answer m f info room) (spell m f info)
 
--- the answer, and how many octets of the output are the frame
-unfoldable pub written : Mode → Ax25Frame → List ℕ → ℕ → Written
-written m f info room = record { answer = write_answer m f info room; length = length (octets_written m f info room) }
+-- how many octets of the output are the frame, or the refusal
+unfoldable pub written : Mode → Ax25Frame → List ℕ → ℕ → Result ℕ WriteError
+written m f info room = giving (write_answer m f info room) (length (spell m f info))

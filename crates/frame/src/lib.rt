@@ -2,10 +2,12 @@
 #![tactic(auto)]
 
 ghost use Rattle.std.specs.Prelude.{◌≡◌, false};
-ghost use Rattle.frame.specs.Frame.{no_entry, default_frame, write_number, simple_ui};
+ghost use Rattle.frame.specs.Frame.{no_entry, default_frame, error_number, error_of, simple_ui};
 
 use address::Address;
+use answer::Numbered;
 use content::{FrameContent, UnnumberedInformation};
+use encoding::EncodeError;
 use protocol::ProtocolIdentifier;
 
 mod writing; // writing.rt: from a frame and its info to octets
@@ -35,15 +37,16 @@ pub struct Ax25Frame {
     // Destination station
     pub destination: Address,
     // The route the frame has taken/will take: the first `route_count` places
+    // An array with a count: the customer's record has both, and C's flat record its places.
     pub route: [RouteEntry; 8],
     pub route_count: usize,
     pub command_or_response: Mark,
     pub content: FrameContent,
 }
 
-#[derive(Clone, Copy)]
-pub enum WriteAnswer {
-    Accepted,
+// Why a frame is not written.
+#[derive(Clone, Copy, Debug, PartialEq, Eq)]
+pub enum WriteError {
     RouteTooLong,
     NotEncodable,
     FrameRejectInLongMode,
@@ -52,60 +55,67 @@ pub enum WriteAnswer {
     NoRoom,
 }
 
-// What writing gives: how many octets of the output are the frame.
-#[derive(Clone, Copy)]
-pub struct Written {
-    pub answer: WriteAnswer,
-    pub length: usize,
-}
+impl Numbered for WriteError {
+    ghost number_of = { error_number };
 
-impl WriteAnswer {
-    pub fn number(self) -> u32
-        ensures { result ≡ write_number self }
-    {
+    fn number(self) -> u32 {
         match self {
-            WriteAnswer::Accepted => 0,
-            WriteAnswer::RouteTooLong => 21,
-            WriteAnswer::NotEncodable => 22,
-            WriteAnswer::FrameRejectInLongMode => 11,
-            WriteAnswer::InfoNotAllowed => 23,
-            WriteAnswer::PidOutsideClass => 25,
-            WriteAnswer::NoRoom => 24,
+            WriteError::RouteTooLong => 21,
+            WriteError::NotEncodable => 22,
+            WriteError::FrameRejectInLongMode => 11,
+            WriteError::InfoNotAllowed => 23,
+            WriteError::PidOutsideClass => 25,
+            WriteError::NoRoom => 24,
         }
     }
 }
 
-impl RouteEntry {
-    // An unused place.
-    pub fn default() -> RouteEntry
-        ensures { result ≡ no_entry }
-    {
-        let repeater = Address::default();
+impl From<EncodeError> for WriteError {
+    ghost from_gives = { λ of_content e. e ≡ error_of of_content };
+
+    fn from(of_content: EncodeError) -> WriteError {
+        match of_content {
+            EncodeError::FrameRejectInLongMode => WriteError::FrameRejectInLongMode,
+            EncodeError::InfoNotAllowed => WriteError::InfoNotAllowed,
+            EncodeError::PidOutsideClass => WriteError::PidOutsideClass,
+            EncodeError::NoRoom => WriteError::NoRoom,
+        }
+    }
+}
+
+// An unused place.
+impl Default for RouteEntry {
+    ghost is_default = { λ entry. entry ≡ no_entry };
+
+    #[tactic(auto, unfolding(crate::specs::Frame::no_entry))]
+    fn default() -> RouteEntry {
         RouteEntry {
-            repeater,
+            repeater: Address::default(),
             has_repeated: false,
         }
     }
 }
 
-impl Ax25Frame {
-    pub fn default() -> Ax25Frame
-        ensures { result ≡ default_frame }
-    {
-        let nobody = Address::default();
-        Ax25Frame::new_simple_ui_frame(nobody, nobody)
-    }
+// The frame that a refused decode gives.
+impl Default for Ax25Frame {
+    ghost is_default = { λ frame. frame ≡ default_frame };
 
+    #[tactic(auto, unfolding(crate::specs::Frame::default_frame))]
+    fn default() -> Ax25Frame {
+        Ax25Frame::new_simple_ui_frame(Address::default(), Address::default())
+    }
+}
+
+impl Ax25Frame {
     // A basic UnnumberedInformation (connectionless) frame. Its info is lent when it is written.
+    #[tactic(auto, unfolding(crate::specs::Frame::simple_ui, crate::specs::Frame::no_route))]
     pub fn new_simple_ui_frame(source: Address, destination: Address) -> Ax25Frame
         ensures { result ≡ simple_ui source destination }
     {
-        let unused = RouteEntry::default();
-        let route = [unused; 8];
         Ax25Frame {
             source,
             destination,
-            route,
+            route: [RouteEntry::default(); 8],
             route_count: 0,
             command_or_response: Mark::Command,
             content: FrameContent::UnnumberedInformation(UnnumberedInformation {

@@ -1,11 +1,11 @@
 // Writing a frame.
 ghost use Rattle.std.specs.Prelude.{◌≡◌, true, ◌+◌, ◌*◌, ◌≤◌, length};
+ghost use Rattle.std.specs.List.{list_all};
 ghost use Rattle.octets.specs.Splice.{splice};
 ghost use Rattle.frame.specs.Spell.{groups_of, destination_mark, address_field, spell};
-ghost use Rattle.frame.specs.Write.{route_encodable, frame_encodable, content_answer, write_answer, Taken, octets_written, written};
+ghost use Rattle.frame.specs.Write.{entry_encodable, frame_encodable, write_answer, Taken, octets_written, written};
 
-use crate::{Ax25Frame, Mark, RouteEntry, WriteAnswer, Written};
-use content::FrameContent;
+use crate::{Ax25Frame, Mark, RouteEntry, WriteError};
 use control::Mode;
 
 // The mark of the destination; that of the source is the other.
@@ -19,95 +19,51 @@ fn destination_mark(mark: Mark) -> bool
     }
 }
 
-fn route_encodable(route: [RouteEntry; 8], count: usize) -> bool
-    requires { count ≤ 8 }
-    ensures { result ≡ route_encodable route count }
+fn route_encodable(route: &[RouteEntry]) -> bool
+    ensures { result ≡ list_all entry_encodable route.now }
 {
-    let mut i = 0;
-    while i < count {
-        let entry = route[i];
-        let repeater = entry.repeater;
-        if !repeater.is_encodable() {
-            return false;
-        }
-        i += 1;
-    }
-    true
+    route.iter().all(|entry| entry.repeater.is_encodable())
 }
 
 fn frame_encodable(frame: Ax25Frame) -> bool
     requires { frame.route_count ≤ 8 }
     ensures { result ≡ frame_encodable frame }
 {
-    let destination = frame.destination;
-    if !destination.is_encodable() {
-        return false;
-    }
-    let source = frame.source;
-    if !source.is_encodable() {
-        return false;
-    }
-    let route = frame.route;
-    route_encodable(route, frame.route_count)
+    frame.destination.is_encodable()
+        && frame.source.is_encodable()
+        && route_encodable(&frame.route[..frame.route_count])
 }
 
-// The answer from the content on, where `head` octets stand before the info.
-fn content_answer(
-    mode: Mode,
-    content: FrameContent,
-    head: usize,
-    carried: usize,
-    room: usize,
-) -> WriteAnswer
-    ensures { result ≡ content_answer mode content carried (head + carried) room }
-{
-    if content.long_frmr(mode) {
-        return WriteAnswer::FrameRejectInLongMode;
-    }
-    if content.stray_info(carried) {
-        return WriteAnswer::InfoNotAllowed;
-    }
-    if content.stray_pid() {
-        return WriteAnswer::PidOutsideClass;
-    }
-    if lent_buffer::lacks_room(head, carried, room) {
-        return WriteAnswer::NoRoom;
-    }
-    WriteAnswer::Accepted
-}
-
-fn write_answer(mode: Mode, frame: Ax25Frame, info: &[u8], room: usize) -> WriteAnswer
+// Whether a frame is written with its info into so much room.
+fn judge(mode: Mode, frame: Ax25Frame, info: &[u8], room: usize) -> Result<(), WriteError>
     ensures { result ≡ write_answer mode frame info.now room }
 {
     let count = frame.route_count;
     if 8 < count {
-        return WriteAnswer::RouteTooLong;
+        return Err(WriteError::RouteTooLong);
     }
     if !frame_encodable(frame) {
-        return WriteAnswer::NotEncodable;
+        return Err(WriteError::NotEncodable);
     }
     let content = frame.content;
     let head = 14 + 7 * count + content.front_len(mode);
-    content_answer(mode, content, head, info.len(), room)
+    encoding::judge(mode, content, head, info.len(), room)?;
+    Ok(())
 }
 
 // The repeaters' groups, one after the other from `at` on; the last alone has the end bit.
-fn put_route(out: &mut [u8], at: usize, route: [RouteEntry; 8], count: usize)
-    requires { (count ≤ 8) × (at + 7 * count ≤ length out.old) × (route_encodable route count ≡ true) }
-    ensures { out.new ≡ splice out.old at (groups_of route count count) }
+fn put_route(out: &mut [u8], at: usize, route: &[RouteEntry])
+    requires { (at + 7 * length route.now ≤ length out.old) × (list_all entry_encodable route.now ≡ true) }
+    ensures { out.new ≡ splice out.old at (groups_of route.now (length route.now) (length route.now)) }
 {
-    let mut i = 0;
-    while i < count {
-        let entry = route[i];
-        let repeater = entry.repeater;
+    for (i, entry) in route.iter().enumerate() {
         placing::put(
             out,
             at + 7 * i,
-            repeater,
+            entry.repeater,
             entry.has_repeated,
-            i + 1 == count,
+            i + 1 == route.len(),
         );
-        i += 1;
     }
 }
 
@@ -116,15 +72,11 @@ fn put_addresses(out: &mut [u8], frame: Ax25Frame)
     requires { (frame.route_count ≤ 8) × (14 + 7 * frame.route_count ≤ length out.old) × (frame_encodable frame ≡ true) }
     ensures { out.new ≡ splice out.old 0 (address_field frame) }
 {
-    let mark = frame.command_or_response;
+    let to = destination_mark(frame.command_or_response);
     let count = frame.route_count;
-    let destination = frame.destination;
-    let source = frame.source;
-    let route = frame.route;
-    let to = destination_mark(mark);
-    placing::put(out, 0, destination, to, false);
-    placing::put(out, 7, source, !to, count == 0);
-    put_route(out, 14, route, count);
+    placing::put(out, 0, frame.destination, to, false);
+    placing::put(out, 7, frame.source, !to, count == 0);
+    put_route(out, 14, &frame.route[..count]);
 }
 
 // The frame and its info, once nothing is refused.
@@ -136,21 +88,16 @@ fn put_frame(mode: Mode, out: &mut [u8], frame: Ax25Frame, info: &[u8]) -> usize
     put_addresses(out, frame);
     let at = 14 + 7 * frame.route_count;
     let content = frame.content;
-    let after = encoding::encode(mode, content, info, &mut out[at..]);
-    at + after.length
+    at + encoding::encode(mode, content, info, &mut out[at..]).unwrap()
 }
 
 impl Ax25Frame {
-    // Encode the frame, with its info, as raw bytes for transmission.
-    pub fn to_bytes(self, mode: Mode, info: &[u8], out: &mut [u8]) -> Written
+    // Encode the frame, with its info, as raw bytes for transmission: how many there are. A refusal writes nothing.
+    pub fn to_bytes(self, mode: Mode, info: &[u8], out: &mut [u8]) -> Result<usize, WriteError>
         ensures value { result ≡ written mode self info.now (length out.old) }
         ensures out_after { out.new ≡ splice out.old 0 (octets_written mode self info.now (length out.old)) }
     {
-        let answer = write_answer(mode, self, info, out.len());
-        let WriteAnswer::Accepted = answer else {
-            return Written { answer, length: 0 };
-        };
-        let length = put_frame(mode, out, self, info);
-        Written { answer, length }
+        judge(mode, self, info, out.len())?;
+        Ok(put_frame(mode, out, self, info))
     }
 }

@@ -9,14 +9,15 @@ use lib.ListN.{length, drop}
 use Rattle.octets.proofs.Choice.{by}
 use Rattle.content.specs.declared.FrameContent.TheVariants as kind
 use Rattle.control.specs.declared.Mode.{Mode}
-use Rattle.std.specs.Prelude.{Ok}
+use Rattle.std.specs.Prelude.{Result, Ok, Err}
 use Rattle.parse.proofs.Read.{never_unknown}
 use Rattle.decode.specs.Answer.{is_accepted}
 use Rattle.frame.specs.Frame.{write_number, simple_ui, default_frame}
 use Rattle.frame.specs.Spell.{spell}
-use Rattle.frame.specs.Write.{write_answer, octets_by, octets_written}
-use Rattle.frame.specs.declared.WriteAnswer.{WriteAnswer}
-use Rattle.frame.specs.declared.WriteAnswer.TheVariants as write
+use Rattle.octets.specs.Outcome.{octets_by}
+use Rattle.frame.specs.Write.{write_answer, octets_written}
+use Rattle.frame.specs.declared.WriteError.{WriteError}
+use Rattle.frame.specs.declared.WriteError.TheVariants as write
 use Rattle.decode.specs.Read.{end_of, frame_at, refused_with, accepted_with, decode, Decoding}
 use Rattle.frame.specs.declared.Ax25Frame.{Ax25Frame}
 use Rattle.decode.proofs.Accepts.{Accepts, accepts}
@@ -46,32 +47,27 @@ decoded_known mode s u =
     (λ e. default_known (sym (ap (λ (f : Ax25Frame). f.content) (refused_parts mode s e).0) ∙ u))
 
 -- a refused write writes nothing
-nothing : (a : WriteAnswer) (s : List ℕ) → (write_number a ≡ 0 → ⊥) → octets_by a s ≡ []
-nothing write.Accepted s n = absurd (n refl)
-nothing write.RouteTooLong s n = refl
-nothing write.NotEncodable s n = refl
-nothing write.FrameRejectInLongMode s n = refl
-nothing write.InfoNotAllowed s n = refl
-nothing write.PidOutsideClass s n = refl
-nothing write.NoRoom s n = refl
+nothing : (a : Result Unit WriteError) (s : List ℕ) → (write_number a ≡ 0 → ⊥) → octets_by a s ≡ []
+nothing (Ok tt) s n = absurd (n refl)
+nothing (Err e) s n = refl
 
 pub refused-octets : (mode : Mode) (f : Ax25Frame) (info : List ℕ) (room : ℕ) → (write_number (write_answer mode f info room) ≡ 0 → ⊥) → octets_written mode f info room ≡ []
 unfolding octets_written
 refused-octets mode f info room n = nothing (write_answer mode f info room) (spell mode f info) n
 
 -- an accepted one writes what the frame spells, and there is room for it
-zero : (a : WriteAnswer) → write_number a ≡ 0 → a ≡ write.Accepted
-zero write.Accepted e = refl
-zero write.RouteTooLong e = absurd (omega (arith, e))
-zero write.NotEncodable e = absurd (omega (arith, e))
-zero write.FrameRejectInLongMode e = absurd (omega (arith, e))
-zero write.InfoNotAllowed e = absurd (omega (arith, e))
-zero write.PidOutsideClass e = absurd (omega (arith, e))
-zero write.NoRoom e = absurd (omega (arith, e))
+pub number_zero : (a : Result Unit WriteError) → write_number a ≡ 0 → a ≡ Ok tt
+number_zero (Ok tt) e = refl
+number_zero (Err write.RouteTooLong) e = absurd (omega (arith, e))
+number_zero (Err write.NotEncodable) e = absurd (omega (arith, e))
+number_zero (Err write.FrameRejectInLongMode) e = absurd (omega (arith, e))
+number_zero (Err write.InfoNotAllowed) e = absurd (omega (arith, e))
+number_zero (Err write.PidOutsideClass) e = absurd (omega (arith, e))
+number_zero (Err write.NoRoom) e = absurd (omega (arith, e))
 
 pub accepted-octets : (mode : Mode) (f : Ax25Frame) (info : List ℕ) (room : ℕ) → write_number (write_answer mode f info room) ≡ 0
     → (octets_written mode f info room ≡ spell mode f info) × (length (spell mode f info) ≤ room)
 unfolding octets_written
 accepted-octets mode f info room n =
-    let e : write_answer mode f info room ≡ write.Accepted = zero (write_answer mode f info room) n in
+    let e : write_answer mode f info room ≡ Ok tt = number_zero (write_answer mode f info room) n in
     (rw e refl, (accepted_taken mode f info room e).room)

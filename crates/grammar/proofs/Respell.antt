@@ -16,8 +16,12 @@ use Rattle.content.proofs.Laws.{plain_pid_lem, plain-frmr}
 use Rattle.control.specs.declared.Mode.{Mode}
 use Rattle.decode.specs.Answer.{is_accepted}
 use Rattle.decode.specs.Read.{end_of, accepted_with, decode, info_in, Decoding}
-use Rattle.frame.specs.Write.{route_encodable, frame_encodable, content_answer, write_answer, octets_written, written}
-use Rattle.frame.specs.declared.WriteAnswer.TheVariants.{Accepted, NoRoom}
+use Rattle.frame.specs.Write.{route_encodable, frame_encodable, content_answer, write_answer, written}
+use Rattle.std.specs.Prelude.{Result, Ok, Err}
+use Rattle.octets.specs.Outcome.{giving}
+use Rattle.frame.specs.Frame.{write_number}
+use Rattle.frame.specs.declared.WriteError.{WriteError}
+use Rattle.frame.specs.declared.WriteError.TheVariants.{NoRoom}
 use Rattle.frame.specs.Spell.{repeater_at, groups_of, destination_mark, source_mark, address_field, spell, made_command, with_mark, Plain, place_in_use, route_in_use, in_use}
 use Rattle.frame.specs.declared.Mark.{Mark}
 use Rattle.frame.specs.declared.Mark.TheVariants.{Command, Response, Absent}
@@ -85,7 +89,7 @@ plain-addresses mode f i p = rw (p.destination.writable, p.source.writable, plai
 plain_info : (mode : Mode) (f : Ax25Frame) (i : List ℕ) → Plain mode f i → stray_info f.content (length i) ≡ false
 plain_info mode f i p = by (has_info f.content) (λ e. rw e) (λ e. rw (e, p.bare e))
 
-plain-written : (mode : Mode) (f : Ax25Frame) (i : List ℕ) (room : ℕ) → Plain mode f i → write_answer mode f i room ≡ cond (ltb room (length (spell mode f i))) NoRoom Accepted
+plain-written : (mode : Mode) (f : Ax25Frame) (i : List ℕ) (room : ℕ) → Plain mode f i → write_answer mode f i room ≡ cond (ltb room (length (spell mode f i))) (Err NoRoom) (Ok tt)
 unfolding write_answer content_answer
 plain-written mode f i room p =
     simp (
@@ -103,7 +107,7 @@ mark-written mode f i room = rw (mark-spell mode f i)
 -- and of what was decoded
 pub decoded-written : (mode : Mode) (s : List ℕ) (room : ℕ) → Octets s → is_accepted (decode mode s).answer ≡ true
     → write_answer mode (decode mode s).frame (info_in s (decode mode s)) room
-    ≡ cond (ltb room (length (spell mode (decode mode s).frame (info_in s (decode mode s))))) NoRoom Accepted
+    ≡ cond (ltb room (length (spell mode (decode mode s).frame (info_in s (decode mode s))))) (Err NoRoom) (Ok tt)
 decoded-written mode s room o e =
     let f : Ax25Frame = (decode mode s).frame in
     let i : List ℕ = info_in s (decode mode s) in
@@ -120,6 +124,15 @@ content-spell mode s o e h =
 
 -- writing's answer and length go with these
 pub written_is : (mode : Mode) (f : Ax25Frame) (i : List ℕ) (room : ℕ)
-    → written mode f i room ≡ record { answer = write_answer mode f i room; length = length (octets_written mode f i room) }
+    → written mode f i room ≡ giving (write_answer mode f i room) (length (spell mode f i))
 unfolding written
 written_is mode f i room = refl
+
+-- and its number
+pub written_number : (mode : Mode) (f : Ax25Frame) (i : List ℕ) (room : ℕ) → write_number (written mode f i room) ≡ write_number (write_answer mode f i room)
+unfolding written
+written_number mode f i room = kept (write_answer mode f i room)
+  where
+    kept : (a : Result Unit WriteError) → write_number (giving a (length (spell mode f i))) ≡ write_number a
+    kept (Ok tt) = refl
+    kept (Err e) = refl

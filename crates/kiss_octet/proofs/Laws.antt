@@ -1,6 +1,7 @@
 -- What holds of whatever an octet does.
 use Prim.Native.Nat.{ℕ, ◌+◌, ◌≤◌, ◌<◌}
 use mathlib.Core.Path.{◌≡◌, refl}
+use Rattle.std.specs.Prelude.{Some, None}
 use mathlib.Core.Bool.{true, false, cond}
 use mathlib.Core.Logic.{◌⊎◌, inl, inr}
 use native.Mathlib.Omega.{arith}
@@ -57,8 +58,8 @@ pub record Moves (h : Head) (b : ℕ) (P : Move → Type 0) : Type 0 where
   pub waits : (f : ℕ) → f ≤ in_type → P (quiet_of (phased h f))
   pub drops : (f : ℕ) → f ≤ in_type → P (quiet_of (drop_of h f))
   pub starts : (p : ℕ) → p ≤ last_port → P (quiet_of (head_of 0 p in_data h.dropped))
-  pub stores : (z : ℕ) → h.length < room → P (record { head = head_of (h.length + 1) h.port in_data h.dropped; octet = z; store = true; ready = false })
-  pub closes : eqb b fend ≡ true → P (record { head = phased h opened; octet = 0; store = false; ready = true })
+  pub stores : (z : ℕ) → h.length < room → P (record { head = head_of (h.length + 1) h.port in_data h.dropped; octet = Some z; ready = false })
+  pub closes : eqb b fend ≡ true → P (record { head = phased h opened; octet = None; ready = true })
 
 module _ (h : Head) (b : ℕ) (P : Move → Type 0) (m : Moves h b P) where
   put_by : (z : ℕ) → P (put_of h z)

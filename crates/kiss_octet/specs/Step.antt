@@ -1,5 +1,5 @@
 -- One octet of a serial line: what it does to the state, and whether a packet is given out at it (document 02, M-104).
-use Rattle.std.specs.Prelude.{ℕ, ◌+◌, Bool, true, false, cond, List, ltb, eqb, set}
+use Rattle.std.specs.Prelude.{ℕ, ◌+◌, Bool, true, false, cond, Option, Some, None, List, ltb, eqb, set}
 use Rattle.octets.specs.Octet.{field}
 use Rattle.escapes.specs.Escape.{fend, fesc, tfend, tfesc}
 use Rattle.kiss.specs.Packet.{last_port}
@@ -21,13 +21,13 @@ drop_of h f = head_of 0 0 f (counted_of h.dropped)
 
 -- an octet that completes neither data nor a packet
 abbrev pub quiet_of : Head → Move
-quiet_of h = record { head = h; octet = 0; store = false; ready = false }
+quiet_of h = record { head = h; octet = None; ready = false }
 
 -- an octet of data, its escape removed: there is room for it, or it is the 1,025th
 unfoldable pub put_of : Head → ℕ → Move
 put_of h b =
     cond (ltb h.length room)
-    (record { head = head_of (h.length + 1) h.port in_data h.dropped; octet = b; store = true; ready = false })
+    (record { head = head_of (h.length + 1) h.port in_data h.dropped; octet = Some b; ready = false })
     (quiet_of (drop_of h dropping))
 
 -- the type octet, its escape removed: M-103 refuses a command other than 0 in its low half, and a port over 11 in its high half
@@ -56,7 +56,7 @@ opened_of h b = cond (eqb b fend) (quiet_of h) (cond (eqb b fesc) (quiet_of (pha
 -- an octet behind the type octet: C0 gives the packet out, and opens the next
 unfoldable pub data_of : Head → ℕ → Move
 data_of h b =
-    cond (eqb b fend) (record { head = phased h opened; octet = 0; store = false; ready = true })
+    cond (eqb b fend) (record { head = phased h opened; octet = None; ready = true })
     (cond (eqb b fesc) (quiet_of (phased h in_escape)) (put_of h b))
 
 -- what an octet does, by the phase
@@ -69,8 +69,12 @@ move_of h b =
     (outside_of h b))))
 
 -- the array after it: the octet of data at the length that was, or none
+abbrev pub stored : Option ℕ → ℕ → List ℕ → List ℕ
+stored None at octets = octets
+stored (Some b) at octets = set octets at b
+
 unfoldable pub stored_by : Move → ℕ → List ℕ → List ℕ
-stored_by m at octets = cond m.store (set octets at m.octet) octets
+stored_by m at octets = stored m.octet at octets
 
 -- the state after an octet, and whether a packet is given out at it
 unfoldable pub step_of : Stream → ℕ → Stream

@@ -2,7 +2,7 @@
 // numbers of the state go by value.
 #![tactic(auto, unfolding(crate::specs::Step::counted_of, crate::specs::Step::drop_of, crate::specs::Step::put_of, crate::specs::Step::typed_of, crate::specs::Step::stray_of, crate::specs::Step::unescaped, crate::specs::Step::outside_of, crate::specs::Step::opened_of, crate::specs::Step::data_of, crate::specs::Step::move_of, crate::specs::Step::stored_by))]
 
-ghost use Rattle.std.specs.Prelude.{◌≡◌, true, false};
+ghost use Rattle.std.specs.Prelude.{◌≡◌, true, None};
 ghost use Rattle.kiss_state.specs.State.{opened, phased};
 ghost use Rattle.kiss_octet.specs.Step.{drop_of, quiet_of, put_of, typed_of, stray_of, unescaped, outside_of, opened_of, data_of, move_of, stored_by};
 
@@ -10,12 +10,11 @@ use escapes::{FEND, FESC, TFEND, TFESC};
 use kiss::LAST_PORT;
 use kiss_state::{DROPPING, Head, IN_DATA, IN_ESCAPE, IN_TYPE, OPENED, ROOM};
 
-// What one octet does: the numbers after it, an octet of data to store or none, whether a packet is given out.
+// What one octet does: the numbers after it, the octet of data to store, if there is one, and whether a packet is given out.
 #[derive(Clone, Copy)]
 pub struct Move {
     pub head: Head,
-    pub octet: u8,
-    pub store: bool,
+    pub octet: Option<u8>,
     pub ready: bool,
 }
 
@@ -25,8 +24,7 @@ fn quiet(head: Head) -> Move
 {
     Move {
         head,
-        octet: 0,
-        store: false,
+        octet: None,
         ready: false,
     }
 }
@@ -56,8 +54,7 @@ fn put(h: Head, octet: u8) -> Move
             phase: IN_DATA,
             ..h
         },
-        octet,
-        store: true,
+        octet: Some(octet),
         ready: false,
     }
 }
@@ -126,7 +123,7 @@ fn start(h: Head, octet: u8) -> Move
 
 // The C0 that closes a packet opens the next.
 fn close(h: Head) -> Move
-    ensures { result ≡ record { head = phased h opened; octet = 0; store = false; ready = true } }
+    ensures { result ≡ record { head = phased h opened; octet = None; ready = true } }
 {
     Move {
         ready: true,
@@ -169,8 +166,8 @@ pub fn step(octets: &mut [u8; 1024], h: Head, octet: u8) -> Move
 {
     let m = move_of(h, octet);
     let at = h.length as usize;
-    if m.store {
-        octets[at] = m.octet;
+    if let Some(stored) = m.octet {
+        octets[at] = stored;
     }
     m
 }

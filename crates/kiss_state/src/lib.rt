@@ -9,7 +9,8 @@ use kiss::LAST_PORT;
 // Room for the data of a packet, in octets.
 pub const ROOM: u16 = 1024;
 
-// The phases, by what was read last. No C0 yet:
+// The phases, by what was read last. They are numbers and no enum, because C's record holds them: a state that no call made may hold any
+// number, and an enum would be made of it and a number again at each octet. No C0 yet:
 pub const OUTSIDE: u8 = 0;
 
 // A C0:

@@ -1,7 +1,7 @@
 // A serial line of KISS packets, read in the pieces in which it gives them.
 #![tactic(auto)]
 
-ghost use Rattle.std.specs.Prelude.{◌≡◌, ℕ, ◌+◌, ◌-◌, ◌≤◌, ◌==◌, length, position, IfSome};
+ghost use Rattle.std.specs.Prelude.{◌≡◌, ℕ, ◌-◌, ◌≤◌, ◌==◌, length, drop, position, IfSome};
 ghost use Rattle.escapes.specs.Escape.{fend};
 ghost use Rattle.kiss_state.specs.declared.Stream.{Stream};
 ghost use Rattle.kiss_state.specs.State.{in_data, head_of, stream_of};
@@ -11,7 +11,8 @@ ghost use Rattle.kiss_stream.specs.Steps.{Reaches, Stores};
 use escapes::{FEND, FESC, TFEND, TFESC};
 use kiss_state::{DROPPING, Head, IN_DATA, OUTSIDE};
 
-// A packet given out: 1, its port, and the length of its data; or zeros.
+// A packet given out: 1, its port, and the length of its data; or zeros. It is C's record, which `ax25_kiss_feed` hands on as it is, so that
+// a flag says whether there is one.
 #[repr(C)]
 #[derive(Clone, Copy)]
 pub struct Packet {
@@ -28,11 +29,11 @@ pub struct Fed {
     pub taken: usize,
 }
 
-// How far a run of octets goes, and the numbers behind it.
+// What a run of octets leaves: the numbers behind it, and the rest of the piece.
 #[derive(Clone, Copy)]
-struct Reached {
+struct Reached<'a> {
     head: Head,
-    at: usize,
+    rest: &'a [u8],
 }
 
 fn no_packet() -> Packet
@@ -55,29 +56,29 @@ fn packet_of(h: Head) -> Packet
     }
 }
 
-// The octet that a DB at `at` and the octet behind it stand for, where the piece has such a pair there.
-fn escaped_at(piece: &[u8], at: usize) -> Option<u8>
-    requires { at ≤ length piece.now }
-    ensures { IfSome result (λ b. (at + 2 ≤ length piece.now) × Stores at b (at + 2) piece.now) }
+// The octet that a DB and the octet behind it stand for, where the rest of the piece begins with such a pair.
+fn escape(rest: &[u8]) -> Option<u8>
+    ensures { IfSome result (λ b. (2 ≤ length rest.now) × Stores b rest.now) }
 {
-    if piece.len() - at < 2 || piece[at] != FESC {
+    if rest.len() < 2 || rest[0] != FESC {
         return None;
     }
-    match piece[at + 1] {
+    match rest[1] {
         TFEND => Some(FEND),
         TFESC => Some(FESC),
         _ => None,
     }
 }
 
-// Stores the octets of data from `from` on that stand for themselves, behind `held` octets of data and as far as there is room. Gives how
-// many octets of data there are then. Most octets are taken here, and the loop is short.
-fn fill_plain(octets: &mut [u8; 1024], held: usize, piece: &[u8], from: usize) -> usize
-    requires { (from ≤ length piece.now) × (held ≤ 65535) }
-    ensures { (held ≤ result) × (result ≤ 65535) × ((p d : ℕ) → Reaches (stream_of octets.old (head_of held p in_data d)) from (stream_of octets.new (head_of result p in_data d)) (from + (result - held)) piece.now) }
+// Stores the octets of data at the start that stand for themselves, behind `held` octets of data and as far as there is room. Gives how many
+// octets of data there are then. Most octets are taken here, and the loop is short.
+fn fill_plain(octets: &mut [u8; 1024], held: usize, rest: &[u8]) -> usize
+    requires { held ≤ 65535 }
+    ensures { (held ≤ result) × (result ≤ 65535) × (result - held ≤ length rest.now)
+        × ((p d : ℕ) → Reaches (stream_of octets.old (head_of held p in_data d)) rest.now (stream_of octets.new (head_of result p in_data d)) (drop (result - held) rest.now)) }
 {
     let mut end = held;
-    for octet in &piece[from..] {
+    for octet in rest {
         if *octet == FEND || *octet == FESC || end >= 1024 {
             break;
         }
@@ -87,23 +88,25 @@ fn fill_plain(octets: &mut [u8; 1024], held: usize, piece: &[u8], from: usize) -
     end
 }
 
-// In the phase of data, stores the data from `from` on as far as there is room: octets that stand for themselves, and escapes that are
-// good and whole.
-fn fill(octets: &mut [u8; 1024], h: Head, piece: &[u8], from: usize) -> Reached
-    requires { from ≤ length piece.now }
-    ensures { Reaches (stream_of octets.old h) from (stream_of octets.new result.head) result.at piece.now }
+// In the phase of data, stores the data at the start as far as there is room: octets that stand for themselves, and escapes that are good
+// and whole.
+fn fill<'a>(octets: &mut [u8; 1024], h: Head, piece: &'a [u8]) -> Reached<'a>
+    ensures { Reaches (stream_of octets.old h) piece.now (stream_of octets.new result.head) result.rest.now }
 {
     if h.phase != IN_DATA {
-        return Reached { head: h, at: from };
+        return Reached {
+            head: h,
+            rest: piece,
+        };
     }
     let mut end = h.length as usize;
-    let mut i = from;
+    let mut rest = piece;
     // A loop, because a turn takes a run and then a pair: what an iterator gives has one length.
     loop {
         let held = end;
-        end = fill_plain(octets, held, piece, i);
-        i += end - held;
-        let Some(escaped) = escaped_at(piece, i) else {
+        end = fill_plain(octets, held, rest);
+        rest = &rest[end - held..];
+        let Some(escaped) = escape(rest) else {
             break;
         };
         if end >= 1024 {
@@ -111,13 +114,13 @@ fn fill(octets: &mut [u8; 1024], h: Head, piece: &[u8], from: usize) -> Reached
         }
         octets[end] = escaped;
         end += 1;
-        i += 2;
+        rest = &rest[2..];
     }
-    let next = Head {
+    let head = Head {
         length: end as u16,
         ..h
     };
-    Reached { head: next, at: i }
+    Reached { head, rest }
 }
 
 // The place of the first C0.
@@ -127,15 +130,14 @@ fn next_fend(bytes: &[u8]) -> Option<usize>
     bytes.iter().position(|octet| *octet == FEND)
 }
 
-// In the two phases that pass over all that is not C0, the place of the next C0 from `from` on, or the end; else `from`.
-fn skip(phase: u8, piece: &[u8], from: usize) -> usize
-    requires { from ≤ length piece.now }
-    ensures { (s : Stream) → s.head.phase ≡ phase → Reaches s from s result piece.now }
+// What is left from the next C0 on in the two phases that pass over all that is not C0, and the whole in the others.
+fn skip(phase: u8, rest: &[u8]) -> &[u8]
+    ensures { (s : Stream) → s.head.phase ≡ phase → Reaches s rest.now s result.now }
 {
     if phase != OUTSIDE && phase != DROPPING {
-        return from;
+        return rest;
     }
-    from + next_fend(&piece[from..]).unwrap_or(piece.len() - from)
+    &rest[next_fend(rest).unwrap_or(rest.len())..]
 }
 
 // Takes a piece of the line, of any length, through the first octet that gives out a packet, else the whole. Each turn takes the octets
@@ -145,27 +147,27 @@ pub fn feed(octets: &mut [u8; 1024], head: Head, piece: &[u8]) -> Fed
         × (octets.new ≡ (feed_of (stream_of octets.old head) piece.now).stream.octets) }
 {
     let mut h = kiss_state::settle(head);
-    let mut i = 0;
+    let mut rest = piece;
     // A loop, because a turn goes as far as the octets let it: no iterator over the piece has these steps.
     loop {
-        let filled = fill(octets, h, piece, i);
+        let filled = fill(octets, h, rest);
         h = filled.head;
-        i = skip(h.phase, piece, filled.at);
-        let Some(octet) = piece.get(i) else {
+        let left = skip(h.phase, filled.rest);
+        let Some((octet, behind)) = left.split_first() else {
             return Fed {
                 head: h,
                 packet: no_packet(),
-                taken: i,
+                taken: piece.len(),
             };
         };
         let m = kiss_octet::step(octets, h, *octet);
         h = m.head;
-        i += 1;
+        rest = behind;
         if m.ready {
             return Fed {
                 head: h,
                 packet: packet_of(h),
-                taken: i,
+                taken: piece.len() - rest.len(),
             };
         }
     }

@@ -11,10 +11,9 @@ use Rattle.decode.specs.Answer.{is_accepted, number_of as decode_number}
 use Rattle.decode.specs.declared.DecodeError.{DecodeError}
 use Rattle.decode.proofs.Read.{answer_accepted, answer_refused}
 use Rattle.decode.specs.Read.{decode, Decoding}
-use Rattle.link_record.specs.Record.{number_of, counted, refusal}
+use Rattle.link_record.specs.Record.{LinkAnswer, number_of, counted, refusal}
 use Rattle.link_record.specs.declared.Link.{Link}
-use Rattle.link_record.specs.declared.LinkAnswer.{LinkAnswer}
-use Rattle.link_record.specs.declared.LinkAnswer.TheVariants.{Offered, NotEncodable, EqualStations, Unsound, Full, Refused}
+use Rattle.link_record.specs.declared.LinkError.TheVariants.{Refused}
 use Rattle.link_record.proofs.Laws.{takes, counted_is}
 use Rattle.link_frame.specs.Frame.{event_of, heard_of}
 use Rattle.link_frame.specs.declared.Side.{Side}
@@ -24,7 +23,7 @@ use Rattle.link_frame.specs.declared.Verdict.TheVariants.{InOrder, Repeated, Gap
 use Rattle.link_frame.proofs.Laws.{Within, is_counted, is_numbered, heard_as_lem, heard_kept, heard_within, heard-counted}
 use Rattle.link.specs.Step.{is_from_to, sender_in, sender_of, tallied, counted_as, after_hearing, followed_by, followed, offered_to, step_by, step_of}
 use Rattle.link.specs.declared.Stepped.{Stepped}
-use Rattle.std.proofs.Common.{Option, Some, None, Err}
+use Rattle.std.proofs.Common.{Option, Some, None, Ok, Err}
 
 -- who sent a frame
 module _ (l : Link) (f : Ax25Frame) where
@@ -56,11 +55,11 @@ module _ (l : Link) (s : List ℕ) where
 
 -- what is decoded, and what is refused
 module _ (l : Link) (d : Decoding) where
-  pub offered_frame : is_accepted d.answer ≡ true → offered_to l d ≡ record { answer = Offered; link = followed l d.frame }
+  pub offered_frame : is_accepted d.answer ≡ true → offered_to l d ≡ record { answer = Ok tt; link = followed l d.frame }
   unfolding offered_to
   offered_frame e = rw (answer_accepted d.answer e) refl
 
-  pub offered-refused : (r : DecodeError) → d.answer ≡ Err r → offered_to l d ≡ record { answer = Refused r; link = counted_as None l }
+  pub offered-refused : (r : DecodeError) → d.answer ≡ Err r → offered_to l d ≡ record { answer = Err (Refused r); link = counted_as None l }
   unfolding offered_to
   offered-refused r e = rw e refl
 
@@ -80,31 +79,14 @@ pub step_by_lem : (l : Link) (s : List ℕ) (a : LinkAnswer) → a ≡ refusal l
 unfolding step_of
 step_by_lem l s a e = rw e refl
 
--- what a match on the record's refusal tells where there is one
-pub told_taken : (a : LinkAnswer) → (a ≡ Offered → ⊥) → takes a ≡ false
-told_taken Offered h = absurd (h refl)
-told_taken NotEncodable h = refl
-told_taken EqualStations h = refl
-told_taken Unsound h = refl
-told_taken Full h = refl
-told_taken (Refused a) h = refl
-
--- then nothing changes
+-- where the record refuses, nothing changes
 pub still : (a : LinkAnswer) (l : Link) (s : List ℕ) → takes a ≡ false → step_by a l s ≡ record { answer = a; link = l }
-still Offered l s e = absurd (true≢false e)
-still NotEncodable l s e = refl
-still EqualStations l s e = refl
-still Unsound l s e = refl
-still Full l s e = refl
-still (Refused a) l s e = refl
+still (Ok u) l s e = absurd (true≢false e)
+still (Err x) l s e = refl
 
 offers : (a : LinkAnswer) (l : Link) (s : List ℕ) → takes a ≡ true → step_by a l s ≡ offered_to l (decode Short s)
-offers Offered l s e = refl
-offers NotEncodable l s e = absurd (false≢true e)
-offers EqualStations l s e = absurd (false≢true e)
-offers Unsound l s e = absurd (false≢true e)
-offers Full l s e = absurd (false≢true e)
-offers (Refused a) l s e = absurd (false≢true e)
+offers (Ok u) l s e = refl
+offers (Err x) l s e = absurd (false≢true e)
 
 module _ (l : Link) (s : List ℕ) where
   pub step-refused : takes (refusal l) ≡ false → step_of l s ≡ record { answer = refusal l; link = l }

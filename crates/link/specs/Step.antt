@@ -7,10 +7,9 @@ use Rattle.frame.specs.declared.Ax25Frame.{Ax25Frame}
 use Rattle.decode.specs.Answer.{DecodeAnswer, is_accepted}
 use Rattle.decode.specs.Read.{decode, Decoding}
 use Rattle.hops.specs.Station.{same_station}
-use Rattle.link_record.specs.Record.{refusal}
+use Rattle.link_record.specs.Record.{LinkAnswer, refusal}
 use Rattle.link_record.specs.declared.Link.{Link}
-use Rattle.link_record.specs.declared.LinkAnswer.{LinkAnswer}
-use Rattle.link_record.specs.declared.LinkAnswer.TheVariants.{Offered, NotEncodable, EqualStations, Unsound, Full, Refused}
+use Rattle.link_record.specs.declared.LinkError.TheVariants.{Refused}
 use Rattle.link_frame.specs.Frame.{heard_of}
 use Rattle.link_frame.specs.declared.Heard.{Heard}
 use Rattle.link_frame.specs.declared.Side.{Side}
@@ -69,20 +68,16 @@ followed l f = followed_by (sender_in l f) f.content l
 
 -- with what decoding gives in hand: its number, and only the number offered changes; or the frame
 abbrev pub offered_by : Link → DecodeAnswer → Ax25Frame → Stepped
-offered_by l (Ok u) f = record { answer = Offered; link = followed l f }
-offered_by l (Err e) f = record { answer = Refused e; link = counted_as None l }
+offered_by l (Ok u) f = record { answer = Ok tt; link = followed l f }
+offered_by l (Err e) f = record { answer = Err (Refused e); link = counted_as None l }
 
 unfoldable pub offered_to : Link → Decoding → Stepped
 offered_to l d = offered_by l d.answer d.frame
 
 -- with the record's own refusal in hand: 22, 72, 73 and 71 change nothing
 abbrev pub step_by : LinkAnswer → Link → List ℕ → Stepped
-step_by Offered l s = offered_to l (decode Short s)
-step_by NotEncodable l s = record { answer = NotEncodable; link = l }
-step_by EqualStations l s = record { answer = EqualStations; link = l }
-step_by Unsound l s = record { answer = Unsound; link = l }
-step_by Full l s = record { answer = Full; link = l }
-step_by (Refused a) l s = record { answer = Refused a; link = l }
+step_by (Ok u) l s = offered_to l (decode Short s)
+step_by (Err e) l s = record { answer = Err e; link = l }
 
 -- the whole
 unfoldable pub step_of : Link → List ℕ → Stepped

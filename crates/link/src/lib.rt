@@ -10,12 +10,12 @@ use address::Address;
 use control::Mode;
 use frame::Ax25Frame;
 use link_frame::{Side, Verdict};
-use link_record::{Link, LinkAnswer};
+use link_record::{Link, LinkError};
 
 // What offering a frame gives: the answer, and the record behind it.
 #[derive(Clone, Copy)]
 pub struct Stepped {
-    pub answer: LinkAnswer,
+    pub answer: Result<(), LinkError>,
     pub link: Link,
 }
 
@@ -104,11 +104,11 @@ fn offered_to(open: Open, frame: &[u8]) -> Stepped
 {
     match reading::from_bytes(Mode::Short, frame) {
         Ok(decoded) => Stepped {
-            answer: LinkAnswer::Offered,
+            answer: Ok(()),
             link: followed(open, decoded.frame),
         },
         Err(error) => Stepped {
-            answer: LinkAnswer::Refused(error),
+            answer: Err(LinkError::Refused(error)),
             link: counted_as(None, open),
         },
     }
@@ -118,15 +118,17 @@ fn offered_to(open: Open, frame: &[u8]) -> Stepped
 pub fn step(link: Link, frame: &[u8]) -> Stepped
     ensures { result ≡ step_of link frame.now }
 {
-    let answer = link_record::refusal(link);
-    let LinkAnswer::Offered = answer else {
-        return Stepped { answer, link };
-    };
-    offered_to(Open { link }, frame)
+    match link_record::refusal(link) {
+        Ok(()) => offered_to(Open { link }, frame),
+        Err(error) => Stepped {
+            answer: Err(error),
+            link,
+        },
+    }
 }
 
 // The same to a record that is lent.
-pub fn offer(link: &mut Link, frame: &[u8]) -> LinkAnswer
+pub fn offer(link: &mut Link, frame: &[u8]) -> Result<(), LinkError>
     ensures { (link.new ≡ (step_of link.old frame.now).link)
         × (result ≡ (step_of link.old frame.now).answer) }
 {

@@ -8,41 +8,37 @@ use lib.Dec.{ltb, leb}
 use Rattle.octets.proofs.Choice.{by, neither}
 use Rattle.address.specs.declared.Address.{Address}
 use Rattle.hops.specs.Station.{same_station}
-use Rattle.link_record.specs.Record.{number_of, most, fresh, counted, unsound, stations_encodable, refusal}
+use Rattle.link_record.specs.Record.{LinkAnswer, number_of, most, fresh, counted, unsound, stations_encodable, refusal}
 use Rattle.link_record.specs.declared.Link.{Link}
-use Rattle.link_record.specs.declared.LinkAnswer.{LinkAnswer}
-use Rattle.link_record.specs.declared.LinkAnswer.TheVariants.{Offered, NotEncodable, EqualStations, Unsound, Full, Refused}
+use Rattle.link_record.specs.declared.LinkError.TheVariants.{NotEncodable, EqualStations, Unsound, Full}
+use Rattle.std.proofs.Common.{Ok, Err}
 
--- which of the variants is `Offered`
+-- whether a frame is taken
 abbrev pub takes : LinkAnswer → Bool
-takes Offered = true
-takes NotEncodable = false
-takes EqualStations = false
-takes Unsound = false
-takes Full = false
-takes (Refused a) = false
+takes (Ok u) = true
+takes (Err e) = false
 
 module _ (l : Link) where
-  pub refused_station : stations_encodable l ≡ false → refusal l ≡ NotEncodable
+  pub refused_station : stations_encodable l ≡ false → refusal l ≡ Err NotEncodable
   unfolding refusal
   refused_station e = rw e refl
 
   module _ (e : stations_encodable l ≡ true) where
-    pub refused_equal : same_station l.a l.b ≡ true → refusal l ≡ EqualStations
+    pub refused_equal : same_station l.a l.b ≡ true → refusal l ≡ Err EqualStations
     unfolding refusal
     refused_equal h = rw (e, h) refl
 
     module _ (d : same_station l.a l.b ≡ false) where
-      pub refused-unsound : unsound l ≡ true → refusal l ≡ Unsound
+      pub refused-unsound : unsound l ≡ true → refusal l ≡ Err Unsound
       unfolding refusal
       refused-unsound h = rw (e, d, h) refl
 
       module _ (u : unsound l ≡ false) where
-        pub refused_full : most ≤ l.offered → refusal l ≡ Full
+        pub refused_full : most ≤ l.offered → refusal l ≡ Err Full
         unfolding refusal
         refused_full h = rw (e, d, u, le-leb most l.offered h) refl
 
-        pub takes_one : l.offered < most → refusal l ≡ Offered
+        pub takes_one : l.offered < most → refusal l ≡ Ok tt
         unfolding refusal
         takes_one h = rw (e, d, u, lt-leb most l.offered h) refl
 

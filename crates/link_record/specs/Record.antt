@@ -1,12 +1,13 @@
 -- The record of a link that is followed (document 02, M-112): what its numbers mean, and which records are refused.
-use Rattle.std.specs.Prelude.{ℕ, ◌+◌, Bool, cond, ◌&&◌, ◌||◌, ltb, leb}
+use Rattle.std.specs.Prelude.{ℕ, ◌+◌, Bool, cond, ◌&&◌, ◌||◌, Result, Ok, Err, ltb, leb}
 use Rattle.address.specs.Address.{encodable}
 use Rattle.address.specs.declared.Address.{Address}
 use Rattle.decode.specs.Answer.{error_number as decode_number}
+use Rattle.octets.specs.Outcome.{number_by}
 use Rattle.hops.specs.Station.{same_station}
 use Rattle.link_record.specs.declared.Link.{Link}
-use Rattle.link_record.specs.declared.LinkAnswer.{LinkAnswer}
-use Rattle.link_record.specs.declared.LinkAnswer.TheVariants.{Offered, NotEncodable, EqualStations, Unsound, Full, Refused}
+use Rattle.link_record.specs.declared.LinkError.{LinkError}
+use Rattle.link_record.specs.declared.LinkError.TheVariants.{NotEncodable, EqualStations, Unsound, Full, Refused}
 
 -- the states of a link; a number over these is read as idle
 abbrev pub idle : ℕ
@@ -26,13 +27,19 @@ abbrev pub most : ℕ
 most = 65535
 
 -- the numbers: 22 for a station, 72 for both, 73 and 71 for the record, decoding's for the frame
+abbrev pub error_number : LinkError → ℕ
+error_number NotEncodable = 22
+error_number EqualStations = 72
+error_number Unsound = 73
+error_number Full = 71
+error_number (Refused a) = decode_number a
+
+-- that a frame was offered, or why it was not
+abbrev pub LinkAnswer : Type 0
+LinkAnswer = Result (Unit {0}) LinkError
+
 abbrev pub number_of : LinkAnswer → ℕ
-number_of Offered = 0
-number_of NotEncodable = 22
-number_of EqualStations = 72
-number_of Unsound = 73
-number_of Full = 71
-number_of (Refused a) = decode_number a
+number_of a = number_by error_number a
 
 -- a fresh record: the two stations, and zeros
 unfoldable pub fresh : Address → Address → Link
@@ -63,11 +70,11 @@ unsound l = ltb l.offered (counted l) || (ltb 7 l.expected_from_a || ltb 7 l.exp
 abbrev pub stations_encodable : Link → Bool
 stations_encodable l = encodable l.a && encodable l.b
 
--- what a record is refused by before a frame is looked at, in this order: 22, 72, 73, 71. `Offered` where it takes one more
+-- what a record is refused by before a frame is looked at, in this order: 22, 72, 73, 71. `Ok` where it takes one more
 unfoldable pub refusal : Link → LinkAnswer
 refusal l =
     cond (stations_encodable l)
-    (cond (same_station l.a l.b) EqualStations
-    (cond (unsound l) Unsound
-    (cond (leb most l.offered) Full Offered)))
-    NotEncodable
+    (cond (same_station l.a l.b) (Err EqualStations)
+    (cond (unsound l) (Err Unsound)
+    (cond (leb most l.offered) (Err Full) (Ok tt))))
+    (Err NotEncodable)

@@ -2,13 +2,14 @@
 #![tactic(auto)]
 
 ghost use Rattle.std.specs.Prelude.{◌≡◌};
-ghost use Rattle.link_record.specs.Record.{number_of, fresh, stations_encodable, counted, unsound, refusal};
+ghost use Rattle.link_record.specs.Record.{error_number, fresh, stations_encodable, counted, unsound, refusal};
 
 use address::Address;
 use answer::Numbered;
 use decode::DecodeError;
 
-// The states. A number over these is read as idle.
+// The states. A number over these is read as idle. Numbers and no enum: C's struct holds a number, which stays as it is where a frame does
+// not change it, and the code only sets it and compares it.
 pub const IDLE: u32 = 0;
 
 pub const ASKED_BY_A: u32 = 1;
@@ -40,9 +41,9 @@ pub struct Link {
     pub offered: u32,
 }
 
+// Why a frame is not offered: the record's own refusals, and decoding's of the frame.
 #[derive(Clone, Copy)]
-pub enum LinkAnswer {
-    Offered,
+pub enum LinkError {
     NotEncodable,
     EqualStations,
     Unsound,
@@ -50,17 +51,16 @@ pub enum LinkAnswer {
     Refused(DecodeError),
 }
 
-impl LinkAnswer {
-    pub fn number(self) -> u32
-        ensures { result ≡ number_of self }
-    {
+impl Numbered for LinkError {
+    ghost number_of = { error_number };
+
+    fn number(self) -> u32 {
         match self {
-            LinkAnswer::Offered => 0,
-            LinkAnswer::NotEncodable => 22,
-            LinkAnswer::EqualStations => 72,
-            LinkAnswer::Unsound => 73,
-            LinkAnswer::Full => 71,
-            LinkAnswer::Refused(error) => error.number(),
+            LinkError::NotEncodable => 22,
+            LinkError::EqualStations => 72,
+            LinkError::Unsound => 73,
+            LinkError::Full => 71,
+            LinkError::Refused(error) => error.number(),
         }
     }
 }
@@ -106,21 +106,21 @@ fn is_unsound(link: Link) -> bool
     counted(link) > link.offered as u64 || link.expected_from_a > 7 || link.expected_from_b > 7
 }
 
-// What a record is refused by before a frame is looked at; `Offered` where it takes one more.
-pub fn refusal(link: Link) -> LinkAnswer
+// What a record is refused by before a frame is looked at; nothing where it takes one more.
+pub fn refusal(link: Link) -> Result<(), LinkError>
     ensures { result ≡ refusal link }
 {
     if !are_encodable(link) {
-        return LinkAnswer::NotEncodable;
+        return Err(LinkError::NotEncodable);
     }
     if hops::same_station(link.a, link.b) {
-        return LinkAnswer::EqualStations;
+        return Err(LinkError::EqualStations);
     }
     if is_unsound(link) {
-        return LinkAnswer::Unsound;
+        return Err(LinkError::Unsound);
     }
     if link.offered >= MOST {
-        return LinkAnswer::Full;
+        return Err(LinkError::Full);
     }
-    LinkAnswer::Offered
+    Ok(())
 }

@@ -20,3 +20,13 @@ octets_of (Err e) = []
 abbrev pub measured : {E : Type 0} → Result (List ℕ) E → Result ℕ E
 measured (Ok s) = Ok (length s)
 measured (Err e) = Err e
+
+-- an answer that gives a value where nothing is refused
+abbrev pub giving : {T E : Type 0} → Result Unit E → T → Result T E
+giving (Ok tt) v = Ok v
+giving (Err e) v = Err e
+
+-- the octets that are written: none at a refusal
+abbrev pub octets_by : {T E : Type 0} → Result T E → List ℕ → List ℕ
+octets_by (Ok x) s = s
+octets_by (Err e) s = []

@@ -12,6 +12,7 @@ ghost use Rattle.frame.specs.Frame.{write_number, simple_ui, default_frame};
 ghost use Rattle.decode.specs.Read.{decode};
 ghost use Rattle.old_captures.specs.Old.{decode_old};
 ghost use Rattle.frame.specs.Write.{written, octets_written};
+ghost use Rattle.octets.specs.Outcome.{length_of};
 ghost use Rattle.parse.specs.Content.{content_of};
 ghost use Rattle.parse.specs.Content.{number_of as content_number};
 ghost use Rattle.control.specs.Mode.{mode_of};
@@ -119,18 +120,17 @@ pub extern "C" fn probe_encode(
     out: &mut [u8],
     len: &mut [usize],
 ) -> u32
-    ensures value { result ≡ answers (lacks len.old 1) (write_number (written (mode_of mode) (frame_from flat.now) info.now (length out.old)).answer) }
+    ensures value { result ≡ answers (lacks len.old 1) (write_number (written (mode_of mode) (frame_from flat.now) info.now (length out.old))) }
     ensures out_after { out.new ≡ leaves (lacks len.old 1) out.old (octets_written (mode_of mode) (frame_from flat.now) info.now (length out.old)) }
-    ensures len_after { len.new ≡ leaves (lacks len.old 1) len.old ((written (mode_of mode) (frame_from flat.now) info.now (length out.old)).length ∷ []) }
+    ensures len_after { len.new ≡ leaves (lacks len.old 1) len.old (length_of (written (mode_of mode) (frame_from flat.now) info.now (length out.old)) ∷ []) }
 {
     if len.len() < 1 {
         return NO_ROOM;
     }
     let frame = flat::given::frame_from(flat);
     let written = frame.to_bytes(Mode::of_number(mode), info, out);
-    let answer = written.answer;
-    len[0] = written.length;
-    answer.number()
+    len[0] = written.unwrap_or(0);
+    written.number()
 }
 
 // The frame of a flat record, as a flat record again.
@@ -261,18 +261,17 @@ pub extern "C" fn probe_content_encode(
     out: &mut [u8],
     len: &mut [usize],
 ) -> u32
-    ensures value { result ≡ answers (lacks len.old 1) (encode_number (encode_of (mode_of mode) (content_at content.now 0) (length info.now) (length out.old)).answer) }
+    ensures value { result ≡ answers (lacks len.old 1) (encode_number (encode_of (mode_of mode) (content_at content.now 0) (length info.now) (length out.old))) }
     ensures out_after { out.new ≡ leaves (lacks len.old 1) out.old (encoded (mode_of mode) (content_at content.now 0) info.now (length out.old)) }
-    ensures len_after { len.new ≡ leaves (lacks len.old 1) len.old ((encode_of (mode_of mode) (content_at content.now 0) (length info.now) (length out.old)).length ∷ []) }
+    ensures len_after { len.new ≡ leaves (lacks len.old 1) len.old (length_of (encode_of (mode_of mode) (content_at content.now 0) (length info.now) (length out.old)) ∷ []) }
 {
     if len.len() < 1 {
         return NO_ROOM;
     }
     let given = flat::given::content_from(content);
     let written = encoding::encode(Mode::of_number(mode), given, info, out);
-    let answer = written.answer;
-    len[0] = written.length;
-    answer.number()
+    len[0] = written.unwrap_or(0);
+    written.number()
 }
 
 // The hop set, the hops used and the due place of the frame of a flat record.

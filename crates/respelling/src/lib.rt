@@ -121,7 +121,7 @@ fn put_due(
     let start = control + content.front_len(mode);
     let end = control + kept;
     let at = 14 + 7 * outline.route_count;
-    encoding::encode(mode, content, &bytes[start..end], &mut out[at..]);
+    encoding::encode(mode, content, &bytes[start..end], &mut out[at..]).unwrap();
 }
 
 // The frame decoded and written again. Not for forwarding: what re-encoding changes is listed in README.md.

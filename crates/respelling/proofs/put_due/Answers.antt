@@ -8,7 +8,7 @@ use Rattle.octets.proofs.Splice.{splice-length}
 use Rattle.content.specs.Spell.{front}
 use Rattle.control.specs.declared.Mode.{Mode}
 use Rattle.content.specs.declared.FrameContent.{FrameContent}
-use Rattle.frame.proofs.Write.{field_room, content-put}
+use Rattle.frame.proofs.Write.{field_room, content-length, content-put}
 use Rattle.decode.specs.Answer.{is_accepted}
 use Rattle.decode.specs.declared.Outline.{Outline}
 use Rattle.decode.specs.Read.{end_of, decode}
@@ -108,15 +108,37 @@ slice_bounds-encode-start-2 c =
     let h = room (goal.at.slice_bounds-encode-start-2 c).After-front_len in
     search rules
 
+-- the info in the input, as the frame has it
+record Info (m : Mode) (s : List ℕ) (from many : ℕ) : Type 0 where
+  from_is : from ≡ end_of s + 1 + length (front m (decode m s).frame.content)
+  many_is : many ≡ (decode m s).info_len
+
+info : (c : After-front_len) →
+    let a = c.args in
+    Info a.mode a.bytes.now (a.outline.end + 1 + c.front_len.result) (a.outline.end + 1 + a.kept - (a.outline.end + 1 + c.front_len.result))
+info c =
+    let n = numbers c in
+    let d = parts _ _ (λ k. search rules) n.accepted in
+    record { from_is = omega (arith, n.front, n.end); many_is = omega (arith, n.front, n.kept, d.carried) }
+
+-- nothing is refused
+pub unwrap-requires : goal.unwrap-requires
+unwrap-requires c =
+    let e = c.encode.ensures.value in
+    let w = (goal.at.unwrap-requires c).After-front_len in
+    let i = info w in
+    let n = numbers w in
+    let d = parts _ _ (λ k. search rules) n.accepted in
+    let t = due_taken _ _ _ (λ k. search rules) n.accepted c.requires.3 in
+    let ok = content-length _ _ _ c.args.out.now t in
+    rw (e, i.many_is, i.from_is, ← d.info, c.put_addresses.ensures, c.requires.1, n.count, ok) refl
+
 pub returns : goal.returns
 returns c =
     let e = c.encode.ensures.out_after in
-    let n = numbers (goal.at.returns c).After-front_len in
-    let m : Mode = c.args.mode in
-    let s : List ℕ = c.args.bytes.now in
-    let d = parts m s (λ k. search rules) n.accepted in
-    let f = c.front_len.result in
-    let part : c.args.outline.end + 1 + c.args.kept - (c.args.outline.end + 1 + f) ≡ (decode m s).info_len = omega (arith, n.front, n.kept, d.carried) in
-    let from : c.args.outline.end + 1 + f ≡ end_of s + 1 + length (front m (decode m s).frame.content) = omega (arith, n.front, n.end) in
-    rw (e, part, from, ← d.info, c.put_addresses.ensures, c.requires.1, n.count, due-accepted m s n.accepted)
+    let w = (goal.at.returns c).After-front_len in
+    let i = info w in
+    let n = numbers w in
+    let d = parts _ _ (λ k. search rules) n.accepted in
+    rw (e, i.many_is, i.from_is, ← d.info, c.put_addresses.ensures, c.requires.1, n.count, due-accepted _ _ n.accepted)
     (content-put _ _ _ c.args.out.now (due_taken _ _ _ (λ k. search rules) n.accepted c.requires.3))

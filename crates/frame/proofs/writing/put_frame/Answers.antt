@@ -1,14 +1,15 @@
 -- The address field goes to the start of the output, and the content into what is left after it.
 use Prim.Native.Nat.{◌+◌, ◌*◌, ◌≤◌}
-use mathlib.Core.Path.{◌≡◌, ap, ◌∙◌}
+use mathlib.Core.Path.{◌≡◌, ◌∙◌}
 use native.Mathlib.Omega.{arith}
 use lib.ListN.{length}
 use Rattle.octets.proofs.Splice.{splice-length}
 use Rattle.content.specs.Spell.{front}
-use Rattle.encoding.specs.declared.ContentWritten.{ContentWritten}
+use Rattle.std.specs.Prelude.{Ok}
 use Rattle.frame.proofs.Write.{spell-length, field_room, content-length, content-put}
 use borrow.Author.Rules.{rules}
 use Rattle.frame.proofs.writing.put_frame.Goals as goal
+use Rattle.frame.proofs.writing.put_frame.Goals.{After-encode}
 
 pub put_addresses-requires : goal.put_addresses-requires
 put_addresses-requires c = (c.requires.count, field_room _ _ _ c.args.out.now c.requires, c.requires.addresses)
@@ -24,19 +25,23 @@ slice_bounds-encode-start c =
     search rules
 
 -- how many octets the content takes
+taken : (c : After-encode) → let a = c.args in c.encode.result ≡ Ok (length (front a.mode a.frame.content) + length a.info.now)
+taken c = c.encode.ensures.value ∙ rw c.put_addresses.ensures (content-length _ _ _ c.args.out.now c.requires)
+
+pub unwrap-requires : goal.unwrap-requires
+unwrap-requires c = search (rules, taken (goal.at.unwrap-requires c).After-encode)
+
 pub overflow_add-result : goal.overflow_add-result
 overflow_add-result c =
     let a = c.args in
-    let n : c.encode-after.result.length ≡ length (front a.mode a.frame.content) + length a.info.now =
-    ap (λ (w : ContentWritten). w.length) c.encode-after.ensures.value ∙ rw c.put_addresses.ensures (content-length _ _ _ a.out.now c.requires) in
+    let n : c.unwrap.result ≡ length (front a.mode a.frame.content) + length a.info.now = search (rules, taken (goal.at.overflow_add-result c).After-encode) in
     omega (arith, spell-length a.mode a.frame a.info.now, c.requires.room)
 
 pub returns : goal.returns
 returns c =
     let a = c.args in
-    let n : c.encode-after.result.length ≡ length (front a.mode a.frame.content) + length a.info.now =
-    ap (λ (w : ContentWritten). w.length) c.encode-after.ensures.value ∙ rw c.put_addresses.ensures (content-length _ _ _ a.out.now c.requires) in
+    let n : c.unwrap.result ≡ length (front a.mode a.frame.content) + length a.info.now = search (rules, taken (goal.at.returns c).After-encode) in
     record {
       value = omega (arith, spell-length a.mode a.frame a.info.now);
-      out_after = rw (c.encode-after.ensures.out_after, c.put_addresses.ensures) (content-put _ _ _ a.out.now c.requires);
+      out_after = rw (c.encode.ensures.out_after, c.put_addresses.ensures) (content-put _ _ _ a.out.now c.requires);
     }
