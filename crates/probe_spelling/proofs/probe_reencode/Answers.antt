@@ -5,7 +5,7 @@ use Rattle.probe_spelling.proofs.probe_reencode.Goals as goal
 
 pub returns : goal.returns
 returns c =
-    let n = c.of_number.ensures in
+    let n = c.from.ensures in
     let e = c.reencode-done.ensures in
     record {
       value = rw (c.number.ensures, e.value, n) refl;
