@@ -89,7 +89,7 @@ pub extern "C" fn probe_decode(
     ensures places_after { places.new ≡ leaves (lacks flat.old 102 || lacks places.old 5) places.old (places_of (decode (mode_of mode) input.now)) }
 {
     put_decoded(
-        reading::from_bytes(Mode::of_number(mode), input),
+        reading::from_bytes(Mode::from(mode), input),
         flat,
         places,
     )
@@ -108,7 +108,7 @@ pub extern "C" fn probe_decode_old(
     ensures places_after { places.new ≡ leaves (lacks flat.old 102 || lacks places.old 5) places.old (places_of (decode_old (mode_of mode) input.now)) }
 {
     put_decoded(
-        old_captures::from_bytes(Mode::of_number(mode), input),
+        old_captures::from_bytes(Mode::from(mode), input),
         flat,
         places,
     )
@@ -131,7 +131,7 @@ pub extern "C" fn probe_encode(
         return NO_ROOM;
     }
     let frame = flat::given::frame_from(flat);
-    let written = frame.to_bytes(Mode::of_number(mode), info, out);
+    let written = frame.to_bytes(Mode::from(mode), info, out);
     len[0] = written.unwrap_or(0);
     written.number()
 }
@@ -240,7 +240,7 @@ pub extern "C" fn probe_content(mode: u32, input: &[u8], flat: &mut [u8]) -> u32
     if flat.len() < CONTENT {
         return NO_ROOM;
     }
-    match parse::parse_content(Mode::of_number(mode), input) {
+    match parse::parse_content(Mode::from(mode), input) {
         Ok(content) => {
             flat::laid::put_content(flat, content);
             0
@@ -266,7 +266,7 @@ pub extern "C" fn probe_content_encode(
         return NO_ROOM;
     }
     let given = flat::given::content_from(content);
-    let written = encoding::encode(Mode::of_number(mode), given, info, out);
+    let written = encoding::encode(Mode::from(mode), given, info, out);
     len[0] = written.unwrap_or(0);
     written.number()
 }
