@@ -25,6 +25,7 @@ pub fn used_up(octets: &mut [u8; 1024], head: Head, piece: &[u8]) -> UsedUp
     let mut packets = given.ready as usize;
     let mut h = first.head;
     let mut i = first.taken;
+    // A while loop, because each call says how much it took: no iterator over the piece has these steps.
     while i < piece.len() {
         let fed = kiss_stream::feed(octets, h, &piece[i..]);
         let next = fed.packet;

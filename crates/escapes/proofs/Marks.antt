@@ -1,4 +1,4 @@
--- One turn of each loop: how many special octets have been met, and whether one has.
+-- One turn of each loop: how many special octets have been met.
 use Rattle.std.proofs.Common.{◌≡◌, ℕ, suc, ◌+◌, ◌≤◌, ◌<◌, Bool, true, false, cond, not, ◌&&◌, ◌||◌, List, ◌++◌, leb, length, get_or, take, drop, refl, ◌∙◌, arith, take-append-drop}
 use lib.Seq.{length-take-le}
 use mir.Val.{bool_byte}
@@ -29,15 +29,3 @@ module _ (s a b : List ℕ) (n : ℕ) (front : a ≡ take n s) (behind : b ≡ d
       let long : length a ≡ n = rw front (length-take-le n s (omega arith)) in
       let past = first_past special a b 0 (λ j k. first_before special a 0 j (omega arith)) in
       rw (whole, long) at past
-
--- whether one has been met among the first k
-abbrev pub met : List ℕ → ℕ → Bool
-met l k = not (leb k (first special l))
-
-step : (a b : Bool) → not (a && not b) ≡ (not a || b)
-step true true = refl
-step true false = refl
-step false b = refl
-
-pub met_turn : (l : List ℕ) (k : ℕ) → k < length l → met l (k + 1) ≡ (met l k || special (get_or l k 0))
-met_turn l k h = rw (first_beyond special l k 0 h) (step (leb k (first special l)) (special (get_or l k 0)))

@@ -41,27 +41,17 @@ fn start(link: Link) -> Place {
 }
 
 // A packet that the stream gave out: its data is a frame.
-fn follow_frame(
-    output: Stdout,
-    place: Place,
-    head: Head,
-    octets: [u8; 1024],
-    length: usize,
-) -> Place
-    requires { length ≤ 1024 }
-{
+fn follow_frame(output: Stdout, place: Place, frame: &[u8]) -> Place {
     // All that is printed of a frame fits.
     let mut text = [0u8; 32];
-    let link = place.link;
-    let followed = following::follow(link, place.stopped, &octets[..length], &mut text);
+    let followed = following::follow(place.link, place.stopped, frame, &mut text);
     let printed = followed.length;
     let written = output.write_all(&text[..printed]).is_ok();
-    let link = followed.link;
     Place {
-        head,
-        link,
+        link: followed.link,
         stopped: followed.stopped,
         written: written && place.written,
+        ..place
     }
 }
 
@@ -76,27 +66,19 @@ fn follow_packet(
     requires { at < length piece.now }
     ensures { (at < result.at) × (result.at ≤ length piece.now) }
 {
-    let head = place.head;
-    let fed = kiss_stream::feed(octets, head, &piece[at..]);
-    let head = fed.head;
+    let fed = kiss_stream::feed(octets, place.head, &piece[at..]);
     let packet = fed.packet;
     let next = at + fed.taken;
+    let place = Place {
+        head: fed.head,
+        ..place
+    };
     if packet.ready == 0 {
-        let link = place.link;
-        return Reached {
-            place: Place {
-                head,
-                link,
-                stopped: place.stopped,
-                written: place.written,
-            },
-            at: next,
-        };
+        return Reached { place, at: next };
     }
-    // A copy, because a part of an array that is lent can't be lent on.
-    let copy = *octets;
+    let given: &[u8] = octets;
     Reached {
-        place: follow_frame(output, place, head, copy, packet.length),
+        place: follow_frame(output, place, &given[..packet.length]),
         at: next,
     }
 }
@@ -104,6 +86,7 @@ fn follow_packet(
 // All of a piece.
 fn follow_piece(output: Stdout, octets: &mut [u8; 1024], place: Place, piece: &[u8]) -> Place {
     let mut reached = Reached { place, at: 0 };
+    // A while loop: each turn goes as far as one packet, so that no iterator over the piece has these steps.
     while reached.at < piece.len() {
         let place = reached.place;
         reached = follow_packet(output, octets, place, piece, reached.at);
@@ -123,14 +106,13 @@ fn piece_buffer() -> [u8; 65536] {
     [0; 65536]
 }
 
-// The whole stream. A loop has to end, and nothing says that a stream does, so it counts its turns down, from a number that no run uses up.
-// It ends early where nobody reads what it prints.
+// The whole stream. A loop has to end, and nothing says that a stream does, so it has as many turns as no run uses up. It ends early where
+// nobody reads what it prints.
 fn follow_all(input: Stdin, output: Stdout, link: Link) -> Place {
     let mut octets = [0u8; 1024];
     let mut piece = piece_buffer();
     let mut place = start(link);
-    let mut turns = u64::MAX;
-    while turns > 0 {
+    for _ in 0..u64::MAX {
         let n = read_some(input, &mut piece);
         if n == 0 {
             break;
@@ -139,7 +121,6 @@ fn follow_all(input: Stdin, output: Stdout, link: Link) -> Place {
         if !place.written {
             break;
         }
-        turns -= 1;
     }
     place
 }
@@ -150,9 +131,7 @@ fn follow_link(input: Stdin, output: Stdout, link: Link) {
         return;
     }
     let mut text = [0u8; 96];
-    let head = place.head;
-    let link = place.link;
-    let length = following::totals(link, head.dropped, &mut text);
+    let length = following::totals(place.link, place.head.dropped, &mut text);
     let _ = output.write_all(&text[..length]);
 }
 
@@ -163,11 +142,7 @@ fn argument_buffer() -> [u8; 131072] {
 
 // Whether an argument was found, even one that is longer than the buffer that it was read into.
 fn is_found(read: Result<usize, FillError>) -> bool {
-    match read {
-        Ok(_) => true,
-        Err(FillError::TooLong) => true,
-        Err(FillError::NotPresent) => false,
-    }
+    !matches!(read, Err(FillError::NotPresent))
 }
 
 fn main(rt: HostRuntime) {
@@ -185,7 +160,6 @@ fn main(rt: HostRuntime) {
     let length = begun.length;
     let _ = output.write_all(&text[..length]);
     if begun.ready {
-        let link = begun.link;
-        follow_link(rt.stdin(), output, link);
+        follow_link(rt.stdin(), output, begun.link);
     }
 }

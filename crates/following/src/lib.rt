@@ -13,7 +13,8 @@ use link_record::{Link, LinkError};
 use text::AddressError;
 use words::page::Page;
 
-// What the two texts come to: whether both are read, the record of the link between their stations, and how many octets are printed.
+// What the two texts come to: whether both are read, the record of the link between their stations, and how many octets are printed. A flag
+// beside the record: the definition `begun` has a record of refused texts too.
 #[derive(Clone, Copy)]
 pub struct Begun {
     pub ready: bool,
@@ -21,7 +22,8 @@ pub struct Begun {
     pub length: usize,
 }
 
-// What a frame comes to: the record behind it, whether no further frame is offered, and how many octets are printed.
+// What a frame comes to: the record behind it, whether no further frame is offered, and how many octets are printed. A flag beside the
+// record: the totals of a link that has stopped are printed of it too.
 #[derive(Clone, Copy)]
 pub struct Followed {
     pub link: Link,

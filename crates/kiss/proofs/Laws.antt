@@ -1,5 +1,5 @@
 -- What is written: its length, one turn of the writing loop, and the whole packet from its parts.
-use Prim.Native.Nat.{ℕ, ◌+◌, ◌-◌, ◌≤◌, ◌<◌}
+use Prim.Native.Nat.{ℕ, ◌+◌, ◌≤◌, ◌<◌}
 use mathlib.Core.Path.{◌≡◌, refl, ap, sym, ◌∙◌}
 use mathlib.Core.Bool.{true, false, cond}
 use Rattle.std.specs.Prelude.{Ok, Err}
@@ -13,13 +13,12 @@ use Rattle.octets.specs.Count.{count}
 use Rattle.octets.specs.First.{first}
 use Rattle.octets.proofs.Choice.{by, neither}
 use Rattle.octets.proofs.First.{first_le}
-use Rattle.octets.proofs.Splice.{splice_none, splice_one, splice-length, splice-cons, splice-then, part_from}
+use Rattle.octets.proofs.Splice.{splice_none, splice_one, splice-length, splice-cons, splice-then}
 use Rattle.escapes.specs.Escape.{fend, fesc, tfend, tfesc, escape_of, escaped, special}
 use Rattle.kiss.specs.Packet.{type_of, last_port, packet}
-use Rattle.kiss.specs.Steps.{next_count, next_octets, next_step}
+use Rattle.kiss.specs.Steps.{next_count, next_octets}
 use Rattle.kiss.specs.Write.{octets_written, written}
 use Rattle.kiss.specs.declared.KissWriteError.TheVariants.{PortTooHigh, NoRoom}
-use Rattle.kiss.specs.declared.Step.{Step}
 
 -- ---- one octet
 pub escape-fend : (b : ℕ) → eqb b fend ≡ true → escape_of b ≡ fesc ∷ tfend ∷ []
@@ -120,16 +119,16 @@ pub record Left (rest out : List ℕ) (n j : ℕ) (whole : List ℕ) : Type 0 wh
   pub is : splice out j (escaped rest) ≡ whole
 
 module _ (rest out : List ℕ) (n j : ℕ) (whole : List ℕ) (l : Left rest out n j whole) where
-  pub left_turn : (k : Step) (out₁ : List ℕ) → 1 ≤ length rest → k ≡ next_step rest → out₁ ≡ splice out j (next_octets rest)
-      → Left (take (length rest - k.taken) (drop k.taken rest)) out₁ n (j + k.written) whole
-  left_turn k out₁ some e f =
+  pub left_turn : (r : List ℕ) (to : ℕ) (out₁ : List ℕ) → 1 ≤ length rest → r ≡ drop (next_count rest) rest → to ≡ j + length (next_octets rest)
+      → out₁ ≡ splice out j (next_octets rest) → Left r out₁ n to whole
+  left_turn r to out₁ some d e f =
       let a : List ℕ = next_octets rest in
       let b : List ℕ = escaped (drop (next_count rest) rest) in
       let step : escaped rest ≡ a ++ b = next_splits rest some in
       let both : length (escaped rest) ≡ length a + length b = ap length step ∙ length-append a b in
       let many = l.many in
       let long = l.long in
-      rw (part_from, e) (record {
+      rw (d, e) (record {
         many = omega arith;
         long = rw (f, splice-length) long;
         is = rw f (splice-then out j (length a) a b refl (omega arith) ∙ ap (splice out j) (sym step) ∙ l.is);

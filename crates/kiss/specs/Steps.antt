@@ -1,8 +1,7 @@
 -- What writing the data does at one place: the steps of the code, which `Write` does not rest on.
-use Rattle.std.specs.Prelude.{ℕ, cond, List, [], ◌∷◌, length, take, eqb}
+use Rattle.std.specs.Prelude.{ℕ, cond, List, [], ◌∷◌, take, eqb}
 use Rattle.octets.specs.First.{first}
 use Rattle.escapes.specs.Escape.{fend, fesc, tfend, tfesc, special}
-use Rattle.kiss.specs.declared.Step.{Step}
 
 -- how many octets of the data are taken: the first, where it is special, else all before the next special one
 unfoldable pub next_count : List ℕ → ℕ
@@ -15,6 +14,3 @@ next_octets [] = []
 next_octets (x ∷ l) =
     cond (eqb x fend) (fesc ∷ tfend ∷ [])
     (cond (eqb x fesc) (fesc ∷ tfesc ∷ []) (take (first special (x ∷ l)) (x ∷ l)))
-
-abbrev pub next_step : List ℕ → Step
-next_step l = record { taken = next_count l; written = length (next_octets l) }

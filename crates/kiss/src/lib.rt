@@ -2,12 +2,11 @@
 // one that measures, and one that copies.
 #![tactic(auto)]
 
-ghost use Rattle.std.specs.Prelude.{◌≡◌, [], ◌∷◌, ◌+◌, ◌≤◌, leb, length, take};
-ghost use Rattle.octets.specs.First.{first};
+ghost use Rattle.std.specs.Prelude.{◌≡◌, [], ◌∷◌, ◌+◌, ◌≤◌, leb, length, drop};
 ghost use Rattle.octets.specs.Splice.{splice};
 ghost use Rattle.octets.specs.Outcome.{measured};
-ghost use Rattle.escapes.specs.Escape.{fesc, escaped, special};
-ghost use Rattle.kiss.specs.Steps.{next_octets, next_step};
+ghost use Rattle.escapes.specs.Escape.{fesc, escaped};
+ghost use Rattle.kiss.specs.Steps.{next_count, next_octets};
 ghost use Rattle.kiss.specs.Write.{number_of, written, octets_written};
 
 use answer::Numbered;
@@ -41,51 +40,53 @@ fn fits(room: usize, n: usize, found: usize) -> bool
     room >= 3 && room - 3 >= n && room - 3 - n >= found
 }
 
-// How far a step goes: how many octets of the data it takes, and how many it writes.
+// How far writing has come: the data that is left, and the place in the output.
 #[derive(Clone, Copy)]
-struct Step {
-    taken: usize,
-    written: usize,
+struct Place<'a> {
+    rest: &'a [u8],
+    to: usize,
 }
 
 // Two octets for one: a DB and what follows it.
-fn put_escape(out: &mut [u8], at: usize, second: u8) -> Step
+fn put_escape(out: &mut [u8], at: usize, second: u8)
     requires { at + 2 ≤ length out.old }
-    ensures value { result ≡ record { taken = 1; written = 2 } }
-    ensures out_after { out.new ≡ splice out.old at (fesc ∷ second ∷ []) }
+    ensures { out.new ≡ splice out.old at (fesc ∷ second ∷ []) }
 {
     out[at] = FESC;
     out[at + 1] = second;
-    Step {
-        taken: 1,
-        written: 2,
-    }
-}
-
-// All octets at the start of the data that stand for themselves.
-fn put_plain(out: &mut [u8], at: usize, rest: &[u8]) -> Step
-    ensures value { result ≡ record { taken = first special rest.now; written = first special rest.now } }
-    ensures out_after { out.new ≡ splice out.old at (take (first special rest.now) rest.now) }
-{
-    let run = escapes::plain_len(rest);
-    lent_buffer::put(out, at, &rest[..run]);
-    Step {
-        taken: run,
-        written: run,
-    }
 }
 
 // The first octet of the rest of the data, where it is written as two; else all that stand for themselves from there on.
-fn put_next(out: &mut [u8], to: usize, rest: &[u8]) -> Step
+fn put_next<'a>(out: &mut [u8], to: usize, rest: &'a [u8]) -> Place<'a>
     requires some { 1 ≤ length rest.now }
     requires room { to + length (escaped rest.now) ≤ length out.old }
-    ensures value { result ≡ next_step rest.now }
+    ensures rest { result.rest.now ≡ drop (next_count rest.now) rest.now }
+    ensures place { result.to ≡ to + length (next_octets rest.now) }
     ensures out_after { out.new ≡ splice out.old to (next_octets rest.now) }
 {
     match rest[0] {
-        FEND => put_escape(out, to, TFEND),
-        FESC => put_escape(out, to, TFESC),
-        _ => put_plain(out, to, rest),
+        FEND => {
+            put_escape(out, to, TFEND);
+            Place {
+                rest: &rest[1..],
+                to: to + 2,
+            }
+        }
+        FESC => {
+            put_escape(out, to, TFESC);
+            Place {
+                rest: &rest[1..],
+                to: to + 2,
+            }
+        }
+        _ => {
+            let run = escapes::plain_len(rest);
+            lent_buffer::put(out, to, &rest[..run]);
+            Place {
+                rest: &rest[run..],
+                to: to + run,
+            }
+        }
     }
 }
 
@@ -98,9 +99,9 @@ fn put_escaped(out: &mut [u8], at: usize, info: &[u8])
     let mut rest = info;
     // A while loop, because a step takes one octet or a whole run: what an iterator gives has one length.
     while !rest.is_empty() {
-        let step = put_next(out, to, rest);
-        rest = &rest[step.taken..];
-        to += step.written;
+        let next = put_next(out, to, rest);
+        rest = next.rest;
+        to = next.to;
     }
 }
 

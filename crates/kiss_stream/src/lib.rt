@@ -11,7 +11,8 @@ ghost use Rattle.kiss_stream.specs.Steps.{Reaches, Stores};
 use escapes::{FEND, FESC, TFEND, TFESC};
 use kiss_state::{DROPPING, Head, IN_DATA, OUTSIDE};
 
-// A packet given out: 1, its port, and the length of its data; or zeros.
+// A packet given out: 1, its port, and the length of its data; or zeros. It is C's record, which `ax25_kiss_feed` hands on as it is, so that
+// a flag says whether there is one.
 #[repr(C)]
 #[derive(Clone, Copy)]
 pub struct Packet {

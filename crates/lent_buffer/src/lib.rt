@@ -20,5 +20,8 @@ pub fn put(out: &mut [u8], at: usize, part: &[u8])
     if lacks_room(at, n, out.len()) {
         return;
     }
-    out[at..at + n].copy_from_slice(part);
+    // Not `copy_from_slice`: it asks whoever links the archive for memmove, and include/ax25.h says that memcpy is all that is asked for.
+    for (i, octet) in part.iter().enumerate() {
+        out[at + i] = *octet;
+    }
 }

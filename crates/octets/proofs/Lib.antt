@@ -10,5 +10,6 @@ pub mod Count
 pub mod Table
 pub mod Lent
 pub mod Position
+pub mod Among
 pub mod Library
 pub mod Outcome

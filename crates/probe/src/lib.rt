@@ -7,7 +7,8 @@ ghost use Rattle.std.specs.Prelude.{◌≡◌, cond, ◌||◌, [], ◌∷◌, le
 ghost use Rattle.octets.specs.Outcome.{number_by, length_of};
 ghost use Rattle.text.specs.Text.{address_number_of, address_read, read_parts, read_text};
 ghost use Rattle.printing.specs.Print.{print_number_of, printed, printed_into};
-ghost use Rattle.decode.specs.Answer.{number_of};
+ghost use Rattle.octets.specs.Outcome.{number_by};
+ghost use Rattle.decode.specs.Answer.{error_number, number_of};
 ghost use Rattle.frame.specs.Frame.{write_number, simple_ui, default_frame};
 ghost use Rattle.decode.specs.Read.{decode};
 ghost use Rattle.old_captures.specs.Old.{decode_old};
@@ -21,13 +22,13 @@ ghost use Rattle.hops.specs.Station.{same_station};
 ghost use Rattle.octets.specs.Splice.{splice};
 ghost use Rattle.flat.specs.Laid.{address_flat, flat_of};
 ghost use Rattle.flat.specs.Given.{address_at, content_at, frame_from};
-ghost use Rattle.probe.specs.Places.{places_of};
+ghost use Rattle.probe.specs.Places.{places_of, places_in, shown};
 ghost use Rattle.probe.specs.Calls.{lacks, answers, leaves, leaves_by, read_flat, hops_of};
 
 use address::Address;
 use answer::Numbered;
 use control::Mode;
-use decode::Decoded;
+use decode::{DecodeError, Decoded};
 use frame::Ax25Frame;
 use text::AddressError;
 
@@ -50,10 +51,14 @@ const ACCEPTED: u32 = 0;
 const NO_ROOM: u32 = 24;
 
 // What was decoded: the number, the frame, and its places, which a refusal's details are among.
-fn put_decoded(decoded: Decoded, flat: &mut [u8], places: &mut [usize]) -> u32
-    ensures value { result ≡ answers (lacks flat.old 102 || lacks places.old 5) (number_of decoded.answer) }
-    ensures flat_after { flat.new ≡ leaves_by (lacks flat.old 102 || lacks places.old 5) (number_of decoded.answer) flat.old (flat_of decoded.frame) }
-    ensures places_after { places.new ≡ leaves (lacks flat.old 102 || lacks places.old 5) places.old (places_of decoded) }
+fn put_decoded(
+    decoded: Result<Decoded, DecodeError>,
+    flat: &mut [u8],
+    places: &mut [usize],
+) -> u32
+    ensures value { result ≡ answers (lacks flat.old 102 || lacks places.old 5) (number_by error_number decoded) }
+    ensures flat_after { flat.new ≡ leaves_by (lacks flat.old 102 || lacks places.old 5) (number_by error_number decoded) flat.old (flat_of (shown decoded).frame) }
+    ensures places_after { places.new ≡ leaves (lacks flat.old 102 || lacks places.old 5) places.old (places_in decoded) }
 {
     if flat.len() < FRAME {
         return NO_ROOM;
@@ -61,14 +66,13 @@ fn put_decoded(decoded: Decoded, flat: &mut [u8], places: &mut [usize]) -> u32
     if places.len() < PLACES {
         return NO_ROOM;
     }
-    let answer = decoded.answer;
     places::put_places(places, decoded);
-    let number = answer.number();
+    let number = decoded.number();
     if number != ACCEPTED {
         return number;
     }
-    let frame = decoded.frame;
-    flat::laid::put_frame(flat, frame);
+    let shown = places::shown(decoded);
+    flat::laid::put_frame(flat, shown.frame);
     number
 }
 
@@ -85,7 +89,7 @@ pub extern "C" fn probe_decode(
     ensures places_after { places.new ≡ leaves (lacks flat.old 102 || lacks places.old 5) places.old (places_of (decode (mode_of mode) input.now)) }
 {
     put_decoded(
-        reading::from_bytes(Mode::of_number(mode), input),
+        reading::from_bytes(Mode::from(mode), input),
         flat,
         places,
     )
@@ -104,7 +108,7 @@ pub extern "C" fn probe_decode_old(
     ensures places_after { places.new ≡ leaves (lacks flat.old 102 || lacks places.old 5) places.old (places_of (decode_old (mode_of mode) input.now)) }
 {
     put_decoded(
-        old_captures::from_bytes(Mode::of_number(mode), input),
+        old_captures::from_bytes(Mode::from(mode), input),
         flat,
         places,
     )
@@ -127,7 +131,7 @@ pub extern "C" fn probe_encode(
         return NO_ROOM;
     }
     let frame = flat::given::frame_from(flat);
-    let written = frame.to_bytes(Mode::of_number(mode), info, out);
+    let written = frame.to_bytes(Mode::from(mode), info, out);
     len[0] = written.unwrap_or(0);
     written.number()
 }
@@ -236,7 +240,7 @@ pub extern "C" fn probe_content(mode: u32, input: &[u8], flat: &mut [u8]) -> u32
     if flat.len() < CONTENT {
         return NO_ROOM;
     }
-    match parse::parse_content(Mode::of_number(mode), input) {
+    match parse::parse_content(Mode::from(mode), input) {
         Ok(content) => {
             flat::laid::put_content(flat, content);
             0
@@ -262,7 +266,7 @@ pub extern "C" fn probe_content_encode(
         return NO_ROOM;
     }
     let given = flat::given::content_from(content);
-    let written = encoding::encode(Mode::of_number(mode), given, info, out);
+    let written = encoding::encode(Mode::from(mode), given, info, out);
     len[0] = written.unwrap_or(0);
     written.number()
 }

@@ -1,9 +1,20 @@
 // Searching octets: for the first that is not null, and for the end of the address field.
 #![tactic(auto)]
 
-ghost use Rattle.std.specs.Prelude.{◌≡◌, ◌≤◌, length, position};
+ghost use Rattle.std.specs.Prelude.{◌≡◌, ◌≤◌, leb, length, position};
 ghost use Rattle.octets.specs.First.{first};
 ghost use Rattle.search.specs.Search.{masked};
+
+// Whether a bit of the mask is set in none of eight octets. A `for` and not `any`, which stops at the first and so looks at one at a time.
+fn is_clear(eight: &[u8; 8], mask: u8) -> bool
+    ensures { result ≡ leb 8 (first (masked mask) eight.now) }
+{
+    let mut found = false;
+    for octet in eight {
+        found |= *octet & mask != 0;
+    }
+    !found
+}
 
 // The place of the first octet in which a bit of the mask is set, if there is one.
 fn place(bytes: &[u8], mask: u8) -> Option<usize>
@@ -19,15 +30,14 @@ pub fn find(bytes: &[u8], mask: u8) -> usize
     ensures value { result ≡ first (masked mask) bytes.now }
     ensures upper_bound { result ≤ length bytes.now }
 {
+    let mut passed = 0;
     let mut rest = bytes;
     while let Some((eight, after)) = rest.split_first_chunk::<8>() {
-        if let Some(place) = place(eight, mask) {
-            return bytes.len() - rest.len() + place;
+        if !is_clear(eight, mask) {
+            break;
         }
+        passed += 8;
         rest = after;
     }
-    match place(rest, mask) {
-        Some(place) => bytes.len() - rest.len() + place,
-        None => bytes.len(),
-    }
+    passed + place(rest, mask).unwrap_or(rest.len())
 }

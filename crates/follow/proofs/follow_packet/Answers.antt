@@ -1,9 +1,10 @@
 -- A call takes some of what is left of the piece, and no more, and what it gives out fits the array.
 use Prim.Native.Nat.{ℕ, ◌+◌, ◌-◌, ◌≤◌, ◌<◌}
-use mathlib.Core.Path.{◌≡◌}
+use mathlib.Core.Path.{◌≡◌, sym}
 use mathlib.Core.List.{List}
 use native.Mathlib.Omega.{arith}
 use lib.ListN.{length, take, drop, length-drop}
+use lib.Seq.{length-take-le}
 use Rattle.octets.proofs.Splice.{part_from}
 use Rattle.kiss_state.specs.declared.Stream.{Stream}
 use Rattle.kiss_stream.specs.declared.Fed.{Fed}
@@ -26,8 +27,13 @@ returns-then-packet-eq0 c =
     let t = takes _ _ c.args.at _ c.requires c.feed-fed.ensures.0 in
     (omega (arith, t.0), t.1)
 
-pub follow_frame-requires : goal.follow_frame-requires
-follow_frame-requires c = (takes _ _ c.args.at _ c.requires c.feed-fed.ensures.0).2
+-- what is given out stands in the array
+pub slice_bounds-given-end : goal.slice_bounds-given-end
+slice_bounds-given-end c = omega (arith, (takes _ _ c.args.at _ c.requires c.feed-fed.ensures.0).2, c.feed-fed.array_long)
+
+pub slice_bounds-follow_frame-end : goal.slice_bounds-follow_frame-end
+slice_bounds-follow_frame-end c =
+    sym (length-take-le _ c.feed-fed.new.octets (omega (arith, (takes _ _ c.args.at _ c.requires c.feed-fed.ensures.0).2, c.feed-fed.array_long)))
 
 pub returns : goal.returns
 returns c =

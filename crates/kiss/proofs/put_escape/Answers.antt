@@ -4,8 +4,8 @@ use Rattle.octets.proofs.Splice.{splice_one, splice-cons}
 use Rattle.escapes.specs.Escape.{fesc}
 use Rattle.kiss.proofs.put_escape.Goals as goal
 
-pub returns-clause-out_after : goal.returns-clause-out_after
-returns-clause-out_after c =
+pub returns : goal.returns
+returns c =
     let l = c.args.out.now in
     let at = c.args.at in
     sym (splice_one (set l at fesc) (at + 1) c.args.second (rw length-set (omega arith)))
