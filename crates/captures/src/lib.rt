@@ -8,9 +8,10 @@ ghost use Rattle.decode.specs.Read.{decode};
 ghost use Rattle.reason.specs.Reason.{is_none};
 ghost use Rattle.captures.specs.Capture.{kind_of, part_of, is_inside, answered, outside, filled, filled_all};
 
+use answer::Numbered;
 use content::FrameContent;
 use control::Mode;
-use decode::{DecodeAnswer, Outline};
+use decode::{DecodeError, Outline};
 use frame::Ax25Frame;
 use reason::Reason;
 
@@ -62,12 +63,11 @@ fn default_kind() -> u16
 }
 
 // The kind of the frame that an outline tells of, where it is refused the default one.
-fn kind_by(mode: Mode, part: &[u8], outline: Outline) -> u16
+fn kind_by(mode: Mode, part: &[u8], outline: Result<Outline, DecodeError>) -> u16
     requires { outline ≡ outline_of mode part.now }
     ensures { result ≡ kind_of (decode mode part.now).frame.content }
 {
-    let answer = outline.answer;
-    let DecodeAnswer::Accepted = answer else {
+    let Ok(outline) = outline else {
         return default_kind();
     };
     let control = outline.end + 1;
@@ -91,15 +91,12 @@ fn answered(mode: Mode, input: &[u8], capture: CaptureRecord) -> CaptureRecord
     let end = start + capture.length;
     let part = &input[start..end];
     let judged = reason::judge(mode, part);
-    let outline = judged.outline;
-    let answer = outline.answer;
-    let reason = judged.reason;
     CaptureRecord {
         start,
         length: capture.length,
-        number: answer.number(),
-        canonical: one_if_none(reason),
-        kind: kind_by(mode, part, outline),
+        number: judged.outline.number(),
+        canonical: one_if_none(judged.reason),
+        kind: kind_by(mode, part, judged.outline),
     }
 }
 

@@ -14,13 +14,10 @@ use Rattle.parse.specs.Content.{content_of}
 use Rattle.content.specs.declared.FrameContent.{FrameContent}
 use Rattle.control.specs.declared.Mode.{Mode}
 use Rattle.parse.specs.declared.ContentError.{ContentError}
-use Rattle.decode.specs.Answer.{is_accepted}
-use Rattle.decode.specs.Read.{nonzero, start_of, end_of, repeaters_of, frame_at, refused_with, accepted_with, with_content, decode_field, decode}
-use Rattle.decode.specs.declared.Decoded.{Decoded}
-use Rattle.decode.specs.declared.DecodeAnswer.{DecodeAnswer}
-use Rattle.decode.proofs.Read.{error_refused}
+use Rattle.decode.specs.Answer.{DecodeAnswer, is_accepted}
+use Rattle.decode.specs.Read.{Decoding, nonzero, start_of, end_of, repeaters_of, frame_at, refused_with, accepted_with, with_content, decode_field, decode}
 
-pub record Accepts (m : Mode) (s : List ℕ) (d : Decoded) : Type 0 where
+pub record Accepts (m : Mode) (s : List ℕ) (d : Decoding) : Type 0 where
   pub count : ℕ
   pub kind : FrameContent
   pub first : nonzero (get_or s 0 0) ≡ true
@@ -32,14 +29,14 @@ pub record Accepts (m : Mode) (s : List ℕ) (d : Decoded) : Type 0 where
   pub made : d ≡ accepted_with m (frame_at s 0 count kind) (end_of s + 1) (length s)
 
 module _ (m : Mode) (s : List ℕ) where
-  unfoldable If : Decoded → Type 0
+  unfoldable If : Decoding → Type 0
   If d = is_accepted d.answer ≡ true → Accepts m s d
 
   refuse : (a : DecodeAnswer) → is_accepted a ≡ false → If (refused_with a)
   unfolding If refused_with
   refuse a h e = absurd (false≢true (sym h ∙ e))
 
-  unless : (b : Bool) (a : DecodeAnswer) (d : Decoded) → is_accepted a ≡ false → (b ≡ false → If d) → If (cond b (refused_with a) d)
+  unless : (b : Bool) (a : DecodeAnswer) (d : Decoding) → is_accepted a ≡ false → (b ≡ false → If d) → If (cond b (refused_with a) d)
   unless true a d h g = refuse a h
   unless false a d h g = g refl
 
@@ -48,7 +45,7 @@ module _ (m : Mode) (s : List ℕ) where
   unfolding with_content If
   by-content n st ei lo co fe (Ok k) e =
       λ _. record { count = n; kind = k; first = rw st at (first_passes nonzero s 0 (rw st (omega arith))); end_in = ei; long = lo; counted = co; few = fe; read = e; made = refl }
-  by-content n st ei lo co fe (Err x) e = refuse _ (error_refused x)
+  by-content n st ei lo co fe (Err x) e = refuse _ refl
 
   by_tests : If (decode m s)
   unfolding decode decode_field

@@ -1,7 +1,7 @@
 -- Laws of reading that the functions' proofs share: a route with one repeater more, what the first octet says of the start, the start
 -- no later than the end, a refused content.
 use Prim.Native.Nat.{ℕ, zero, suc, ◌+◌, ◌*◌, ◌%◌, ◌/◌, ◌≤◌, ◌<◌}
-use mathlib.Core.Path.{◌≡◌, refl, ap, ◌∙◌}
+use mathlib.Core.Path.{◌≡◌, refl, ap, sym, ◌∙◌}
 use mathlib.Core.Bool.{true, false, false≢true, not}
 use Rattle.std.specs.Prelude.{Result, Ok, Err}
 use mathlib.Core.List.{List, [], ◌∷◌}
@@ -17,12 +17,12 @@ use Rattle.octets.proofs.Bits.{bit_test}
 use Rattle.octets.proofs.First.{first_is, first_beyond, first_sooner, first-same}
 use Rattle.content.specs.declared.FrameContent.{FrameContent}
 use Rattle.parse.specs.declared.ContentError.{ContentError}
-use Rattle.parse.specs.declared.ContentError.TheVariants as content
-use Rattle.decode.specs.Answer.{number_of, is_accepted}
-use Rattle.decode.specs.declared.DecodeAnswer.{DecodeAnswer}
-use Rattle.decode.specs.declared.DecodeAnswer.TheVariants as answer
+use Rattle.octets.specs.Outcome.{number_by}
+use Rattle.decode.specs.Answer.{DecodeAnswer, error_number, number_of, is_accepted, answer_with}
+use Rattle.decode.specs.declared.DecodeError.{DecodeError}
+use Rattle.decode.specs.declared.DecodeError.TheVariants as error
 use Rattle.search.specs.Search.{masked}
-use Rattle.decode.specs.Read.{nonzero, start_of, end_of, entry_at, place_at, route_at, error_of, refusal_of}
+use Rattle.decode.specs.Read.{nonzero, start_of, end_of, entry_at, place_at, route_at, refusal_of}
 
 -- a route of one repeater more
 pub route_next : (s : List ℕ) (at i : ℕ) → i < 8 → set (route_at s at i) i (entry_at s (at + 7 * i)) ≡ route_at s at (i + 1)
@@ -62,46 +62,51 @@ start-masked s o = first-same (masked 0xFF) nonzero s 0 (λ k h. rw (and_mask (g
 pub end-masked : (s : List ℕ) → first (masked 0x01) s ≡ end_of s
 end-masked s = first-same (masked 0x01) (bit 0) s 0 (λ k h. bit_test (get_or s k 0) 0)
 
--- what a match on the answer tells where it is not the first case
-pub told-refused : (a : DecodeAnswer) → (a ≡ answer.Accepted → ⊥) → is_accepted a ≡ false
-told-refused answer.Accepted h = absurd (h refl)
-told-refused answer.OnlyNullBytes h = refl
-told-refused answer.NoEndToAddressField h = refl
-told-refused (answer.AddressFieldTooShort start end) h = refl
-told-refused (answer.FrameTooShort len) h = refl
-told-refused answer.MissingPidField h = refl
-told-refused answer.UnrecognisedUFieldType h = refl
-told-refused answer.WrongSizeFrmrInfo h = refl
-told-refused answer.TooManyRepeaters h = refl
-told-refused answer.LeadingNullBytes h = refl
-told-refused answer.FrameRejectInLongMode h = refl
-told-refused answer.MissingControlOctet h = refl
+-- what an answer with a value tells of the answer
+pub told_ok : {T : Type 0} (a : DecodeAnswer) (x y : T) → answer_with a x ≡ Ok y → (a ≡ Ok tt) × (x ≡ y)
+told_ok (Ok u) x y e = (refl, cc e)
+told_ok (Err r) x y e = absurd (cc e)
 
--- a refusal of the content is one
-pub error_refused : (x : ContentError) → is_accepted (error_of x) ≡ false
-error_refused content.ContentZeroLength = refl
-error_refused content.MissingPidField = refl
-error_refused content.UnrecognisedUFieldType = refl
-error_refused content.WrongSizeFrmrInfo = refl
-error_refused content.FrameRejectInLongMode = refl
-error_refused content.MissingControlOctet = refl
+pub told_err : {T : Type 0} (a : DecodeAnswer) (x : T) (r : DecodeError) → answer_with a x ≡ Err r → a ≡ Err r
+told_err (Ok u) x r e = absurd (cc e)
+told_err (Err q) x r e = ap (λ (q : DecodeError). Err q) (cc e)
+
+-- and that it is accepted, or refused
+pub accepted_ok : {T : Type 0} (a : DecodeAnswer) (x y : T) → answer_with a x ≡ Ok y → is_accepted a ≡ true
+accepted_ok a x y e = rw (told_ok a x y e).0 refl
+
+pub refused_err : {T : Type 0} (a : DecodeAnswer) (x : T) (r : DecodeError) → answer_with a x ≡ Err r → is_accepted a ≡ false
+refused_err a x r e = rw (told_err a x r e) refl
+
+pub answer_accepted : (a : DecodeAnswer) → is_accepted a ≡ true → a ≡ Ok tt
+answer_accepted (Ok u) e = refl
+answer_accepted (Err r) e = absurd (false≢true e)
+
+pub answer_refused : (a : DecodeAnswer) → is_accepted a ≡ false → (r : DecodeError) × (a ≡ Err r)
+answer_refused (Ok u) e = absurd (false≢true (sym e))
+answer_refused (Err r) e = (r, refl)
+
+-- the number of an answer with a value
+pub number_with : {T : Type 0} (a : DecodeAnswer) (x : T) → number_by error_number (answer_with a x) ≡ number_of a
+number_with (Ok u) x = refl
+number_with (Err r) x = refl
 
 -- what a match on the content's answer tells
 pub told-content : (a : Result FrameContent ContentError) → ((k : FrameContent) → a ≡ Ok k → ⊥) → is_accepted (refusal_of a) ≡ false
 told-content (Ok k) h = absurd (h k refl)
-told-content (Err x) h = error_refused x
+told-content (Err x) h = refl
 
 -- a decode is accepted where its number is 0
 pub zero-accepted : (a : DecodeAnswer) → eqb (number_of a) 0 ≡ is_accepted a
-zero-accepted answer.Accepted = refl
-zero-accepted answer.OnlyNullBytes = refl
-zero-accepted answer.NoEndToAddressField = refl
-zero-accepted (answer.AddressFieldTooShort start end) = refl
-zero-accepted (answer.FrameTooShort len) = refl
-zero-accepted answer.MissingPidField = refl
-zero-accepted answer.UnrecognisedUFieldType = refl
-zero-accepted answer.WrongSizeFrmrInfo = refl
-zero-accepted answer.TooManyRepeaters = refl
-zero-accepted answer.LeadingNullBytes = refl
-zero-accepted answer.FrameRejectInLongMode = refl
-zero-accepted answer.MissingControlOctet = refl
+zero-accepted (Ok u) = refl
+zero-accepted (Err error.OnlyNullBytes) = refl
+zero-accepted (Err error.NoEndToAddressField) = refl
+zero-accepted (Err (error.AddressFieldTooShort start end)) = refl
+zero-accepted (Err (error.FrameTooShort len)) = refl
+zero-accepted (Err error.MissingPidField) = refl
+zero-accepted (Err error.UnrecognisedUFieldType) = refl
+zero-accepted (Err error.WrongSizeFrmrInfo) = refl
+zero-accepted (Err error.TooManyRepeaters) = refl
+zero-accepted (Err error.LeadingNullBytes) = refl
+zero-accepted (Err error.FrameRejectInLongMode) = refl
+zero-accepted (Err error.MissingControlOctet) = refl

@@ -11,12 +11,10 @@ use Rattle.control.specs.declared.Mode.{Mode}
 use Rattle.parse.specs.Content.{content_of}
 use Rattle.content.specs.declared.FrameContent.{FrameContent}
 use Rattle.parse.specs.declared.ContentError.{ContentError}
-use Rattle.decode.specs.Answer.{is_accepted}
-use Rattle.decode.specs.Read.{start_of, end_of, repeaters_of, refused_with, accepted_with, with_content, decode_field, decode}
-use Rattle.decode.specs.declared.Decoded.{Decoded}
-use Rattle.decode.specs.declared.DecodeAnswer.{DecodeAnswer}
+use Rattle.decode.specs.Answer.{DecodeAnswer, is_accepted}
+use Rattle.decode.specs.Read.{Decoding, start_of, end_of, repeaters_of, refused_with, accepted_with, with_content, decode_field, decode}
 
-abbrev Bare : Decoded → Type 0
+abbrev Bare : Decoding → Type 0
 Bare d = is_accepted d.answer ≡ false → d ≡ refused_with d.answer
 
 bare : (a : DecodeAnswer) → Bare (refused_with a)

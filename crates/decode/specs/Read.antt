@@ -16,8 +16,9 @@ use Rattle.frame.specs.declared.Mark.{Mark}
 use Rattle.frame.specs.declared.Mark.TheVariants.{Command, Response, Absent}
 use Rattle.frame.specs.declared.RouteEntry.{RouteEntry}
 use Rattle.frame.specs.declared.Ax25Frame.{Ax25Frame}
-use Rattle.decode.specs.declared.DecodeAnswer.{DecodeAnswer}
-use Rattle.decode.specs.declared.DecodeAnswer.TheVariants as answer
+use Rattle.decode.specs.Answer.{DecodeAnswer, answer_with}
+use Rattle.decode.specs.declared.DecodeError.{DecodeError}
+use Rattle.decode.specs.declared.DecodeError.TheVariants as error
 use Rattle.decode.specs.declared.Decoded.{Decoded}
 
 abbrev pub nonzero : ℕ → Bool
@@ -67,60 +68,75 @@ frame_at s start n k = record {
   content = k;
 }
 
+-- what decoding says of an input: the answer, and the frame and the place of its info, which a refusal has too
+pub record Decoding : Type 0 where
+  pub answer : DecodeAnswer
+  pub frame : Ax25Frame
+  pub info_start : ℕ
+  pub info_len : ℕ
+
+-- what stands for a refused input: the default frame, and no info
+abbrev pub nothing : Decoded
+nothing = record { frame = default_frame; info_start = 0; info_len = 0 }
+
+-- as the code has it: the frame and the place of its info, or why there is none
+abbrev pub outcome : Decoding → Result Decoded DecodeError
+outcome d = answer_with d.answer (record { frame = d.frame; info_start = d.info_start; info_len = d.info_len })
+
 -- a refusal: the default frame, and no info
-unfoldable pub refused_with : DecodeAnswer → Decoded
+unfoldable pub refused_with : DecodeAnswer → Decoding
 refused_with a = record { answer = a; frame = default_frame; info_start = 0; info_len = 0 }
 
 -- a frame whose control octet is at `control`: info, of any length (docs/DIFFERENCES.md, A14), follows control field and PID in I and UI,
 -- and the control octet in XID and TEST
-unfoldable pub accepted_with : Mode → Ax25Frame → ℕ → ℕ → Decoded
+unfoldable pub accepted_with : Mode → Ax25Frame → ℕ → ℕ → Decoding
 accepted_with m f control len = record {
-  answer = answer.Accepted;
+  answer = Ok tt;
   frame = f;
   info_start = cond (has_info f.content) (control + length (front m f.content)) 0;
   info_len = cond (has_info f.content) (len - (control + length (front m f.content))) 0;
 }
 
 -- what the content's refusal is to the frame
-abbrev pub error_of : ContentError → DecodeAnswer
-error_of content.ContentZeroLength = answer.FrameTooShort 0
-error_of content.MissingPidField = answer.MissingPidField
-error_of content.UnrecognisedUFieldType = answer.UnrecognisedUFieldType
-error_of content.WrongSizeFrmrInfo = answer.WrongSizeFrmrInfo
-error_of content.FrameRejectInLongMode = answer.FrameRejectInLongMode
-error_of content.MissingControlOctet = answer.MissingControlOctet
+abbrev pub error_of : ContentError → DecodeError
+error_of content.ContentZeroLength = error.FrameTooShort 0
+error_of content.MissingPidField = error.MissingPidField
+error_of content.UnrecognisedUFieldType = error.UnrecognisedUFieldType
+error_of content.WrongSizeFrmrInfo = error.WrongSizeFrmrInfo
+error_of content.FrameRejectInLongMode = error.FrameRejectInLongMode
+error_of content.MissingControlOctet = error.MissingControlOctet
 
 -- and its answer
 abbrev pub refusal_of : Result FrameContent ContentError → DecodeAnswer
-refusal_of (Ok k) = answer.Accepted
-refusal_of (Err e) = error_of e
+refusal_of (Ok k) = Ok tt
+refusal_of (Err e) = Err (error_of e)
 
 -- rule 5: with the content's answer in hand
-unfoldable pub with_content : Mode → List ℕ → ℕ → ℕ → ℕ → Result FrameContent ContentError → Decoded
+unfoldable pub with_content : Mode → List ℕ → ℕ → ℕ → ℕ → Result FrameContent ContentError → Decoding
 with_content m s start n control (Ok k) = accepted_with m (frame_at s start n k) control (length s)
-with_content m s start n control (Err e) = refused_with (error_of e)
+with_content m s start n control (Err e) = refused_with (Err (error_of e))
 
 -- the number of repeaters of an address field from `start` to `end`
 abbrev pub repeaters_of : ℕ → ℕ → ℕ
 repeaters_of start end = (end + 1 - start - 14) / 7
 
 -- an address field from `start` to `end`: 3, 4, 9, then the content's number
-unfoldable pub decode_field : Mode → List ℕ → ℕ → ℕ → Decoded
+unfoldable pub decode_field : Mode → List ℕ → ℕ → ℕ → Decoding
 decode_field m s start end =
-    cond (ltb (end + 1 - start) 14) (refused_with (answer.AddressFieldTooShort start end))
-    (cond (eqb (end + 1) (length s)) (refused_with (answer.FrameTooShort (length s)))
-    (cond (ltb 8 (repeaters_of start end)) (refused_with answer.TooManyRepeaters)
+    cond (ltb (end + 1 - start) 14) (refused_with (Err (error.AddressFieldTooShort start end)))
+    (cond (eqb (end + 1) (length s)) (refused_with (Err (error.FrameTooShort (length s))))
+    (cond (ltb 8 (repeaters_of start end)) (refused_with (Err error.TooManyRepeaters))
     (with_content m s start (repeaters_of start end) (end + 1) (content_of m (drop (end + 1) s)))))
 
 -- the whole: 1; 10 where nulls stand before the start (docs/DIFFERENCES.md, B8), so that every address field starts at 0; 2; then the
 -- address field's
-unfoldable pub decode : Mode → List ℕ → Decoded
+unfoldable pub decode : Mode → List ℕ → Decoding
 decode m s =
-    cond (eqb (start_of s) (length s)) (refused_with answer.OnlyNullBytes)
-    (cond (ltb 0 (start_of s)) (refused_with answer.LeadingNullBytes)
-    (cond (eqb (end_of s) (length s)) (refused_with answer.NoEndToAddressField)
+    cond (eqb (start_of s) (length s)) (refused_with (Err error.OnlyNullBytes))
+    (cond (ltb 0 (start_of s)) (refused_with (Err error.LeadingNullBytes))
+    (cond (eqb (end_of s) (length s)) (refused_with (Err error.NoEndToAddressField))
     (decode_field m s 0 (end_of s))))
 
 -- the info octets that a decode of s reports
-abbrev pub info_in : List ℕ → Decoded → List ℕ
+abbrev pub info_in : List ℕ → Decoding → List ℕ
 info_in s d = take d.info_len (drop d.info_start s)

@@ -1,20 +1,20 @@
-// What reading a frame gives, and its outline: the answer, told from the octets before anything is taken apart. The crate `reading`
-// goes on from there.
+// What reading a frame gives, and its outline: what is known from the octets before anything is taken apart. The crate `reading` goes on
+// from there.
 #![tactic(auto)]
 
-ghost use Rattle.std.specs.Prelude.{◌≡◌, ◌≤◌, ◌<◌, length, get_or, drop};
-ghost use Rattle.parse.specs.Content.{content_of};
-ghost use Rattle.decode.specs.Answer.{report_of};
-ghost use Rattle.decode.specs.Outline.{null_answer, refused_outline, outline_by, outline_of};
-ghost use Rattle.decode.specs.Read.{nonzero, error_of, refusal_of, decode_field};
+ghost use Rattle.std.specs.Prelude.{◌≡◌, ◌≤◌, ◌<◌, length, get_or};
+ghost use Rattle.decode.specs.Answer.{error_number};
+ghost use Rattle.decode.specs.Outline.{null_error, outline_by, outline_of};
+ghost use Rattle.decode.specs.Read.{nonzero, error_of, decode_field};
 
+use answer::Numbered;
 use control::Mode;
 use frame::Ax25Frame;
 use parse::ContentError;
 
-#[derive(Clone, Copy)]
-pub enum DecodeAnswer {
-    Accepted,
+// Why an input is refused.
+#[derive(Clone, Copy, Debug, PartialEq, Eq)]
+pub enum DecodeError {
     OnlyNullBytes,
     NoEndToAddressField,
     AddressFieldTooShort { start: usize, end: usize },
@@ -28,139 +28,121 @@ pub enum DecodeAnswer {
     MissingControlOctet,
 }
 
-// What reading gives. The info is `info_len` octets of the input from `info_start` on.
+// What reading gives of an input that is not refused. The info is `info_len` octets of the input from `info_start` on.
 #[derive(Clone, Copy)]
 pub struct Decoded {
-    pub answer: DecodeAnswer,
     pub frame: Ax25Frame,
     pub info_start: usize,
     pub info_len: usize,
 }
 
-// What is known before anything is taken apart: the answer, and where the address field, which starts with the first octet, ends. The
-// decode number and the canonical check ask for no more. Of a refused input both numbers are 0.
+// What stands for a refused input: the default frame, and no info.
+impl Default for Decoded {
+    ghost use Rattle.decode.specs.Read.{nothing};
+
+    ghost is_default = { λ decoded. decoded ≡ nothing };
+
+    fn default() -> Decoded {
+        Decoded {
+            frame: Ax25Frame::default(),
+            info_start: 0,
+            info_len: 0,
+        }
+    }
+}
+
+// What is known before anything is taken apart: where the address field, which starts with the first octet, ends, and how many repeaters
+// it has. The decode number and the canonical check ask for no more.
 #[derive(Clone, Copy)]
 pub struct Outline {
-    pub answer: DecodeAnswer,
     pub end: usize,
     pub route_count: usize,
 }
 
-impl DecodeAnswer {
-    pub fn number(self) -> u32
-        ensures { result ≡ (report_of self).number }
-    {
+impl Numbered for DecodeError {
+    ghost number_of = { error_number };
+
+    fn number(self) -> u32 {
         match self {
-            DecodeAnswer::Accepted => 0,
-            DecodeAnswer::OnlyNullBytes => 1,
-            DecodeAnswer::NoEndToAddressField => 2,
-            DecodeAnswer::AddressFieldTooShort { start: _, end: _ } => 3,
-            DecodeAnswer::FrameTooShort { len: _ } => 4,
-            DecodeAnswer::MissingPidField => 5,
-            DecodeAnswer::UnrecognisedUFieldType => 7,
-            DecodeAnswer::WrongSizeFrmrInfo => 8,
-            DecodeAnswer::TooManyRepeaters => 9,
-            DecodeAnswer::LeadingNullBytes => 10,
-            DecodeAnswer::FrameRejectInLongMode => 11,
-            DecodeAnswer::MissingControlOctet => 12,
+            DecodeError::OnlyNullBytes => 1,
+            DecodeError::NoEndToAddressField => 2,
+            DecodeError::AddressFieldTooShort { .. } => 3,
+            DecodeError::FrameTooShort { .. } => 4,
+            DecodeError::MissingPidField => 5,
+            DecodeError::UnrecognisedUFieldType => 7,
+            DecodeError::WrongSizeFrmrInfo => 8,
+            DecodeError::TooManyRepeaters => 9,
+            DecodeError::LeadingNullBytes => 10,
+            DecodeError::FrameRejectInLongMode => 11,
+            DecodeError::MissingControlOctet => 12,
         }
     }
 }
 
 // What the content's refusal is to the frame.
-pub fn refusal(error: ContentError) -> DecodeAnswer
-    ensures { result ≡ error_of error }
-{
-    match error {
-        ContentError::ContentZeroLength => DecodeAnswer::FrameTooShort { len: 0 },
-        ContentError::MissingPidField => DecodeAnswer::MissingPidField,
-        ContentError::UnrecognisedUFieldType => DecodeAnswer::UnrecognisedUFieldType,
-        ContentError::WrongSizeFrmrInfo => DecodeAnswer::WrongSizeFrmrInfo,
-        ContentError::FrameRejectInLongMode => DecodeAnswer::FrameRejectInLongMode,
-        ContentError::MissingControlOctet => DecodeAnswer::MissingControlOctet,
-    }
-}
+impl From<ContentError> for DecodeError {
+    ghost from_gives = { λ error gives. gives ≡ error_of error };
 
-// The answer for the content from the control octet on.
-fn content_answer(mode: Mode, bytes: &[u8], control: usize) -> DecodeAnswer
-    requires { control ≤ length bytes.now }
-    ensures { result ≡ refusal_of (content_of mode (drop control bytes.now)) }
-{
-    match parse::judge(mode, &bytes[control..]) {
-        Ok(()) => DecodeAnswer::Accepted,
-        Err(error) => refusal(error),
-    }
-}
-
-fn refused_outline(answer: DecodeAnswer) -> Outline
-    ensures { result ≡ refused_outline answer }
-{
-    let nothing = Ax25Frame::default();
-    Outline {
-        answer,
-        end: 0,
-        route_count: nothing.route_count,
+    fn from(error: ContentError) -> DecodeError {
+        match error {
+            ContentError::ContentZeroLength => DecodeError::FrameTooShort { len: 0 },
+            ContentError::MissingPidField => DecodeError::MissingPidField,
+            ContentError::UnrecognisedUFieldType => DecodeError::UnrecognisedUFieldType,
+            ContentError::WrongSizeFrmrInfo => DecodeError::WrongSizeFrmrInfo,
+            ContentError::FrameRejectInLongMode => DecodeError::FrameRejectInLongMode,
+            ContentError::MissingControlOctet => DecodeError::MissingControlOctet,
+        }
     }
 }
 
 // The address field, from the first octet to the end, and what follows.
-fn outline_field(mode: Mode, bytes: &[u8], end: usize) -> Outline
+fn outline_field(mode: Mode, bytes: &[u8], end: usize) -> Result<Outline, DecodeError>
     requires { end < length bytes.now }
     ensures { result ≡ outline_by end (decode_field mode bytes.now 0 end) }
 {
     let control = end + 1;
     if control < 14 {
-        return refused_outline(DecodeAnswer::AddressFieldTooShort { start: 0, end });
+        return Err(DecodeError::AddressFieldTooShort { start: 0, end });
     }
     if control == bytes.len() {
-        return refused_outline(DecodeAnswer::FrameTooShort { len: bytes.len() });
+        return Err(DecodeError::FrameTooShort { len: bytes.len() });
     }
-    let count = (control - 14) / 7;
-    if 8 < count {
-        return refused_outline(DecodeAnswer::TooManyRepeaters);
+    let route_count = (control - 14) / 7;
+    if 8 < route_count {
+        return Err(DecodeError::TooManyRepeaters);
     }
-    let answer = content_answer(mode, bytes, control);
-    let DecodeAnswer::Accepted = answer else {
-        return refused_outline(answer);
-    };
-    Outline {
-        answer,
-        end,
-        route_count: count,
-    }
+    parse::judge(mode, &bytes[control..])?;
+    Ok(Outline { end, route_count })
 }
 
 // Whether there is a first octet, and it is not null.
 fn starts(bytes: &[u8]) -> bool
     ensures { result ≡ nonzero (get_or bytes.now 0 0) }
 {
-    if bytes.len() == 0 {
-        return false;
-    }
-    bytes[0] != 0
+    bytes.first().copied().unwrap_or(0) != 0
 }
 
-// The answer where the first octet is not there or null: 1 where all are null, else 10.
-fn null_answer(bytes: &[u8]) -> DecodeAnswer
-    ensures { result ≡ null_answer bytes.now }
+// The refusal where the first octet is not there or null: 1 where all are null, else 10.
+fn null_error(bytes: &[u8]) -> DecodeError
+    ensures { result ≡ null_error bytes.now }
 {
     let nulls = search::find(bytes, 0xFF);
     if nulls == bytes.len() {
-        return DecodeAnswer::OnlyNullBytes;
+        return DecodeError::OnlyNullBytes;
     }
-    DecodeAnswer::LeadingNullBytes
+    DecodeError::LeadingNullBytes
 }
 
 // All that is known before anything is taken apart. Octets that do not start with a null are searched for the end alone.
-pub fn outline_of(mode: Mode, bytes: &[u8]) -> Outline
+pub fn outline_of(mode: Mode, bytes: &[u8]) -> Result<Outline, DecodeError>
     ensures { result ≡ outline_of mode bytes.now }
 {
     if !starts(bytes) {
-        return refused_outline(null_answer(bytes));
+        return Err(null_error(bytes));
     }
     let end = search::find(bytes, 0x01);
     if end == bytes.len() {
-        return refused_outline(DecodeAnswer::NoEndToAddressField);
+        return Err(DecodeError::NoEndToAddressField);
     }
     outline_field(mode, bytes, end)
 }

@@ -2,7 +2,7 @@
 #![tactic(auto)]
 
 ghost use Rattle.std.specs.Prelude.{◌≡◌, true, ◌↔◌};
-ghost use Rattle.decode.specs.Read.{decode, info_in};
+ghost use Rattle.decode.specs.Read.{decode, outcome, info_in};
 ghost use Rattle.hops.specs.Hops.{due_place};
 ghost use Rattle.relay.specs.Relay.{report_of, relay_answer, relayed};
 ghost use Rattle.spelling.specs.Canonical.{canonical};
@@ -12,13 +12,13 @@ ghost use Rattle.demands.specs.Relay.{relay_table, frame_marked, Relayed, Again}
 
 use address::Address;
 use control::Mode;
-use decode::Decoded;
+use decode::{DecodeError, Decoded};
 use frame::Ax25Frame;
-use relay::RelayAnswer;
+use relay::RelayError;
 
 // The number is that of the first row of the table that holds; a refusal leaves the frame as it was; what is relayed has our mark,
 // and all else is as it was received.
-pub fn relayed(own: Address, frame: &mut [u8]) -> RelayAnswer
+pub fn relayed(own: Address, frame: &mut [u8]) -> Result<(), RelayError>
     ensures first_row { FirstRow (relay_table own frame.old) (report_of result).number }
     ensures frame_unchanged { ((report_of result).number ≡ 0 → ⊥) → frame.new ≡ frame.old }
     ensures relayed { (report_of result).number ≡ 0 → Relayed frame.old frame.new }
@@ -30,16 +30,16 @@ pub fn relayed(own: Address, frame: &mut [u8]) -> RelayAnswer
 
 // A further decode: of a relayed frame the same answer, the same frame with that one mark set, and the same info octets; where the
 // relay was refused, what it was before.
-pub fn read_again(own: Address, frame: &mut [u8]) -> Decoded
+pub fn read_again(own: Address, frame: &mut [u8]) -> Result<Decoded, DecodeError>
     ensures answer_value { (report_of (relay_answer own frame.old)).number ≡ 0
-        → (result.answer ≡ (decode Mode.Short frame.old).answer)
-        × (result.frame ≡ frame_marked (decode Mode.Short frame.old).frame (due_place (decode Mode.Short frame.old).frame))
-        × (info_in frame.new result ≡ info_in frame.old (decode Mode.Short frame.old)) }
-    ensures value { ((report_of (relay_answer own frame.old)).number ≡ 0 → ⊥) → result ≡ decode Mode.Short frame.old }
-    ensures value_2 { result ≡ decode Mode.Short frame.new }
+        → ((decode Mode.Short frame.new).answer ≡ (decode Mode.Short frame.old).answer)
+        × ((decode Mode.Short frame.new).frame ≡ frame_marked (decode Mode.Short frame.old).frame (due_place (decode Mode.Short frame.old).frame))
+        × (info_in frame.new (decode Mode.Short frame.new) ≡ info_in frame.old (decode Mode.Short frame.old)) }
+    ensures value { ((report_of (relay_answer own frame.old)).number ≡ 0 → ⊥) → result ≡ outcome (decode Mode.Short frame.old) }
+    ensures value_2 { result ≡ outcome (decode Mode.Short frame.new) }
     ensures frame_after { frame.new ≡ relayed own frame.old }
 {
-    relay::relay(own, frame);
+    let _ = relay::relay(own, frame);
     reading::from_bytes(Mode::Short, frame)
 }
 
@@ -48,18 +48,18 @@ pub fn canonical_again(own: Address, frame: &mut [u8]) -> bool
     ensures value { result ≡ canonical Mode.Short frame.old }
     ensures frame_after { frame.new ≡ relayed own frame.old }
 {
-    relay::relay(own, frame);
+    let _ = relay::relay(own, frame);
     spelling::is_canonical(Mode::Short, frame)
 }
 
 // A second relay by the same station.
-pub fn relayed_twice(own: Address, frame: &mut [u8]) -> RelayAnswer
+pub fn relayed_twice(own: Address, frame: &mut [u8]) -> Result<(), RelayError>
     ensures again { (report_of (relay_answer own frame.old)).number ≡ 0
         → Again own (decode Mode.Short frame.old).frame (report_of result).number }
     ensures value { result ≡ relay_answer own (relayed own frame.old) }
     ensures frame_after { frame.new ≡ relayed own (relayed own frame.old) }
 {
-    relay::relay(own, frame);
+    let _ = relay::relay(own, frame);
     relay::relay(own, frame)
 }
 

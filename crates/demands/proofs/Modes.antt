@@ -19,12 +19,11 @@ use Rattle.parse.specs.Content.{i_of, s_kind_of, s_of, ui_of, response_of, frmr_
 use Rattle.parse.specs.Numbers.{is_i, is_s, is_ui, is_frmr, lacks_control, lacks_pid, strange_u, frmr_in_long, wrong_frmr}
 use Rattle.frame.specs.Frame.{no_entry, no_route, simple_ui, default_frame}
 use Rattle.frame.specs.Spell.{groups_of, address_field, spell}
-use Rattle.decode.specs.Answer.{number_of, is_accepted}
+use Rattle.decode.specs.Answer.{number_of, is_accepted, DecodeAnswer}
 use Rattle.decode.specs.Numbers.{no_start, leading_null, no_end, short_field, no_content, many_repeaters}
-use Rattle.decode.specs.Read.{end_of, parsed_at, entry_at, place_at, route_at, frame_at, refused_with, accepted_with, with_content, decode_field, decode}
-use Rattle.decode.specs.declared.Decoded.{Decoded}
-use Rattle.decode.specs.declared.DecodeAnswer.{DecodeAnswer}
-use Rattle.decode.specs.declared.DecodeAnswer.TheVariants as read
+use Rattle.decode.specs.Read.{end_of, parsed_at, entry_at, place_at, route_at, frame_at, refused_with, accepted_with, with_content, decode_field, decode, Decoding}
+use Rattle.decode.specs.declared.DecodeError.TheVariants as error
+use Rattle.std.specs.Prelude.{Ok, Err}
 use Rattle.decode.proofs.Accepts.{accepts}
 use Rattle.decode.proofs.Read.{zero-accepted}
 use Rattle.grammar.proofs.Numbers.{decode-rows}
@@ -47,18 +46,18 @@ both-cases Long = refl
 
 -- no answer has the number 6
 six_free : (a : DecodeAnswer) → number_of a ≡ 6 → ⊥
-six_free read.Accepted e = omega (arith, e)
-six_free read.OnlyNullBytes e = omega (arith, e)
-six_free read.NoEndToAddressField e = omega (arith, e)
-six_free (read.AddressFieldTooShort start end) e = omega (arith, e)
-six_free (read.FrameTooShort len) e = omega (arith, e)
-six_free read.MissingPidField e = omega (arith, e)
-six_free read.UnrecognisedUFieldType e = omega (arith, e)
-six_free read.WrongSizeFrmrInfo e = omega (arith, e)
-six_free read.TooManyRepeaters e = omega (arith, e)
-six_free read.LeadingNullBytes e = omega (arith, e)
-six_free read.FrameRejectInLongMode e = omega (arith, e)
-six_free read.MissingControlOctet e = omega (arith, e)
+six_free (Ok u) e = omega (arith, e)
+six_free (Err error.OnlyNullBytes) e = omega (arith, e)
+six_free (Err error.NoEndToAddressField) e = omega (arith, e)
+six_free (Err (error.AddressFieldTooShort start end)) e = omega (arith, e)
+six_free (Err (error.FrameTooShort len)) e = omega (arith, e)
+six_free (Err error.MissingPidField) e = omega (arith, e)
+six_free (Err error.UnrecognisedUFieldType) e = omega (arith, e)
+six_free (Err error.WrongSizeFrmrInfo) e = omega (arith, e)
+six_free (Err error.TooManyRepeaters) e = omega (arith, e)
+six_free (Err error.LeadingNullBytes) e = omega (arith, e)
+six_free (Err error.FrameRejectInLongMode) e = omega (arith, e)
+six_free (Err error.MissingControlOctet) e = omega (arith, e)
 
 pub never_six : (m : Mode) (s : List ℕ) → number_of (decode m s).answer ≡ 6 → ⊥
 never_six m s = six_free (decode m s).answer
@@ -165,10 +164,10 @@ same_stations s e =
     let b = accepts Long s e in
     let n : a.count ≡ b.count = sym a.counted ∙ b.counted in
     record {
-      source = ap (λ (d : Decoded). d.frame.source) a.made ∙ sym (ap (λ (d : Decoded). d.frame.source) b.made);
-      destination = ap (λ (d : Decoded). d.frame.destination) a.made ∙ sym (ap (λ (d : Decoded). d.frame.destination) b.made);
-      route = ap (λ (d : Decoded). d.frame.route) a.made ∙ rw n (sym (ap (λ (d : Decoded). d.frame.route) b.made));
-      count = ap (λ (d : Decoded). d.frame.route_count) a.made ∙ rw n (sym (ap (λ (d : Decoded). d.frame.route_count) b.made));
-      mark = ap (λ (d : Decoded). d.frame.command_or_response) a.made
-          ∙ sym (ap (λ (d : Decoded). d.frame.command_or_response) b.made);
+      source = ap (λ (d : Decoding). d.frame.source) a.made ∙ sym (ap (λ (d : Decoding). d.frame.source) b.made);
+      destination = ap (λ (d : Decoding). d.frame.destination) a.made ∙ sym (ap (λ (d : Decoding). d.frame.destination) b.made);
+      route = ap (λ (d : Decoding). d.frame.route) a.made ∙ rw n (sym (ap (λ (d : Decoding). d.frame.route) b.made));
+      count = ap (λ (d : Decoding). d.frame.route_count) a.made ∙ rw n (sym (ap (λ (d : Decoding). d.frame.route_count) b.made));
+      mark = ap (λ (d : Decoding). d.frame.command_or_response) a.made
+          ∙ sym (ap (λ (d : Decoding). d.frame.command_or_response) b.made);
     }

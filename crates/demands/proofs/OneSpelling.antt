@@ -1,7 +1,7 @@
 -- Demand 3, proved.
 use Prim.Native.Nat.{ℕ, ◌≤◌, ◌<◌}
 use mathlib.Core.Path.{◌≡◌, sym, ◌∙◌}
-use mathlib.Core.Bool.{true, false}
+use mathlib.Core.Bool.{true}
 use mathlib.Core.List.{List}
 use lib.ListN.{length}
 use Rattle.octets.specs.Octet.{Octets}
@@ -12,7 +12,9 @@ use Rattle.decode.specs.Read.{decode, info_in}
 use Rattle.grammar.proofs.Back.{unique}
 use Rattle.spelling.specs.Canonical.{again}
 use Rattle.respelling.specs.Reencode.{reencode, reencoded}
-use Rattle.respelling.specs.declared.ReencodeAnswer.TheVariants.{Written, Refused, NoRoom}
+use Rattle.std.specs.Prelude.{Ok, Err}
+use Rattle.decode.specs.declared.DecodeError.{DecodeError}
+use Rattle.respelling.specs.declared.ReencodeError.TheVariants.{Refused, NoRoom}
 use Rattle.spelling.proofs.Laws.{spell-canonical, canonical-plain, again-content, again_reserved, again_facts}
 use Rattle.respelling.proofs.Laws.{again-room, refused_answer, again-short, again_fits}
 use Rattle.octets.specs.Lent.{starting}
@@ -34,15 +36,15 @@ one_spelling mode s o = record {
 }
 
 -- what the re-encoder answers and leaves in a buffer: of a refused input, with too little room, with enough
-pub respelled-refused : (mode : Mode) (s out : List ℕ) → is_accepted (decode mode s).answer ≡ false
-    → (reencode mode s (length out) ≡ record { answer = Refused (decode mode s).answer; length = 0 }) × (splice out 0 (reencoded mode s (length out)) ≡ out)
-respelled-refused mode s out e = let r = refused_answer mode s (length out) e in (r.0, rw r.1 (splice_none out 0))
+pub respelled-refused : (mode : Mode) (s out : List ℕ) (r : DecodeError) → (decode mode s).answer ≡ Err r
+    → (reencode mode s (length out) ≡ Err (Refused r)) × (splice out 0 (reencoded mode s (length out)) ≡ out)
+respelled-refused mode s out r e = let a = refused_answer mode s (length out) r e in (a.0, rw a.1 (splice_none out 0))
 
 pub respelled-short : (mode : Mode) (s out : List ℕ) → is_accepted (decode mode s).answer ≡ true → length out < length (again mode s)
-    → (reencode mode s (length out) ≡ record { answer = NoRoom; length = 0 }) × (splice out 0 (reencoded mode s (length out)) ≡ out)
+    → (reencode mode s (length out) ≡ Err NoRoom) × (splice out 0 (reencoded mode s (length out)) ≡ out)
 respelled-short mode s out e h = let r = again-short mode s (length out) e h in (r.0, rw r.1 (splice_none out 0))
 
 pub respelled_into : (mode : Mode) (s out : List ℕ) → is_accepted (decode mode s).answer ≡ true → length (again mode s) ≤ length out
-    → (reencode mode s (length out) ≡ record { answer = Written; length = length (again mode s) })
+    → (reencode mode s (length out) ≡ Ok (length (again mode s)))
     × (splice out 0 (reencoded mode s (length out)) ≡ starting (again mode s) out)
 respelled_into mode s out e h = let r = again_fits mode s (length out) e h in (r.0, rw r.1 (splice_start out (again mode s) h))

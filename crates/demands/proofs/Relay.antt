@@ -20,17 +20,17 @@ use Rattle.frame.specs.Spell.{repeater_at, past}
 use Rattle.frame.specs.declared.RouteEntry.{RouteEntry}
 use Rattle.frame.specs.declared.Ax25Frame.{Ax25Frame}
 use Rattle.decode.specs.Answer.{number_of, is_accepted}
-use Rattle.decode.specs.Read.{decode}
-use Rattle.decode.specs.declared.Decoded.{Decoded}
+use Rattle.decode.specs.Read.{decode, Decoding}
 use Rattle.decode.proofs.Read.{zero-accepted}
 use Rattle.grammar.proofs.Numbers.{decode-rows}
 use Rattle.grammar.proofs.Marks.{remarked, route, route-length, place_read, decode-marked, info-marked, direct-marked}
 use Rattle.hops.specs.Hops.{due_place, broken}
 use Rattle.hops.specs.Station.{same_station}
 use Rattle.hops.proofs.Laws.{marked_in, due_within, due_free, due_next}
-use Rattle.relay.specs.Relay.{report_of, used_up, ours, due_answer, relay_answer, due_mark, or_mark, left_by, relayed, station_of, relay_answer_as, relayed_as}
-use Rattle.relay.specs.declared.RelayAnswer.{RelayAnswer}
-use Rattle.relay.specs.declared.RelayAnswer.TheVariants as relay
+use Rattle.octets.specs.Outcome.{number_by}
+use Rattle.relay.specs.Relay.{RelayAnswer, error_number, report_of, used_up, ours, due_answer, relay_answer, due_mark, or_mark, left_by, relayed, station_of, relay_answer_as, relayed_as}
+use Rattle.std.specs.Prelude.{Ok, Err}
+use Rattle.decode.proofs.Read.{answer_refused}
 use Rattle.relay.proofs.Laws.{groups_inside, due_none, due-broken, due-other, due-ours, relay_stranger, relay-refused, relay-accepted, relayed_by, station-encodable, as_station, as-refused, left_as}
 use Rattle.spelling.specs.Canonical.{canonical}
 use Rattle.spelling.proofs.Laws.{canonical_direct}
@@ -43,6 +43,11 @@ use Rattle.control.specs.declared.Mode.TheVariants.{Short}
 -- the number of an answer
 abbrev numbered : RelayAnswer → ℕ
 numbered a = (report_of a).number
+
+-- which is the number that the code gives of it
+pub numbered_is : (a : RelayAnswer) → number_by error_number a ≡ numbered a
+numbered_is (Ok u) = refl
+numbered_is (Err e) = refl
 
 -- one table after another whose numbers are not 0: the first decides, unless none of its rows holds
 given-append : (a b : Table) → all (λ (row : ℕ × Bool). not (eqb row.0 0)) a ≡ true → given (a ++ b) ≡ cond (eqb (given a) 0) (given b) (given a)
@@ -68,6 +73,13 @@ rows-due own s =
     ∙ rw (decoded-rows s, zero-accepted)
     (by (used_up f) (λ u. rw u refl) (λ u. rw u (by (broken f) (λ b. rw b refl) (λ b. rw b (by (ours own f) (λ o. rw o refl) (λ o. rw o refl))))))
 
+-- what is refused by decoding has its number
+refused_row : (own : Address) (s : List ℕ) → encodable own ≡ true → is_accepted (decode Short s).answer ≡ false
+    → numbered (relay_answer own s) ≡ number_of (decode Short s).answer
+refused_row own s h e =
+    let p = answer_refused (decode Short s).answer e in
+    ap numbered (relay-refused own s p.0 h p.1) ∙ ap number_of (sym p.1)
+
 relay-rows : (own : Address) (s : List ℕ) → numbered (relay_answer own s) ≡ given (relay_table own s)
 unfolding given
 relay-rows own s =
@@ -75,7 +87,7 @@ relay-rows own s =
     (λ h. rw (h, rows-due own s)
     (by (is_accepted (decode Short s).answer)
     (λ e. rw (e, relay-accepted own s h e) refl)
-    (λ e. rw (e, relay-refused own s h e) refl)))
+    (λ e. rw e (refused_row own s h e))))
     (λ h. rw (h, relay_stranger own s h) refl)
 
 -- each number is given exactly when its row is the first that holds
@@ -107,7 +119,7 @@ record Due (own : Address) (s : List ℕ) : Type 0 where
   accepted : is_accepted (decode Short s).answer ≡ true
   inner : due_place (decode Short s).frame < (decode Short s).frame.route_count
   whole : broken (decode Short s).frame ≡ false
-  is : relay_answer own s ≡ relay.Relayed
+  is : relay_answer own s ≡ Ok tt
 
 due_by : (own : Address) (s : List ℕ) → numbered (relay_answer own s) ≡ 0 → Due own s
 due_by own s z =
@@ -123,18 +135,14 @@ due_by own s z =
     (λ b. by (ours own f)
     (λ o. record { able = h; accepted = e; inner = omega (arith, due_within f, n); whole = b; is = relay-accepted own s h e ∙ due-ours own f n b o })
     (λ o. absurd (omega (arith, rw (due-other own f n b o) at d))))))
-    (λ e. let d = rw (relay-refused own s h e) at z in
+    (λ e. let d = sym (refused_row own s h e) ∙ z in
     absurd (true≢false (sym (eq-eqb _ _ d) ∙ zero-accepted (decode Short s).answer ∙ e))))
     (λ h. absurd (omega (arith, rw (relay_stranger own s h) at z)))
 
 -- a refusal leaves the octets as they were
 left-refused : (a : RelayAnswer) (s : List ℕ) → (numbered a ≡ 0 → ⊥) → left_by a s ≡ s
-left-refused relay.Relayed s n = absurd (n refl)
-left-refused relay.NotEncodable s n = refl
-left-refused (relay.Refused a) s n = refl
-left-refused relay.RouteUsedUp s n = refl
-left-refused relay.BrokenMarks s n = refl
-left-refused relay.AnotherStation s n = refl
+left-refused (Ok u) s n = absurd (n refl)
+left-refused (Err e) s n = refl
 
 pub refused_relay : (own : Address) (s : List ℕ) → (numbered (relay_answer own s) ≡ 0 → ⊥) → relayed own s ≡ s
 refused_relay own s n = relayed_by own s _ refl ∙ left-refused (relay_answer own s) s n
@@ -197,7 +205,7 @@ module _ (own : Address) (s : List ℕ) (z : numbered (relay_answer own s) ≡ 0
   d = due_by own s z
 
   left : relayed own s ≡ t
-  left = relayed_by own s relay.Relayed d.is
+  left = relayed_by own s (Ok tt) d.is
 
   within : (i < 8) × (p < length s)
   within = let g = groups_inside s d.accepted in (omega (arith, d.inner, g.0), omega (arith, d.inner, g.1))
@@ -247,8 +255,8 @@ module _ (own : Address) (s : List ℕ) (z : numbered (relay_answer own s) ≡ 0
     bits = λ j h. rw (get_or-set_same s p (or_mark b) 0 within.1) (mark_bits b j h);
     clear = clear_before;
     mark = rw (get_or-set_same s p (or_mark b) 0 within.1) (mark-high b);
-    answer = ap (λ (x : Decoded). x.answer) read_again;
-    frame = ap (λ (x : Decoded). x.frame) read_again ∙ frame-again;
+    answer = ap (λ (x : Decoding). x.answer) read_again;
+    frame = ap (λ (x : Decoding). x.frame) read_again ∙ frame-again;
     info = rw read_again (info-marked Short s d.accepted i (or_mark b) d.inner (mark-low b));
     canonical = same-canonical o;
   })
@@ -257,10 +265,10 @@ module _ (own : Address) (s : List ℕ) (z : numbered (relay_answer own s) ≡ 0
   next : (due_place (decode Short t).frame ≡ suc i) × (broken (decode Short t).frame ≡ false)
   next =
       due_next f (decode Short t).frame _ d.whole d.inner within.0 (rw eight-places within.0) refl
-      (ap (λ (x : Decoded). x.frame.route) read_again) (ap (λ (x : Decoded). x.frame.route_count) read_again)
+      (ap (λ (x : Decoding). x.frame.route) read_again) (ap (λ (x : Decoding). x.frame.route_count) read_again)
 
   same_count : (decode Short t).frame.route_count ≡ f.route_count
-  same_count = ap (λ (x : Decoded). x.frame.route_count) read_again
+  same_count = ap (λ (x : Decoding). x.frame.route_count) read_again
 
   next_repeater : repeater_at (decode Short t).frame.route (suc i) ≡ repeater_at f.route (suc i)
   next_repeater = rw read_again (get_or-set_other f.route i (suc i) _ past (λ e. omega (arith, e)))

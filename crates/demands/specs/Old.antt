@@ -5,15 +5,14 @@ use Rattle.control.specs.declared.Mode.{Mode}
 use Rattle.control.specs.declared.Mode.TheVariants.{Short}
 use Rattle.content.specs.declared.FrameContent.TheVariants.{ReceiveReady}
 use Rattle.decode.specs.Answer.{Report, number, number_of, report_of}
-use Rattle.decode.specs.Read.{decode}
-use Rattle.decode.specs.declared.Decoded.{Decoded}
+use Rattle.decode.specs.Read.{decode, Decoding}
 use Rattle.frame.specs.Frame.{default_frame}
 use Rattle.frame.specs.declared.Ax25Frame.{Ax25Frame}
 use Rattle.old_captures.specs.Old.{decode_old, former}
 use Rattle.demands.specs.Examples.{addresses, whole, with, ui}
 
 -- of a capture s and what was read of it
-pub record OldCapture (m : Mode) (s : List ℕ) (d : Decoded) : Type 0 where
+pub record OldCapture (m : Mode) (s : List ℕ) (d : Decoding) : Type 0 where
   -- all that the decoder gave before leading nulls were refused
   pub before : d ≡ former m s
   -- all that the decoder gives, wherever that does not answer 10

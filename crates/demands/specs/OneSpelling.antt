@@ -1,5 +1,5 @@
 -- Demand 3: one spelling, in each mode (document 02, M-109).
-use Rattle.std.specs.Prelude.{ℕ, ◌+◌, ◌*◌, ◌≤◌, ◌<◌, ◌≡◌, true, List, ◌↔◌, length, drop}
+use Rattle.std.specs.Prelude.{ℕ, ◌+◌, ◌*◌, ◌≤◌, ◌<◌, ◌≡◌, true, Ok, List, ◌↔◌, length, drop}
 use Rattle.content.specs.Spell.{has_info}
 use Rattle.control.specs.declared.Mode.{Mode}
 use Rattle.decode.specs.Answer.{is_accepted}
@@ -8,8 +8,7 @@ use Rattle.frame.specs.Spell.{spell, Plain, with_mark, in_use}
 use Rattle.frame.specs.declared.Ax25Frame.{Ax25Frame}
 use Rattle.grammar.specs.Stations.{reserved_at}
 use Rattle.spelling.specs.Canonical.{again, canonical}
-use Rattle.respelling.specs.Reencode.{reencode_answer, reencoded}
-use Rattle.respelling.specs.declared.ReencodeAnswer.TheVariants.{Written}
+use Rattle.respelling.specs.Reencode.{reencode, reencoded}
 
 -- a plain frame that spells these octets by the grammar
 pub record Spelled (m : Mode) (s : List ℕ) : Type 0 where
@@ -41,4 +40,4 @@ pub record OneSpelling (m : Mode) (s : List ℕ) : Type 0 where
   pub respelled : is_accepted (decode m s).answer ≡ true → Respelled m s (again m s)
   -- and room of the input's length is enough to write that
   pub written : is_accepted (decode m s).answer ≡ true → (room : ℕ) → length s ≤ room
-      → (reencode_answer m s room ≡ Written) × (reencoded m s room ≡ again m s)
+      → (reencode m s room ≡ Ok (length (again m s))) × (reencoded m s room ≡ again m s)

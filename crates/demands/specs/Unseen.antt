@@ -8,13 +8,12 @@ use Rattle.content_as_written.specs.Unseen.{unseen}
 use Rattle.frame.specs.Spell.{in_use}
 use Rattle.frame.specs.declared.Ax25Frame.{Ax25Frame}
 use Rattle.decode.specs.Answer.{is_accepted}
-use Rattle.decode.specs.Read.{decode, info_in}
-use Rattle.decode.specs.declared.Decoded.{Decoded}
+use Rattle.decode.specs.Read.{decode, info_in, Decoding}
 use Rattle.demands.specs.Examples.{addresses, whole}
 
 -- t, of which e was decoded, is accepted, and the desk sees in it what it sees in s, of which d was decoded: the same frame, in all that
 -- is in use, and the same info octets
-pub record Alike (s : List ℕ) (d : Decoded) (t : List ℕ) (e : Decoded) : Type 0 where
+pub record Alike (s : List ℕ) (d : Decoding) (t : List ℕ) (e : Decoding) : Type 0 where
   pub accepted : is_accepted e.answer ≡ true
   pub frame : in_use e.frame ≡ in_use d.frame
   pub info : info_in t e ≡ info_in s d
@@ -33,7 +32,7 @@ abbrev pub SameSave : Mode → Ax25Frame → List ℕ → List ℕ → Type 0
 SameSave m f s t = (k j : ℕ) → j < 8 → excepted m f k j ≡ false → bit j (get_or t k 0) ≡ bit j (get_or s k 0)
 
 -- of a canonical s and any octets t, with what was decoded of each, and whether t is canonical too
-pub record NothingUnseen (m : Mode) (s : List ℕ) (d : Decoded) (t : List ℕ) (e : Decoded) (yes : Bool) : Type 0 where
+pub record NothingUnseen (m : Mode) (s : List ℕ) (d : Decoding) (t : List ℕ) (e : Decoding) (yes : Bool) : Type 0 where
   -- of equal length, accepted, with the same frame and info: the same octets, save for excepted bits
   pub same : length t ≡ length s → Alike s d t e → SameSave m d.frame s t
   -- so the same octets, where no bit of the frame is excepted
@@ -86,10 +85,10 @@ readies =
 
 -- where an input t differs from s, with all that is decoded of it; and what this is for an input that differs in bit b alone and is read as
 -- s is
-abbrev pub beside : Mode → List ℕ → List ℕ → List (ℕ × ℕ) × Decoded
+abbrev pub beside : Mode → List ℕ → List ℕ → List (ℕ × ℕ) × Decoding
 beside m s t = (differing s t, decode m t)
 
-abbrev pub unseen_at : Mode → List ℕ → ℕ × ℕ → List (ℕ × ℕ) × Decoded
+abbrev pub unseen_at : Mode → List ℕ → ℕ × ℕ → List (ℕ × ℕ) × Decoding
 unseen_at m s b = (b ∷ [], decode m s)
 
 -- why lengths are asked: inputs that are canonical in the short mode, each with a longer one that is read alike. An octet left over in the address field, a tail

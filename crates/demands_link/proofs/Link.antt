@@ -24,10 +24,10 @@ use Rattle.content.specs.declared.FrameContent.TheVariants as kind
 use Rattle.parse.specs.Content.{s_kind_of, s_of, ui_of, u_of, i_of, content_of}
 use Rattle.frame.specs.Frame.{no_entry, no_route, simple_ui, default_frame}
 use Rattle.frame.specs.declared.Ax25Frame.{Ax25Frame}
-use Rattle.decode.specs.Answer.{is_accepted, number_of as decode_number}
+use Rattle.decode.specs.Answer.{is_accepted, number_of as decode_number, DecodeAnswer}
 use Rattle.decode.specs.Read.{parsed_at, entry_at, place_at, route_at, frame_at, refused_with, accepted_with, with_content, decode_field, decode}
-use Rattle.decode.specs.declared.DecodeAnswer.{DecodeAnswer}
-use Rattle.decode.specs.declared.DecodeAnswer.TheVariants as read
+use Rattle.decode.specs.declared.DecodeError.TheVariants as error
+use Rattle.std.specs.Prelude.{Ok, Err}
 use Rattle.decode.proofs.Read.{zero-accepted}
 use Rattle.grammar.proofs.Numbers.{decode-rows}
 use Rattle.hops.specs.Station.{same_station}
@@ -41,7 +41,7 @@ use Rattle.link.specs.Step.{is_from_to, sender_in, followed, offered_to, step_of
 use Rattle.link_frame.specs.declared.Side.{Side}
 use Rattle.std.proofs.Common.{Option, Some, None, Ok, Err}
 use Rattle.link.specs.declared.Stepped.{Stepped}
-use Rattle.link.proofs.Laws.{sender_a, sender_b, sender_neither, offered_frame, offered-refused, step-refused, step-offered, Counting, is_sent, followed_counting, refused_counting, followed_others, followed-nothing}
+use Rattle.link.proofs.Laws.{sender_a, sender_b, sender_neither, offered_frame, refused_number, refused_link_lem, step-refused, step-offered, Counting, is_sent, followed_counting, refused_counting, followed_others, followed-nothing}
 use Rattle.demands.specs.Numbers.{decode_table}
 use Rattle.demands.specs.Examples.{whole}
 use Rattle.demands_link.specs.Link.{record_rows, link_table, is_between, is_of_kind, is_information, is_followed, once_more, Offered, after, information_in, CountsAddUp, NeverUnsound, box, gauge, recording, recorded, Case, cases}
@@ -62,7 +62,7 @@ module _ (l : Link) (s : List ℕ) where
       ap (λ (r : Stepped). number_of r.answer) (step-offered l s (ap takes e))
       ∙ by (is_accepted (decode Short s).answer)
       (λ a. ap (λ (r : Stepped). number_of r.answer) (offered_frame l (decode Short s) a) ∙ sym (eqb-true _ 0 (zero-accepted (decode Short s).answer ∙ a)))
-      (λ a. ap (λ (r : Stepped). number_of r.answer) (offered-refused l (decode Short s) a))
+      (λ a. refused_number l (decode Short s) a)
 
   link-rows : number_of (step_of l s).answer ≡ given (link_table l s)
   unfolding given
@@ -140,7 +140,7 @@ module _ (l : Link) (s : List ℕ) (t : takes (refusal l) ≡ true) where
   accepted_link e = behind ∙ ap (λ (r : Stepped). r.link) (offered_frame l (decode Short s) e)
 
   refused_link : is_accepted (decode Short s).answer ≡ false → (step_of l s).link ≡ once_more l
-  refused_link e = behind ∙ ap (λ (r : Stepped). r.link) (offered-refused l (decode Short s) e)
+  refused_link e = behind ∙ refused_link_lem l (decode Short s) e
 
   step_counting : Counting l (step_of l s).link (cond (is_information l.a l.b s) 1 0)
   step_counting =
@@ -235,18 +235,18 @@ counts-add-up a b ea eb d ss = sym (counted_is (after (fresh a b) ss)) ∙ count
 -- ---- no record that calls made is 73
 
 decode_below : (a : DecodeAnswer) → decode_number a < 13
-decode_below read.Accepted = omega arith
-decode_below read.OnlyNullBytes = omega arith
-decode_below read.NoEndToAddressField = omega arith
-decode_below (read.AddressFieldTooShort start end) = omega arith
-decode_below (read.FrameTooShort len) = omega arith
-decode_below read.MissingPidField = omega arith
-decode_below read.UnrecognisedUFieldType = omega arith
-decode_below read.WrongSizeFrmrInfo = omega arith
-decode_below read.TooManyRepeaters = omega arith
-decode_below read.LeadingNullBytes = omega arith
-decode_below read.FrameRejectInLongMode = omega arith
-decode_below read.MissingControlOctet = omega arith
+decode_below (Ok u) = omega arith
+decode_below (Err error.OnlyNullBytes) = omega arith
+decode_below (Err error.NoEndToAddressField) = omega arith
+decode_below (Err (error.AddressFieldTooShort start end)) = omega arith
+decode_below (Err (error.FrameTooShort len)) = omega arith
+decode_below (Err error.MissingPidField) = omega arith
+decode_below (Err error.UnrecognisedUFieldType) = omega arith
+decode_below (Err error.WrongSizeFrmrInfo) = omega arith
+decode_below (Err error.TooManyRepeaters) = omega arith
+decode_below (Err error.LeadingNullBytes) = omega arith
+decode_below (Err error.FrameRejectInLongMode) = omega arith
+decode_below (Err error.MissingControlOctet) = omega arith
 
 offered_only : (x : LinkAnswer) → takes x ≡ true → x ≡ Ok tt
 offered_only (Ok u) e = refl

@@ -21,8 +21,8 @@ use Rattle.words.specs.Room.{fitting}
 use Rattle.std.proofs.Common.{ok_or}
 use Rattle.octets.proofs.Choice.{by}
 use borrow.Author.Tests.{ltb-false}
-use Rattle.decode.specs.declared.DecodeAnswer.{DecodeAnswer}
-use Rattle.decode.specs.declared.DecodeAnswer.TheVariants as answer
+use Rattle.decode.specs.declared.DecodeError.{DecodeError}
+use Rattle.decode.specs.declared.DecodeError.TheVariants as error
 
 characters-append : (a b : List ℕ) → characters (a ++ b) ≡ characters a ++ characters b
 unfolding characters
@@ -49,20 +49,19 @@ route_taken route m zero h = refl
 route_taken route m (suc n) h = rw (route_taken route m n (omega (arith, h)), get_or-take m route n _ (omega (arith, h))) refl
 
 -- the refusals that have no details
-pub no_details : (a : DecodeAnswer) → ((start end : ℕ) → a ≡ answer.AddressFieldTooShort start end → ⊥) → ((len : ℕ) → a ≡ answer.FrameTooShort len → ⊥)
+pub no_details : (a : DecodeError) → ((start end : ℕ) → a ≡ error.AddressFieldTooShort start end → ⊥) → ((len : ℕ) → a ≡ error.FrameTooShort len → ⊥)
     → detail_text a ≡ []
-no_details answer.Accepted h k = refl
-no_details answer.OnlyNullBytes h k = refl
-no_details answer.NoEndToAddressField h k = refl
-no_details (answer.AddressFieldTooShort start end) h k = absurd (h start end refl)
-no_details (answer.FrameTooShort len) h k = absurd (k len refl)
-no_details answer.MissingPidField h k = refl
-no_details answer.UnrecognisedUFieldType h k = refl
-no_details answer.WrongSizeFrmrInfo h k = refl
-no_details answer.TooManyRepeaters h k = refl
-no_details answer.LeadingNullBytes h k = refl
-no_details answer.FrameRejectInLongMode h k = refl
-no_details answer.MissingControlOctet h k = refl
+no_details error.OnlyNullBytes h k = refl
+no_details error.NoEndToAddressField h k = refl
+no_details (error.AddressFieldTooShort start end) h k = absurd (h start end refl)
+no_details (error.FrameTooShort len) h k = absurd (k len refl)
+no_details error.MissingPidField h k = refl
+no_details error.UnrecognisedUFieldType h k = refl
+no_details error.WrongSizeFrmrInfo h k = refl
+no_details error.TooManyRepeaters h k = refl
+no_details error.LeadingNullBytes h k = refl
+no_details error.FrameRejectInLongMode h k = refl
+no_details error.MissingControlOctet h k = refl
 
 -- what is written where there is room for a text, and where there is not
 pub written : (room : ℕ) (t : List ℕ) → ok_or (fitting room t) NoRoom ≡ dumped t room

@@ -7,20 +7,21 @@ use native.Mathlib.Omega.{arith}
 use lib.Dec.{eqb, ltb}
 use lib.ListN.{length, length-append}
 use Rattle.octets.specs.Octet.{Octets}
-use Rattle.octets.proofs.Choice.{either}
+use Rattle.octets.proofs.Choice.{by, either}
 use Rattle.address.specs.Address.{PlainAddress}
 use Rattle.printing.specs.Print.{trimmed}
 use Rattle.address.specs.declared.Address.{Address}
 use Rattle.printing.proofs.Laws.{used_le, trimmed-length}
 use Rattle.content.specs.declared.FrameContent.{FrameContent}
 use Rattle.control.specs.declared.Mode.TheVariants.{Short}
-use Rattle.decode.specs.Answer.{is_accepted, number_of}
-use Rattle.decode.specs.Read.{decode}
+use Rattle.decode.specs.Answer.{is_accepted, error_number}
+use Rattle.decode.specs.Read.{decode, outcome}
+use Rattle.decode.proofs.Read.{answer_accepted, answer_refused}
 use Rattle.frame.specs.Spell.{repeater_at}
 use Rattle.frame.specs.declared.Ax25Frame.{Ax25Frame}
+use Rattle.decode.specs.declared.DecodeError.{DecodeError}
+use Rattle.decode.specs.declared.DecodeError.TheVariants as error
 use Rattle.decode.specs.declared.Decoded.{Decoded}
-use Rattle.decode.specs.declared.DecodeAnswer.{DecodeAnswer}
-use Rattle.decode.specs.declared.DecodeAnswer.TheVariants as answer
 use Rattle.frame.specs.declared.RouteEntry.{RouteEntry}
 use Rattle.grammar.proofs.Plain.{Stations, stations, inside}
 use Rattle.reason.specs.Reason.{reason_of}
@@ -105,35 +106,34 @@ frame-short d c r p h =
 number_short : (key : List ℕ) (n : ℕ) → length key ≤ 12 → length (key ++ (decimal n ++ ascii "\n")) ≤ 18
 number_short key n h = omega (arith, h, line-long key (decimal n), decimal-short n)
 
-detail-short : (a : DecodeAnswer) → length (detail_text a) ≤ 36
-detail-short answer.Accepted = omega arith
-detail-short answer.OnlyNullBytes = omega arith
-detail-short answer.NoEndToAddressField = omega arith
-detail-short (answer.AddressFieldTooShort start end) =
+detail-short : (a : DecodeError) → length (detail_text a) ≤ 36
+detail-short error.OnlyNullBytes = omega arith
+detail-short error.NoEndToAddressField = omega arith
+detail-short (error.AddressFieldTooShort start end) =
     let a : List ℕ = ascii "start=" ++ (decimal start ++ ascii "\n") in
     let b : List ℕ = ascii "end=" ++ (decimal end ++ ascii "\n") in
     omega (arith, length-append a b, number_short (ascii "start=") start (omega arith), number_short (ascii "end=") end (omega arith))
-detail-short (answer.FrameTooShort len) = omega (arith, number_short (ascii "length=") len (omega arith))
-detail-short answer.MissingPidField = omega arith
-detail-short answer.UnrecognisedUFieldType = omega arith
-detail-short answer.WrongSizeFrmrInfo = omega arith
-detail-short answer.TooManyRepeaters = omega arith
-detail-short answer.LeadingNullBytes = omega arith
-detail-short answer.FrameRejectInLongMode = omega arith
-detail-short answer.MissingControlOctet = omega arith
+detail-short (error.FrameTooShort len) = omega (arith, number_short (ascii "length=") len (omega arith))
+detail-short error.MissingPidField = omega arith
+detail-short error.UnrecognisedUFieldType = omega arith
+detail-short error.WrongSizeFrmrInfo = omega arith
+detail-short error.TooManyRepeaters = omega arith
+detail-short error.LeadingNullBytes = omega arith
+detail-short error.FrameRejectInLongMode = omega arith
+detail-short error.MissingControlOctet = omega arith
 
-refusal-short : (a : DecodeAnswer) → length (refusal_text a) ≤ 512
+refusal-short : (a : DecodeError) → length (refusal_text a) ≤ 512
 unfolding refusal_text
 refusal-short a =
-    let n : List ℕ = ascii "answer=" ++ (decimal (number_of a) ++ ascii "\n") in
-    omega (arith, length-append n (detail_text a), number_short (ascii "answer=") (number_of a) (omega arith), detail-short a)
+    let n : List ℕ = ascii "answer=" ++ (decimal (error_number a) ++ ascii "\n") in
+    omega (arith, length-append n (detail_text a), number_short (ascii "answer=") (error_number a) (omega arith), detail-short a)
 
-pub decoded-short : (s : List ℕ) → Octets s → (c : Bool) (r : Reason) → length (decoded_text (decode Short s) c r) ≤ 512
+pub decoded-short : (s : List ℕ) → Octets s → (c : Bool) (r : Reason) → length (decoded_text (outcome (decode Short s)) c r) ≤ 512
 unfolding decoded_text
 decoded-short s o c r =
-    either (λ (t : List ℕ). length t ≤ 512) (is_accepted (decode Short s).answer)
-    (λ e. frame-short (decode Short s) c r (stations Short s o e) (inside Short s e).few)
-    (λ e. refusal-short (decode Short s).answer)
+    by (is_accepted (decode Short s).answer)
+    (λ e. rw (answer_accepted (decode Short s).answer e) (frame-short _ c r (stations Short s o e) (inside Short s e).few))
+    (λ e. let p = answer_refused (decode Short s).answer e in rw p.1 (refusal-short p.0))
 
 pub fifty-short : length (ascii "answer=" ++ (decimal 50 ++ ascii "\n")) ≤ 512
 fifty-short = omega (arith, number_short (ascii "answer=") 50 (omega arith))

@@ -4,12 +4,12 @@ use Rattle.std.specs.Prelude.{ℕ, Bool, cond, List, [], ◌++◌, Result, Ok, E
 use Prim.Native.String.{String}
 use Rattle.control.specs.declared.Mode.TheVariants.{Short}
 use Rattle.content.specs.declared.FrameContent.{FrameContent}
-use Rattle.decode.specs.Answer.{number_of, is_accepted}
-use Rattle.decode.specs.Read.{decode}
-use Rattle.frame.specs.declared.Ax25Frame.{Ax25Frame}
-use Rattle.decode.specs.declared.DecodeAnswer.{DecodeAnswer}
-use Rattle.decode.specs.declared.DecodeAnswer.TheVariants as answer
+use Rattle.decode.specs.Answer.{error_number}
+use Rattle.decode.specs.Read.{decode, outcome}
 use Rattle.decode.specs.declared.Decoded.{Decoded}
+use Rattle.decode.specs.declared.DecodeError.{DecodeError}
+use Rattle.frame.specs.declared.Ax25Frame.{Ax25Frame}
+use Rattle.decode.specs.declared.DecodeError.TheVariants as error
 use Rattle.reason.specs.Reason.{reason_of}
 use Rattle.reason.specs.declared.Reason.{Reason}
 use Rattle.spelling.specs.Canonical.{canonical}
@@ -44,29 +44,29 @@ frame_text d c r =
     ++ (station_lines d.frame ++ (content_lines d.frame.content ++ (line "info_length=" (decimal d.info_len) ++ spelling_lines c r)))
 
 -- the details that a refusal's number gives
-abbrev pub detail_text : DecodeAnswer → List ℕ
-detail_text answer.Accepted = []
-detail_text answer.OnlyNullBytes = []
-detail_text answer.NoEndToAddressField = []
-detail_text (answer.AddressFieldTooShort start end) = line "start=" (decimal start) ++ line "end=" (decimal end)
-detail_text (answer.FrameTooShort len) = line "length=" (decimal len)
-detail_text answer.MissingPidField = []
-detail_text answer.UnrecognisedUFieldType = []
-detail_text answer.WrongSizeFrmrInfo = []
-detail_text answer.TooManyRepeaters = []
-detail_text answer.LeadingNullBytes = []
-detail_text answer.FrameRejectInLongMode = []
-detail_text answer.MissingControlOctet = []
+abbrev pub detail_text : DecodeError → List ℕ
+detail_text error.OnlyNullBytes = []
+detail_text error.NoEndToAddressField = []
+detail_text (error.AddressFieldTooShort start end) = line "start=" (decimal start) ++ line "end=" (decimal end)
+detail_text (error.FrameTooShort len) = line "length=" (decimal len)
+detail_text error.MissingPidField = []
+detail_text error.UnrecognisedUFieldType = []
+detail_text error.WrongSizeFrmrInfo = []
+detail_text error.TooManyRepeaters = []
+detail_text error.LeadingNullBytes = []
+detail_text error.FrameRejectInLongMode = []
+detail_text error.MissingControlOctet = []
 
-unfoldable pub refusal_text : DecodeAnswer → List ℕ
-refusal_text a = line "answer=" (decimal (number_of a)) ++ detail_text a
+unfoldable pub refusal_text : DecodeError → List ℕ
+refusal_text e = line "answer=" (decimal (error_number e)) ++ detail_text e
 
-unfoldable pub decoded_text : Decoded → Bool → Reason → List ℕ
-decoded_text d c r = cond (is_accepted d.answer) (frame_text d c r) (refusal_text d.answer)
+unfoldable pub decoded_text : Result Decoded DecodeError → Bool → Reason → List ℕ
+decoded_text (Ok d) c r = frame_text d c r
+decoded_text (Err e) c r = refusal_text e
 
 -- the whole: over 4,096 octets, answer 50 alone
 unfoldable pub dump_text : List ℕ → List ℕ
-dump_text s = cond (ltb 4096 (length s)) (line "answer=" (decimal 50)) (decoded_text (decode Short s) (canonical Short s) (reason_of Short s))
+dump_text s = cond (ltb 4096 (length s)) (line "answer=" (decimal 50)) (decoded_text (outcome (decode Short s)) (canonical Short s) (reason_of Short s))
 
 -- all of it where there is room, and its length; else 24
 unfoldable pub dumped : List ℕ → ℕ → Result ℕ DumpError

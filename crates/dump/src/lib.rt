@@ -4,14 +4,13 @@
 ghost use Rattle.std.specs.Prelude.{◌≡◌, true, ◌++◌, ◌≤◌, length};
 ghost use Rattle.octets.specs.Outcome.{length_of};
 ghost use Rattle.octets.specs.Splice.{splice};
-ghost use Rattle.decode.specs.Answer.{is_accepted};
 ghost use Rattle.words.specs.Room.{cut};
-ghost use Rattle.dump.specs.Dump.{station_lines, content_lines, spelling_lines, frame_text, refusal_text, decoded_text, dump_text, dumped, dump_number};
+ghost use Rattle.dump.specs.Dump.{station_lines, content_lines, spelling_lines, frame_text, refusal_text, dump_text, dumped, dump_number};
 
 use answer::Numbered;
 use content::FrameContent;
 use control::Mode;
-use decode::{DecodeAnswer, Decoded};
+use decode::{DecodeError, Decoded};
 use frame::Ax25Frame;
 use reason::Reason;
 use words::page::Page;
@@ -80,30 +79,18 @@ fn put_frame(page: &mut Page<512>, decoded: Decoded, canonical: bool, reason: Re
     put_spelling(page, canonical, reason);
 }
 
-fn put_refusal(page: &mut Page<512>, answer: DecodeAnswer)
-    ensures { page.new ≡ cut 512 (page.old ++ refusal_text answer) }
+fn put_refusal(page: &mut Page<512>, error: DecodeError)
+    ensures { page.new ≡ cut 512 (page.old ++ refusal_text error) }
 {
-    page.put_number(b"answer=", answer.number() as usize, b"\n");
-    match answer {
-        DecodeAnswer::AddressFieldTooShort { start, end } => {
+    page.put_number(b"answer=", error.number() as usize, b"\n");
+    match error {
+        DecodeError::AddressFieldTooShort { start, end } => {
             page.put_number(b"start=", start, b"\n");
             page.put_number(b"end=", end, b"\n");
         }
-        DecodeAnswer::FrameTooShort { len } => page.put_number(b"length=", len, b"\n"),
+        DecodeError::FrameTooShort { len } => page.put_number(b"length=", len, b"\n"),
         _ => {}
     }
-}
-
-fn put_decoded(page: &mut Page<512>, decoded: Decoded, canonical: bool, reason: Reason)
-    requires { is_accepted decoded.answer ≡ true → decoded.frame.route_count ≤ 8 }
-    ensures { page.new ≡ cut 512 (page.old ++ decoded_text decoded canonical reason) }
-{
-    let answer = decoded.answer;
-    let DecodeAnswer::Accepted = answer else {
-        put_refusal(page, answer);
-        return;
-    };
-    put_frame(page, decoded, canonical, reason);
 }
 
 fn put_dump(page: &mut Page<512>, input: &[u8])
@@ -113,10 +100,12 @@ fn put_dump(page: &mut Page<512>, input: &[u8])
         page.put_number(b"answer=", 50, b"\n");
         return;
     }
-    let decoded = reading::from_bytes(Mode::Short, input);
     let canonical = spelling::is_canonical(Mode::Short, input);
     let reason = reason::reason_of(Mode::Short, input);
-    put_decoded(page, decoded, canonical, reason);
+    match reading::from_bytes(Mode::Short, input) {
+        Ok(decoded) => put_frame(page, decoded, canonical, reason),
+        Err(error) => put_refusal(page, error),
+    }
 }
 
 // The text, written at the start of `out`; gives its length. Where there is no room for all of it, `out` is left alone.

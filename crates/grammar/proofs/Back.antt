@@ -20,13 +20,12 @@ use Rattle.control.specs.declared.Mode.{Mode}
 use Rattle.parse.specs.Content.{content_of}
 use Rattle.std.specs.Prelude.{Ok}
 use Rattle.content_as_written.proofs.Laws.{content-back, content_some}
-use Rattle.decode.specs.Read.{start_of, end_of, group_at, parsed_at, entry_at, place_at, route_at, command_of, frame_at, accepted_with, with_content, decode_field, decode, info_in}
+use Rattle.decode.specs.Read.{start_of, end_of, group_at, parsed_at, entry_at, place_at, route_at, command_of, frame_at, accepted_with, with_content, decode_field, decode, info_in, Decoding}
 use Rattle.frame.specs.Spell.{repeater_at, groups_of, destination_mark, source_mark, address_field, spell, marked, Plain, place_in_use, route_in_use, in_use}
 use Rattle.frame.specs.declared.Mark.{Mark}
 use Rattle.frame.specs.declared.Mark.TheVariants.{Command, Response, Absent}
 use Rattle.frame.specs.declared.RouteEntry.{RouteEntry}
 use Rattle.frame.specs.declared.Ax25Frame.{Ax25Frame}
-use Rattle.decode.specs.declared.Decoded.{Decoded}
 use Rattle.grammar.proofs.Ends.{end-past, end_route, start_here}
 use Rattle.frame.proofs.Write.{groups-length, spell-length, marks_differ}
 
@@ -147,7 +146,7 @@ module _ (mode : Mode) (f : Ax25Frame) (i : List ℕ) (p : Plain mode f i) where
 
   pub frame-spell : (decode mode (spell mode f i)).frame ≡ in_use f
   unfolding accepted_with
-  frame-spell = ap (λ (d : Decoded). d.frame) decode-spell
+  frame-spell = ap (λ (d : Decoding). d.frame) decode-spell
 
   pub info-spell : info_in (spell mode f i) (decode mode (spell mode f i)) ≡ i
   unfolding accepted_with in_use
@@ -166,7 +165,7 @@ pub unique : (mode : Mode) (f g : Ax25Frame) (i j : List ℕ) → Plain mode f i
 unique mode f g i j p q e =
     let a : decode mode (spell mode f i) ≡ decode mode (spell mode g j) = ap (decode mode) e in
     let b : info_in (spell mode f i) (decode mode (spell mode f i)) ≡ info_in (spell mode g j) (decode mode (spell mode g j)) = ap (λ (s : List ℕ). info_in s (decode mode s)) e in
-    (sym (frame-spell mode f i p) ∙ ap (λ (d : Decoded). d.frame) a ∙ frame-spell mode g j q, sym (info-spell mode f i p) ∙ b ∙ info-spell mode g j q)
+    (sym (frame-spell mode f i p) ∙ ap (λ (d : Decoding). d.frame) a ∙ frame-spell mode g j q, sym (info-spell mode f i p) ∙ b ∙ info-spell mode g j q)
 
 -- exactly one of the first two marks is set
 pub spelled-marks : (mode : Mode) (f : Ax25Frame) (i : List ℕ) (p : Plain mode f i) → mark_of (group_at (spell mode f i) 7) ≡ not (mark_of (group_at (spell mode f i) 0))

@@ -21,12 +21,11 @@ use Rattle.content.specs.declared.FrameContent.{FrameContent}
 use Rattle.control.specs.declared.Mode.{Mode}
 use Rattle.content_as_written.proofs.Laws.{content_kept, content_exact}
 use Rattle.content_as_written.proofs.AsWritten.{as-written_spelled}
-use Rattle.decode.specs.Read.{end_of, group_at, parsed_at, entry_at, place_at, route_at, command_of, frame_at, accepted_with, decode, info_in}
+use Rattle.decode.specs.Read.{end_of, group_at, parsed_at, entry_at, place_at, route_at, command_of, frame_at, accepted_with, decode, info_in, Decoding}
 use Rattle.frame.specs.Spell.{past, repeater_at, groups_of, destination_mark, source_mark, address_field, spell, marked, Plain}
 use Rattle.frame.specs.declared.Mark.{Mark}
 use Rattle.frame.specs.declared.Mark.TheVariants.{Command, Response, Absent}
 use Rattle.frame.specs.declared.Ax25Frame.{Ax25Frame}
-use Rattle.decode.specs.declared.Decoded.{Decoded}
 use Rattle.decode.proofs.Accepts.{Accepts}
 use Rattle.grammar.proofs.Back.{group-front, in_order_lem, after_dest, after-field, spelled_end}
 
@@ -156,7 +155,7 @@ module _ (mode : Mode) (s : List ℕ) (o : Octets s) (a : Accepts mode s (decode
 
   pub made_frame : (decode mode s).frame ≡ frame_at s 0 a.count a.kind
   unfolding accepted_with
-  made_frame = ap (λ (d : Decoded). d.frame) a.made
+  made_frame = ap (λ (d : Decoding). d.frame) a.made
 
   -- of a kind with info, the octets before it and the info are all that follows the address field
   pub info_kept : has_info (decode mode s).frame.content ≡ true → front mode (decode mode s).frame.content ++ info_in s (decode mode s) ≡ drop (end_of s + 1) s

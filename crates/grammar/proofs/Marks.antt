@@ -21,8 +21,7 @@ use Rattle.frame.specs.Spell.{repeater_at, past}
 use Rattle.frame.specs.declared.RouteEntry.{RouteEntry}
 use Rattle.frame.specs.declared.Ax25Frame.{Ax25Frame}
 use Rattle.decode.specs.Answer.{is_accepted}
-use Rattle.decode.specs.Read.{start_of, end_of, group_at, parsed_at, entry_at, place_at, route_at, frame_at, accepted_with, with_content, decode_field, decode, info_in}
-use Rattle.decode.specs.declared.Decoded.{Decoded}
+use Rattle.decode.specs.Read.{start_of, end_of, group_at, parsed_at, entry_at, place_at, route_at, frame_at, accepted_with, with_content, decode_field, decode, info_in, Decoding}
 use Rattle.decode.proofs.Read.{start_first}
 use Rattle.decode.proofs.Accepts.{Accepts, accepts}
 use Rattle.grammar.proofs.Direct.{direct, place_at_lem, route_at_lem, parsed_mark}
@@ -33,7 +32,7 @@ unfolding parsed_at
 parsed_is s at = refl
 
 -- the groups of an accepted input's repeaters stand in it, before the end
-pub record Route (s : List ℕ) (d : Decoded) : Type 0 where
+pub record Route (s : List ℕ) (d : Decoding) : Type 0 where
   pub few : d.frame.route_count ≤ 8
   pub before : 14 + 7 * d.frame.route_count ≤ end_of s + 1
   pub end_in : end_of s < length s
@@ -47,7 +46,7 @@ route_made mode s a =
     record { few = a.few; before = omega arith; end_in = a.end_in; read = refl }
 
 pub route : (mode : Mode) (s : List ℕ) → is_accepted (decode mode s).answer ≡ true → Route s (decode mode s)
-route mode s e = let a = accepts mode s e in subst (λ (d : Decoded). Route s d) (sym a.made) (route_made mode s a)
+route mode s e = let a = accepts mode s e in subst (λ (d : Decoding). Route s d) (sym a.made) (route_made mode s a)
 
 -- the repeater and the mark of a place, by its group
 pub place_read : (s : List ℕ) (at n i : ℕ) → i < n → n ≤ 8
@@ -147,7 +146,7 @@ module _ (mode : Mode) (s : List ℕ) (e : is_accepted (decode mode s).answer �
 
   count_read : (decode mode s).frame.route_count ≡ a.count
   unfolding accepted_with frame_at
-  count_read = ap (λ (d : Decoded). d.frame.route_count) a.made
+  count_read = ap (λ (d : Decoding). d.frame.route_count) a.made
 
   inner : i < a.count
   inner = rw count_read at h

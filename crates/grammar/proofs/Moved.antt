@@ -19,12 +19,11 @@ use Rattle.std.specs.Prelude.{Result, Ok, Err}
 use Rattle.parse.specs.declared.ContentError.{ContentError}
 use Rattle.parse.specs.declared.ContentError.TheVariants as content
 use Rattle.parse.proofs.Read.{zero-length}
-use Rattle.decode.specs.Answer.{Report, report_of, number_of}
+use Rattle.decode.specs.Answer.{Report, report_of, number_of, DecodeAnswer}
 use Rattle.decode.specs.Numbers.{no_start, leading_null, no_end, short_field, no_content, many_repeaters, reported}
 use Rattle.parse.specs.Numbers.{lacks_control, lacks_pid, strange_u, frmr_in_long, wrong_frmr}
 use Rattle.decode.specs.Read.{nonzero, start_of, end_of, parsed_at, place_at, route_at, frame_at, refused_with, accepted_with, with_content, repeaters_of, decode_field, decode}
-use Rattle.decode.specs.declared.DecodeAnswer.{DecodeAnswer}
-use Rattle.decode.specs.declared.DecodeAnswer.TheVariants as read
+use Rattle.decode.specs.declared.DecodeError.TheVariants as error
 use Rattle.grammar.specs.Moved.{moved_answer, moved_info, moved}
 use Rattle.grammar.proofs.Back.{parsed-drop, entry-drop}
 use Rattle.grammar.proofs.Numbers.{leads, decode_report, decode-rows}
@@ -89,9 +88,9 @@ module _ (mode : Mode) (s : List ℕ) (k : ℕ) where
       (λ e. eq-eqb (k + (end + 1)) (length s) (omega (arith, eqb-true (end + 1) (length t) e))) in
       rw (span, at, whole, ← drop-drop (end + 1) k s)
       (by (ltb (end + 1 - 0) 14)
-      (λ a. rw a (ap (λ (n : ℕ). refused_with (read.AddressFieldTooShort n (k + end))) first ∙ refused-drop (read.AddressFieldTooShort 0 end)))
-      (λ a. by (eqb (end + 1) (length t)) (λ b. rw (a, b) (refused-drop (read.FrameTooShort (length t))))
-      (λ b. by (ltb 8 (repeaters_of 0 end)) (λ c. rw (a, b, c) (refused-drop read.TooManyRepeaters))
+      (λ a. rw a (ap (λ (n : ℕ). refused_with (Err (error.AddressFieldTooShort n (k + end)))) first ∙ refused-drop (Err (error.AddressFieldTooShort 0 end))))
+      (λ a. by (eqb (end + 1) (length t)) (λ b. rw (a, b) (refused-drop (Err (error.FrameTooShort (length t)))))
+      (λ b. by (ltb 8 (repeaters_of 0 end)) (λ c. rw (a, b, c) (refused-drop (Err error.TooManyRepeaters)))
       (λ c.
       let rest = length-drop (end + 1) t in
       rw (a, b, c) (content-drop (repeaters_of 0 end) (end + 1) (content_of mode (drop (end + 1) t)) (omega arith)
@@ -100,8 +99,8 @@ module _ (mode : Mode) (s : List ℕ) (k : ℕ) where
 -- where no null stands before the start there is no 10, and the address field starts there
 pub decode_at_start : (mode : Mode) (s : List ℕ) → (eqb (start_of s) (length s) ≡ false → start_of s ≡ 0)
     → decode mode s
-    ≡ cond (eqb (start_of s) (length s)) (refused_with read.OnlyNullBytes)
-    (cond (eqb (end_of s) (length s)) (refused_with read.NoEndToAddressField) (decode_field mode s (start_of s) (end_of s)))
+    ≡ cond (eqb (start_of s) (length s)) (refused_with (Err error.OnlyNullBytes))
+    (cond (eqb (end_of s) (length s)) (refused_with (Err error.NoEndToAddressField)) (decode_field mode s (start_of s) (end_of s)))
 unfolding decode
 decode_at_start mode s h = by (eqb (start_of s) (length s)) (λ e. rw e refl) (λ e. rw (e, h e) refl)
 
@@ -132,18 +131,18 @@ never_ten mode s h = rw (decode-rows mode s)
 
 -- an answer that is moved keeps its number
 pub moved-number : (k len : ℕ) (a : DecodeAnswer) → number_of (moved_answer k len a) ≡ number_of a
-moved-number k len read.Accepted = refl
-moved-number k len read.OnlyNullBytes = refl
-moved-number k len read.NoEndToAddressField = refl
-moved-number k len (read.AddressFieldTooShort start end) = refl
-moved-number k len (read.FrameTooShort rest) = refl
-moved-number k len read.MissingPidField = refl
-moved-number k len read.UnrecognisedUFieldType = refl
-moved-number k len read.WrongSizeFrmrInfo = refl
-moved-number k len read.TooManyRepeaters = refl
-moved-number k len read.LeadingNullBytes = refl
-moved-number k len read.FrameRejectInLongMode = refl
-moved-number k len read.MissingControlOctet = refl
+moved-number k len (Ok u) = refl
+moved-number k len (Err error.OnlyNullBytes) = refl
+moved-number k len (Err error.NoEndToAddressField) = refl
+moved-number k len (Err (error.AddressFieldTooShort start end)) = refl
+moved-number k len (Err (error.FrameTooShort rest)) = refl
+moved-number k len (Err error.MissingPidField) = refl
+moved-number k len (Err error.UnrecognisedUFieldType) = refl
+moved-number k len (Err error.WrongSizeFrmrInfo) = refl
+moved-number k len (Err error.TooManyRepeaters) = refl
+moved-number k len (Err error.LeadingNullBytes) = refl
+moved-number k len (Err error.FrameRejectInLongMode) = refl
+moved-number k len (Err error.MissingControlOctet) = refl
 
 -- the details of a refusal: the start is 0, and the end stands in the octets
 pub report_inside : (mode : Mode) (s : List ℕ) → ((report_of (decode mode s).answer).start ≡ 0) × ((report_of (decode mode s).answer).end ≤ length s)

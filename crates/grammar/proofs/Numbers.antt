@@ -25,9 +25,8 @@ use Rattle.frame.specs.Frame.{write_number}
 use Rattle.frame.specs.Spell.{spell}
 use Rattle.frame.specs.Write.{frame_encodable, content_answer, write_answer}
 use Rattle.frame.specs.declared.Ax25Frame.{Ax25Frame}
-use Rattle.decode.specs.Read.{nonzero, start_of, end_of, refused_with, accepted_with, with_content, decode_field, decode}
+use Rattle.decode.specs.Read.{nonzero, start_of, end_of, refused_with, accepted_with, with_content, decode_field, decode, Decoding}
 use Rattle.decode.specs.Numbers.{no_start, leading_null, no_end, short_field, no_content, many_repeaters, reported}
-use Rattle.decode.specs.declared.Decoded.{Decoded}
 use Rattle.decode.proofs.Read.{start-past}
 
 -- the content's answer by its number
@@ -49,7 +48,7 @@ leads s e = start-past s (omega (arith, eqb-false (start_of s) (length s) e, fir
 pub decode_report : (mode : Mode) (s : List ℕ) → report_of (decode mode s).answer ≡ reported mode s
 unfolding decode decode_field refused_with reported
 decode_report mode s =
-    let P : Decoded → Type 0 = λ d. report_of d.answer ≡ reported mode s in
+    let P : Decoding → Type 0 = λ d. report_of d.answer ≡ reported mode s in
     let one : eqb (start_of s) (length s) ≡ no_start s = first-all nonzero s in
     let two : eqb (end_of s) (length s) ≡ no_end s = first-all (bit 0) s in
     let three : ltb (end_of s + 1 - 0) 14 ≡ short_field s = ap (λ (n : ℕ). ltb n 14) (sub-zero (end_of s + 1)) in

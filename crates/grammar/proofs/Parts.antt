@@ -15,13 +15,12 @@ use Rattle.parse.specs.Content.{content_of}
 use Rattle.std.specs.Prelude.{Ok}
 use Rattle.content_as_written.proofs.Laws.{content_fits}
 use Rattle.decode.specs.Answer.{is_accepted}
-use Rattle.decode.specs.Read.{end_of, group_at, parsed_at, command_of, frame_at, accepted_with, decode, info_in}
-use Rattle.decode.specs.declared.Decoded.{Decoded}
+use Rattle.decode.specs.Read.{end_of, group_at, parsed_at, command_of, frame_at, accepted_with, decode, info_in, Decoding}
 use Rattle.decode.proofs.Accepts.{Accepts, accepts}
 use Rattle.grammar.specs.Kept.{kept_of}
 use Rattle.grammar.proofs.Direct.{parsed_mark}
 
-pub record Parts (mode : Mode) (s : List ℕ) (d : Decoded) : Type 0 where
+pub record Parts (mode : Mode) (s : List ℕ) (d : Decoding) : Type 0 where
   pub destination : d.frame.destination ≡ address_of (group_at s 0)
   pub source : d.frame.source ≡ address_of (group_at s 7)
   pub mark : d.frame.command_or_response ≡ command_of (mark_set (get_or s 6 0)) (mark_set (get_or s 13 0))
@@ -36,7 +35,7 @@ module _ (mode : Mode) (s : List ℕ) (o : Octets s) (a : Accepts mode s (decode
   abbrev k : FrameContent
   k = a.kind
 
-  abbrev d : Decoded
+  abbrev d : Decoding
   d = accepted_with mode (frame_at s 0 a.count k) (end_of s + 1) (length s)
 
   room : length (drop (end_of s + 1) s) ≡ length s - (end_of s + 1)
@@ -64,4 +63,4 @@ module _ (mode : Mode) (s : List ℕ) (o : Octets s) (a : Accepts mode s (decode
       }
 
 pub parts : (mode : Mode) (s : List ℕ) → Octets s → is_accepted (decode mode s).answer ≡ true → Parts mode s (decode mode s)
-parts mode s o e = let a = accepts mode s e in subst (λ (d : Decoded). Parts mode s d) (sym a.made) (made mode s o a)
+parts mode s o e = let a = accepts mode s e in subst (λ (d : Decoding). Parts mode s d) (sym a.made) (made mode s o a)

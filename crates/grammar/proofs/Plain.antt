@@ -22,13 +22,12 @@ use Rattle.control.specs.declared.Mode.{Mode}
 use Rattle.content_as_written.proofs.Laws.{content-plain, content_fits, content_some}
 use Rattle.frame.specs.Frame.{no_entry}
 use Rattle.decode.specs.Answer.{is_accepted}
-use Rattle.decode.specs.Read.{nonzero, end_of, group_at, parsed_at, entry_at, place_at, route_at, repeaters_of, frame_at, accepted_with, decode, info_in}
+use Rattle.decode.specs.Read.{nonzero, end_of, group_at, parsed_at, entry_at, place_at, route_at, repeaters_of, frame_at, accepted_with, decode, info_in, Decoding}
 use Rattle.frame.specs.Spell.{repeater_at, marked, made_command, with_mark, spell, Plain, place_in_use, route_in_use, in_use}
 use Rattle.frame.proofs.Write.{spell-length}
 use Rattle.frame.specs.declared.Mark.{Mark}
 use Rattle.frame.specs.declared.Mark.TheVariants.{Command, Response, Absent}
 use Rattle.frame.specs.declared.Ax25Frame.{Ax25Frame}
-use Rattle.decode.specs.declared.Decoded.{Decoded}
 use Rattle.decode.proofs.Accepts.{Accepts, accepts}
 
 made-marked : (m : Mark) → marked (made_command m) ≡ true
@@ -70,7 +69,7 @@ unfolding route_at
 route_eight s at n = refl
 
 -- what is known of an accepted decode
-pub record Read (mode : Mode) (s : List ℕ) (d : Decoded) : Type 0 where
+pub record Read (mode : Mode) (s : List ℕ) (d : Decoding) : Type 0 where
   pub plain : Plain mode (with_mark d.frame) (info_in s d)
   pub fits : length (spell mode (with_mark d.frame) (info_in s d)) ≤ length s
   pub kept : in_use d.frame ≡ d.frame
@@ -88,7 +87,7 @@ module _ (s : List ℕ) (o : Octets s) (n : ℕ) (first : nonzero (get_or s 0 0)
       group-character g (octets-take s 7 o) (rw at (first_before (bit 0) s 0 0 (omega arith))) (rw at some)
 
   module _ (mode : Mode) (k : FrameContent) (h : PlainContent mode k) (l : length (front mode k) ≤ length (drop (end_of s + 1) s)) where
-    abbrev d : Decoded
+    abbrev d : Decoding
     d = accepted_with mode (frame_at s 0 n k) (end_of s + 1) (length s)
 
     d-plain : Plain mode (with_mark d.frame) (info_in s d)
@@ -130,10 +129,10 @@ read mode s o e =
     let after : List ℕ = drop (end_of s + 1) s in
     let at = made s o a.count a.first a.end_in a.long a.counted a.few mode a.kind
     (content-plain mode after (octets-drop s (end_of s + 1) o) a.kind a.read) (content_fits mode after a.kind a.read) in
-    subst (λ (d : Decoded). Read mode s d) (sym a.made) at
+    subst (λ (d : Decoding). Read mode s d) (sym a.made) at
 
 -- the octets of an accepted input that the check looks at stand in it, and so does the info
-pub record Inside (s : List ℕ) (d : Decoded) : Type 0 where
+pub record Inside (s : List ℕ) (d : Decoding) : Type 0 where
   pub few : d.frame.route_count ≤ 8
   pub groups : 14 + 7 * d.frame.route_count < length s
   pub info : d.info_start + d.info_len ≤ length s
@@ -154,9 +153,9 @@ inside_made mode s a =
     }
 
 pub inside : (mode : Mode) (s : List ℕ) → is_accepted (decode mode s).answer ≡ true → Inside s (decode mode s)
-inside mode s e = let a = accepts mode s e in subst (λ (d : Decoded). Inside s d) (sym a.made) (inside_made mode s a)
+inside mode s e = let a = accepts mode s e in subst (λ (d : Decoding). Inside s d) (sym a.made) (inside_made mode s a)
 
-pub info-length : (s : List ℕ) (d : Decoded) → Inside s d → length (info_in s d) ≡ d.info_len
+pub info-length : (s : List ℕ) (d : Decoding) → Inside s d → length (info_in s d) ≡ d.info_len
 info-length s d i = length-take-le d.info_len (drop d.info_start s) (rw length-drop (omega (arith, i.info)))
 
 -- the stations of an accepted frame are plain

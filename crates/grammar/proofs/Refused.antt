@@ -18,9 +18,8 @@ use Rattle.octets.specs.Outcome.{octets_by}
 use Rattle.frame.specs.Write.{write_answer, octets_written}
 use Rattle.frame.specs.declared.WriteError.{WriteError}
 use Rattle.frame.specs.declared.WriteError.TheVariants as write
-use Rattle.decode.specs.Read.{end_of, frame_at, refused_with, accepted_with, decode}
+use Rattle.decode.specs.Read.{end_of, frame_at, refused_with, accepted_with, decode, Decoding}
 use Rattle.frame.specs.declared.Ax25Frame.{Ax25Frame}
-use Rattle.decode.specs.declared.Decoded.{Decoded}
 use Rattle.decode.proofs.Accepts.{Accepts, accepts}
 use Rattle.decode.proofs.Refusals.{refused_is}
 use Rattle.frame.proofs.Write.{accepted_taken}
@@ -30,11 +29,11 @@ pub refused_parts : (mode : Mode) (s : List ℕ) → is_accepted (decode mode s)
 unfolding refused_with
 refused_parts mode s e =
     let r = refused_is mode s e in
-    (ap (λ (d : Decoded). d.frame) r, ap (λ (d : Decoded). d.info_start) r, ap (λ (d : Decoded). d.info_len) r)
+    (ap (λ (d : Decoding). d.frame) r, ap (λ (d : Decoding). d.info_start) r, ap (λ (d : Decoding). d.info_len) r)
 
 made_kind : (mode : Mode) (s : List ℕ) (a : Accepts mode s (decode mode s)) → (decode mode s).frame.content ≡ a.kind
 unfolding accepted_with frame_at
-made_kind mode s a = ap (λ (d : Decoded). d.frame.content) a.made
+made_kind mode s a = ap (λ (d : Decoding). d.frame.content) a.made
 
 pub default_known : default_frame.content ≡ kind.UnknownContent → ⊥
 unfolding default_frame simple_ui

@@ -15,7 +15,7 @@ use Rattle.content.specs.Refused.{stray_info}
 use Rattle.content.proofs.Laws.{plain_pid_lem, plain-frmr}
 use Rattle.control.specs.declared.Mode.{Mode}
 use Rattle.decode.specs.Answer.{is_accepted}
-use Rattle.decode.specs.Read.{end_of, accepted_with, decode, info_in}
+use Rattle.decode.specs.Read.{end_of, accepted_with, decode, info_in, Decoding}
 use Rattle.frame.specs.Write.{route_encodable, frame_encodable, content_answer, write_answer, written}
 use Rattle.std.specs.Prelude.{Result, Ok, Err}
 use Rattle.octets.specs.Outcome.{giving}
@@ -27,7 +27,6 @@ use Rattle.frame.specs.declared.Mark.{Mark}
 use Rattle.frame.specs.declared.Mark.TheVariants.{Command, Response, Absent}
 use Rattle.frame.specs.declared.RouteEntry.{RouteEntry}
 use Rattle.frame.specs.declared.Ax25Frame.{Ax25Frame}
-use Rattle.decode.specs.declared.Decoded.{Decoded}
 use Rattle.decode.proofs.Accepts.{accepts}
 use Rattle.grammar.proofs.Back.{after-field, decode-spell}
 use Rattle.grammar.proofs.Plain.{read}
@@ -75,7 +74,7 @@ use_mark f e = ap with_mark e
 
 pub accepted-spell : (mode : Mode) (f : Ax25Frame) (i : List ℕ) → Plain mode f i → is_accepted (decode mode (spell mode f i)).answer ≡ true
 unfolding accepted_with
-accepted-spell mode f i p = ap (λ (d : Decoded). is_accepted d.answer) (decode-spell mode f i p)
+accepted-spell mode f i p = ap (λ (d : Decoding). is_accepted d.answer) (decode-spell mode f i p)
 
 -- of a plain frame writing refuses nothing but too little room
 plain_route : (route : List RouteEntry) (n : ℕ) → ((i : ℕ) → i < n → PlainAddress (repeater_at route i).repeater) → route_encodable route n ≡ true

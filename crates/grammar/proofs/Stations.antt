@@ -11,8 +11,7 @@ use Rattle.control.specs.declared.Mode.{Mode}
 use Rattle.group.proofs.Laws.{reserved_last}
 use Rattle.address.specs.declared.Address.{Address}
 use Rattle.decode.specs.Answer.{is_accepted}
-use Rattle.decode.specs.Read.{end_of, group_at, parsed_at, frame_at, accepted_with, decode, info_in}
-use Rattle.decode.specs.declared.Decoded.{Decoded}
+use Rattle.decode.specs.Read.{end_of, group_at, parsed_at, frame_at, accepted_with, decode, info_in, Decoding}
 use Rattle.decode.proofs.Accepts.{Accepts, accepts}
 use Rattle.frame.specs.Spell.{spell, Plain, with_mark, in_use}
 use Rattle.frame.specs.declared.RouteEntry.{RouteEntry}
@@ -29,7 +28,7 @@ unfolding parsed_at
 at_group s at = reserved_last (group_at s at) ∙ ap (field 5 2) (get_d_part 7 at s 6 0 (omega arith))
 
 module _ (mode : Mode) (s : List ℕ) (a : Accepts mode s (decode mode s)) where
-  abbrev d : Decoded
+  abbrev d : Decoding
   d = accepted_with mode (frame_at s 0 a.count a.kind) (end_of s + 1) (length s)
 
   station_made : (j : ℕ) → j < a.count + 2 → station_at d.frame j ≡ (parsed_at s (7 * j)).address
@@ -46,7 +45,7 @@ module _ (mode : Mode) (s : List ℕ) (a : Accepts mode s (decode mode s)) where
 
 -- those of an accepted input are the frame's
 pub reserved_read : (mode : Mode) (s : List ℕ) → is_accepted (decode mode s).answer ≡ true → Reserves s (decode mode s).frame
-reserved_read mode s e = let a = accepts mode s e in subst (λ (d : Decoded). Reserves s d.frame) (sym a.made) (reserved_made mode s a)
+reserved_read mode s e = let a = accepts mode s e in subst (λ (d : Decoding). Reserves s d.frame) (sym a.made) (reserved_made mode s a)
 
 use_station : (f : Ax25Frame) (j : ℕ) → j < f.route_count + 2 → f.route_count ≤ 8 → station_at (in_use f) j ≡ station_at f j
 unfolding in_use

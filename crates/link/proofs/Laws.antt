@@ -7,10 +7,11 @@ use native.Mathlib.Omega.{arith}
 use Rattle.control.specs.declared.Mode.TheVariants.{Short}
 use Rattle.content.specs.declared.FrameContent.{FrameContent}
 use Rattle.frame.specs.declared.Ax25Frame.{Ax25Frame}
-use Rattle.decode.specs.Answer.{is_accepted}
-use Rattle.decode.specs.Read.{decode}
-use Rattle.decode.specs.declared.Decoded.{Decoded}
-use Rattle.link_record.specs.Record.{LinkAnswer, counted, refusal}
+use Rattle.decode.specs.Answer.{is_accepted, number_of as decode_number}
+use Rattle.decode.specs.declared.DecodeError.{DecodeError}
+use Rattle.decode.proofs.Read.{answer_accepted, answer_refused}
+use Rattle.decode.specs.Read.{decode, Decoding}
+use Rattle.link_record.specs.Record.{LinkAnswer, number_of, counted, refusal}
 use Rattle.link_record.specs.declared.Link.{Link}
 use Rattle.link_record.specs.declared.LinkError.TheVariants.{Refused}
 use Rattle.link_record.proofs.Laws.{takes, counted_is}
@@ -21,6 +22,7 @@ use Rattle.link_frame.specs.declared.Verdict.{Verdict}
 use Rattle.link_frame.specs.declared.Verdict.TheVariants.{InOrder, Repeated, Gap, Outside}
 use Rattle.link_frame.proofs.Laws.{Within, is_counted, is_numbered, heard_as_lem, heard_kept, heard_within, heard-counted}
 use Rattle.link.specs.Step.{is_from_to, sender_in, sender_of, tallied, counted_as, after_hearing, followed_by, followed, offered_to, step_by, step_of}
+use Rattle.link.specs.declared.Stepped.{Stepped}
 use Rattle.std.proofs.Common.{Option, Some, None, Ok, Err}
 
 -- who sent a frame
@@ -52,14 +54,25 @@ module _ (l : Link) (s : List ℕ) where
   sent_by e = rw e refl
 
 -- what is decoded, and what is refused
-module _ (l : Link) (d : Decoded) where
+module _ (l : Link) (d : Decoding) where
   pub offered_frame : is_accepted d.answer ≡ true → offered_to l d ≡ record { answer = Ok tt; link = followed l d.frame }
   unfolding offered_to
-  offered_frame e = rw e refl
+  offered_frame e = rw (answer_accepted d.answer e) refl
 
-  pub offered-refused : is_accepted d.answer ≡ false → offered_to l d ≡ record { answer = Err (Refused d.answer); link = counted_as None l }
+  pub offered-refused : (r : DecodeError) → d.answer ≡ Err r → offered_to l d ≡ record { answer = Err (Refused r); link = counted_as None l }
   unfolding offered_to
-  offered-refused e = rw e refl
+  offered-refused r e = rw e refl
+
+  -- whatever it is refused for
+  pub refused_number : is_accepted d.answer ≡ false → number_of (offered_to l d).answer ≡ decode_number d.answer
+  refused_number e =
+      let p = answer_refused d.answer e in
+      ap (λ (t : Stepped). number_of t.answer) (offered-refused p.0 p.1) ∙ ap decode_number (sym p.1)
+
+  pub refused_link_lem : is_accepted d.answer ≡ false → (offered_to l d).link ≡ counted_as None l
+  refused_link_lem e =
+      let p = answer_refused d.answer e in
+      ap (λ (t : Stepped). t.link) (offered-refused p.0 p.1)
 
 -- a step by the record's refusal
 pub step_by_lem : (l : Link) (s : List ℕ) (a : LinkAnswer) → a ≡ refusal l → step_by a l s ≡ step_of l s

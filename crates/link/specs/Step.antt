@@ -4,9 +4,8 @@ use Rattle.control.specs.declared.Mode.TheVariants.{Short}
 use Rattle.address.specs.declared.Address.{Address}
 use Rattle.content.specs.declared.FrameContent.{FrameContent}
 use Rattle.frame.specs.declared.Ax25Frame.{Ax25Frame}
-use Rattle.decode.specs.Answer.{is_accepted}
-use Rattle.decode.specs.Read.{decode}
-use Rattle.decode.specs.declared.Decoded.{Decoded}
+use Rattle.decode.specs.Answer.{DecodeAnswer, is_accepted}
+use Rattle.decode.specs.Read.{decode, Decoding}
 use Rattle.hops.specs.Station.{same_station}
 use Rattle.link_record.specs.Record.{LinkAnswer, refusal}
 use Rattle.link_record.specs.declared.Link.{Link}
@@ -68,11 +67,12 @@ unfoldable pub followed : Link → Ax25Frame → Link
 followed l f = followed_by (sender_in l f) f.content l
 
 -- with what decoding gives in hand: its number, and only the number offered changes; or the frame
-unfoldable pub offered_to : Link → Decoded → Stepped
-offered_to l d =
-    cond (is_accepted d.answer)
-    (record { answer = Ok tt; link = followed l d.frame })
-    (record { answer = Err (Refused d.answer); link = counted_as None l })
+abbrev pub offered_by : Link → DecodeAnswer → Ax25Frame → Stepped
+offered_by l (Ok u) f = record { answer = Ok tt; link = followed l f }
+offered_by l (Err e) f = record { answer = Err (Refused e); link = counted_as None l }
+
+unfoldable pub offered_to : Link → Decoding → Stepped
+offered_to l d = offered_by l d.answer d.frame
 
 -- with the record's own refusal in hand: 22, 72, 73 and 71 change nothing
 abbrev pub step_by : LinkAnswer → Link → List ℕ → Stepped

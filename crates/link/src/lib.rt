@@ -8,7 +8,6 @@ ghost use Rattle.link.specs.Step.{is_from_to, sender_in, sender_of, counted_as, 
 
 use address::Address;
 use control::Mode;
-use decode::DecodeAnswer;
 use frame::Ax25Frame;
 use link_frame::{Side, Verdict};
 use link_record::{Link, LinkError};
@@ -53,8 +52,7 @@ fn sender_in(link: Link, frame: Ax25Frame) -> Option<Side>
 pub fn sender_of(link: Link, frame: &[u8]) -> Option<Side>
     ensures { result ≡ sender_of link frame.now }
 {
-    let decoded = reading::from_bytes(Mode::Short, frame);
-    let DecodeAnswer::Accepted = decoded.answer else {
+    let Ok(decoded) = reading::from_bytes(Mode::Short, frame) else {
         return None;
     };
     sender_in(link, decoded.frame)
@@ -104,17 +102,15 @@ fn followed(open: Open, frame: Ax25Frame) -> Link
 fn offered_to(open: Open, frame: &[u8]) -> Stepped
     ensures { result ≡ offered_to open.link (decode Mode.Short frame.now) }
 {
-    let decoded = reading::from_bytes(Mode::Short, frame);
-    let answer = decoded.answer;
-    let DecodeAnswer::Accepted = answer else {
-        return Stepped {
-            answer: Err(LinkError::Refused(answer)),
+    match reading::from_bytes(Mode::Short, frame) {
+        Ok(decoded) => Stepped {
+            answer: Ok(()),
+            link: followed(open, decoded.frame),
+        },
+        Err(error) => Stepped {
+            answer: Err(LinkError::Refused(error)),
             link: counted_as(None, open),
-        };
-    };
-    Stepped {
-        answer: Ok(()),
-        link: followed(open, decoded.frame),
+        },
     }
 }
 

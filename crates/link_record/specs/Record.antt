@@ -2,7 +2,7 @@
 use Rattle.std.specs.Prelude.{ℕ, ◌+◌, Bool, cond, ◌&&◌, ◌||◌, Result, Ok, Err, ltb, leb}
 use Rattle.address.specs.Address.{encodable}
 use Rattle.address.specs.declared.Address.{Address}
-use Rattle.decode.specs.Answer.{number_of as decode_number}
+use Rattle.decode.specs.Answer.{error_number as decode_number}
 use Rattle.octets.specs.Outcome.{number_by}
 use Rattle.hops.specs.Station.{same_station}
 use Rattle.link_record.specs.declared.Link.{Link}

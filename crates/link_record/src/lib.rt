@@ -6,7 +6,7 @@ ghost use Rattle.link_record.specs.Record.{error_number, fresh, stations_encodab
 
 use address::Address;
 use answer::Numbered;
-use decode::DecodeAnswer;
+use decode::DecodeError;
 
 // The states. A number over these is read as idle. Numbers and no enum: C's struct holds a number, which stays as it is where a frame does
 // not change it, and the code only sets it and compares it.
@@ -48,7 +48,7 @@ pub enum LinkError {
     EqualStations,
     Unsound,
     Full,
-    Refused(DecodeAnswer),
+    Refused(DecodeError),
 }
 
 impl Numbered for LinkError {
@@ -60,7 +60,7 @@ impl Numbered for LinkError {
             LinkError::EqualStations => 72,
             LinkError::Unsound => 73,
             LinkError::Full => 71,
-            LinkError::Refused(answer) => answer.number(),
+            LinkError::Refused(error) => error.number(),
         }
     }
 }

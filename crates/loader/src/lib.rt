@@ -5,15 +5,15 @@
 ghost use Rattle.std.specs.Prelude.{◌≡◌, cond, length, length as list_length};
 ghost use Rattle.octets.specs.Splice.{splice};
 ghost use Rattle.octets.specs.Outcome.{number_by};
-ghost use Rattle.decode.specs.Answer.{report_of};
+ghost use Rattle.decode.specs.Answer.{number_of};
 ghost use Rattle.decode.specs.Read.{decode};
 ghost use Rattle.old_captures.specs.Old.{decode_old};
 ghost use Rattle.control.specs.Mode.{mode_of};
 ghost use Rattle.reason.specs.Reason.{why_of, code_of};
 ghost use Rattle.spelling.specs.Canonical.{canonical};
 ghost use Rattle.captures.specs.Capture.{filled_all};
-ghost use Rattle.respelling.specs.Reencode.{due, reencode, reencoded, report_of as reencode_report};
-ghost use Rattle.relay.specs.Relay.{relay_answer_as, relayed_as, report_of as relay_report};
+ghost use Rattle.respelling.specs.Reencode.{due, reencode, reencoded, error_number as reencode_number};
+ghost use Rattle.relay.specs.Relay.{relay_answer_as, relayed_as, error_number as relay_number};
 ghost use Rattle.kiss.specs.Write.{number_of as write_number, written, octets_written};
 ghost use Rattle.kiss_reading.specs.Answer.{number_of as read_number, port_given, octets_given};
 ghost use Rattle.kiss_reading.specs.Read.{read_into};
@@ -32,20 +32,18 @@ use link_record::Link;
 // The decode number.
 #[unsafe(no_mangle)]
 pub extern "C" fn ax25_decode(input: &[u8]) -> u32
-    ensures { result ≡ (report_of (decode Mode.Short input.now).answer).number }
+    ensures { result ≡ number_of (decode Mode.Short input.now).answer }
 {
     let outline = decode::outline_of(Mode::Short, input);
-    let answer = outline.answer;
-    answer.number()
+    outline.number()
 }
 
 // The decode number of a capture that was taken while leading nulls were skipped: that of what follows them.
 #[unsafe(no_mangle)]
 pub extern "C" fn ax25_decode_old_capture(input: &[u8]) -> u32
-    ensures { result ≡ (report_of (decode_old Mode.Short input.now).answer).number }
+    ensures { result ≡ number_of (decode_old Mode.Short input.now).answer }
 {
-    let answer = old_captures::answer_of(Mode::Short, input);
-    answer.number()
+    old_captures::answer_of(Mode::Short, input).number()
 }
 
 // 1 where the input is canonical, else 0.
@@ -69,7 +67,7 @@ pub extern "C" fn ax25_reason(input: &[u8], mode: u32, number: &mut u32, place: 
     ensures number_after { number.new ≡ (why_of (mode_of mode) input.now).number }
     ensures place_after { place.new ≡ (why_of (mode_of mode) input.now).place }
 {
-    let why = reason::why_of(Mode::of_number(mode), input);
+    let why = reason::why_of(Mode::from(mode), input);
     *number = why.number;
     *place = why.place;
     let reason = why.reason;
@@ -82,7 +80,7 @@ pub extern "C" fn ax25_reason(input: &[u8], mode: u32, number: &mut u32, place: 
 pub extern "C" fn ax25_captures(input: &[u8], mode: u32, records: &mut [CaptureRecord])
     ensures { records.new ≡ filled_all (mode_of mode) input.now records.old }
 {
-    captures::fill(Mode::of_number(mode), input, records)
+    captures::fill(Mode::from(mode), input, records)
 }
 
 // How many octets re-encoding gives; 0 where the input is refused.
@@ -96,23 +94,20 @@ pub extern "C" fn ax25_reencoded_length(input: &[u8]) -> usize
 // The input re-encoded at the start of the output: the decode number, or 24, or 0. A refusal leaves the output alone.
 #[unsafe(no_mangle)]
 pub extern "C" fn ax25_reencode(input: &[u8], output: &mut [u8]) -> u32
-    ensures value { result ≡ (reencode_report (reencode Mode.Short input.now (length output.old)).answer).number }
+    ensures value { result ≡ number_by reencode_number (reencode Mode.Short input.now (length output.old)) }
     ensures output_after { output.new ≡ splice output.old 0 (reencoded Mode.Short input.now (length output.old)) }
 {
-    let done = respelling::reencode(Mode::Short, input, output);
-    let answer = done.answer;
-    answer.number()
+    respelling::reencode(Mode::Short, input, output).number()
 }
 
 // Our mark set in the lent frame, where the repeater that is due is ours: 22, or the decode number, or 41, 43, 42 or 0. A refusal leaves
 // the frame alone.
 #[unsafe(no_mangle)]
 pub extern "C" fn ax25_relay(callsign: &[u8], ssid: u8, frame: &mut [u8]) -> u32
-    ensures value { result ≡ (relay_report (relay_answer_as callsign.now ssid frame.old)).number }
+    ensures value { result ≡ number_by relay_number (relay_answer_as callsign.now ssid frame.old) }
     ensures frame_after { frame.new ≡ relayed_as callsign.now ssid frame.old }
 {
-    let answer = relay::relay_as(callsign, ssid, frame);
-    answer.number()
+    relay::relay_as(callsign, ssid, frame).number()
 }
 
 // One whole KISS packet read: its data to the start of the output, its port and the data's length to where they are lent. A refusal

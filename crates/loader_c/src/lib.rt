@@ -5,15 +5,15 @@
 ghost use Rattle.std.specs.Prelude.{◌≡◌, cond, length, length as list_length};
 ghost use Rattle.octets.specs.Splice.{splice};
 ghost use Rattle.octets.specs.Outcome.{number_by};
-ghost use Rattle.decode.specs.Answer.{report_of};
+ghost use Rattle.decode.specs.Answer.{number_of};
 ghost use Rattle.decode.specs.Read.{decode};
 ghost use Rattle.old_captures.specs.Old.{decode_old};
 ghost use Rattle.control.specs.Mode.{mode_of};
 ghost use Rattle.reason.specs.Reason.{why_of, code_of};
 ghost use Rattle.spelling.specs.Canonical.{canonical};
 ghost use Rattle.captures.specs.Capture.{filled_all};
-ghost use Rattle.respelling.specs.Reencode.{due, reencode, reencoded, report_of as reencode_report};
-ghost use Rattle.relay.specs.Relay.{relay_answer_as, relayed_as, report_of as relay_report};
+ghost use Rattle.respelling.specs.Reencode.{due, reencode, reencoded, error_number as reencode_number};
+ghost use Rattle.relay.specs.Relay.{relay_answer_as, relayed_as, error_number as relay_number};
 ghost use Rattle.kiss.specs.Write.{number_of as write_number, written, octets_written};
 ghost use Rattle.kiss_reading.specs.Answer.{number_of as read_number, port_given, octets_given};
 ghost use Rattle.kiss_reading.specs.Read.{read_into};
@@ -29,14 +29,14 @@ use link_record::Link;
 
 #[unsafe(no_mangle)]
 pub extern "C" fn ax25_decode(input: &[u8]) -> u32
-    ensures { result ≡ (report_of (decode Mode.Short input.now).answer).number }
+    ensures { result ≡ number_of (decode Mode.Short input.now).answer }
 {
     loader::ax25_decode(input)
 }
 
 #[unsafe(no_mangle)]
 pub extern "C" fn ax25_decode_old_capture(input: &[u8]) -> u32
-    ensures { result ≡ (report_of (decode_old Mode.Short input.now).answer).number }
+    ensures { result ≡ number_of (decode_old Mode.Short input.now).answer }
 {
     loader::ax25_decode_old_capture(input)
 }
@@ -73,7 +73,7 @@ pub extern "C" fn ax25_reencoded_length(input: &[u8]) -> usize
 
 #[unsafe(no_mangle)]
 pub extern "C" fn ax25_reencode(input: &[u8], output: &mut [u8]) -> u32
-    ensures value { result ≡ (reencode_report (reencode Mode.Short input.now (length output.old)).answer).number }
+    ensures value { result ≡ number_by reencode_number (reencode Mode.Short input.now (length output.old)) }
     ensures output_after { output.new ≡ splice output.old 0 (reencoded Mode.Short input.now (length output.old)) }
 {
     loader::ax25_reencode(input, output)
@@ -81,7 +81,7 @@ pub extern "C" fn ax25_reencode(input: &[u8], output: &mut [u8]) -> u32
 
 #[unsafe(no_mangle)]
 pub extern "C" fn ax25_relay(callsign: &[u8], ssid: u8, frame: &mut [u8]) -> u32
-    ensures value { result ≡ (relay_report (relay_answer_as callsign.now ssid frame.old)).number }
+    ensures value { result ≡ number_by relay_number (relay_answer_as callsign.now ssid frame.old) }
     ensures frame_after { frame.new ≡ relayed_as callsign.now ssid frame.old }
 {
     loader::ax25_relay(callsign, ssid, frame)

@@ -12,11 +12,11 @@ use Rattle.octets.proofs.First.{first_le, first_skip}
 use Rattle.control.specs.declared.Mode.{Mode}
 use Rattle.decode.specs.Answer.{report_of, number_of, is_accepted}
 use Rattle.decode.specs.Read.{nonzero, start_of, end_of, decode}
-use Rattle.decode.specs.declared.Decoded.{Decoded}
-use Rattle.decode.specs.declared.DecodeAnswer.{DecodeAnswer}
-use Rattle.decode.specs.declared.DecodeAnswer.TheVariants as read
+use Rattle.decode.specs.declared.DecodeError.{DecodeError}
+use Rattle.decode.specs.declared.DecodeError.TheVariants as error
+use Rattle.std.specs.Prelude.{Ok, Err}
 use Rattle.decode.proofs.Read.{start_le_end}
-use Rattle.grammar.specs.Moved.{moved_answer, moved_info}
+use Rattle.grammar.specs.Moved.{moved_error, moved_info}
 use Rattle.grammar.proofs.Moved.{decode_at_start, ten-past, never_ten, moved-number, refused-drop, field-drop, report_inside}
 use Rattle.grammar.proofs.Plain.{inside}
 use Rattle.grammar.proofs.Refused.{refused_parts}
@@ -40,10 +40,10 @@ as_before mode s =
     let end : end_of s ≡ k + end_of t = ends s in
     rw (decode_at_start mode t (λ _. starts s), starts s)
     (by (eqb k (length s))
-    (λ e. rw (e, eq-eqb 0 (length t) (omega (arith, eqb-true k (length s) e))) (sym (refused-drop mode s k read.OnlyNullBytes)))
+    (λ e. rw (e, eq-eqb 0 (length t) (omega (arith, eqb-true k (length s) e))) (sym (refused-drop mode s k (Err error.OnlyNullBytes))))
     (λ e. rw (e, ne_eqb 0 (length t) (λ z. omega (arith, z, eqb-false k (length s) e)))
     (by (eqb (end_of s) (length s))
-    (λ b. rw (b, eq-eqb (end_of t) (length t) (omega (arith, eqb-true (end_of s) (length s) b))) (sym (refused-drop mode s k read.NoEndToAddressField)))
+    (λ b. rw (b, eq-eqb (end_of t) (length t) (omega (arith, eqb-true (end_of s) (length s) b))) (sym (refused-drop mode s k (Err error.NoEndToAddressField))))
     (λ b. let inside = eqb-false (end_of s) (length s) b in
     rw (b, ne_eqb (end_of t) (length t) (λ z. omega (arith, z, inside)), end)
     (sym (field-drop mode s k (end_of t) (omega (arith, inside, first_le (bit 0) s))))))))
@@ -60,22 +60,25 @@ without_ten mode s e =
     eqb-false (number_of (decode mode (drop (start_of s) s)).answer) 10 (never_ten mode (drop (start_of s) s) (starts s))
     (sym (moved-number (start_of s) (length s) (decode mode (drop (start_of s) s)).answer) ∙ e)
 
--- what decode_old is made of, for the functions' proofs
-pub old_answer : (mode : Mode) (s : List ℕ) → moved_answer (start_of s) (length s) (decode mode (drop (start_of s) s)).answer ≡ (decode_old mode s).answer
-unfolding decode_old
-old_answer mode s = refl
+-- what decode_old is made of, for the functions' proofs: of a refused remainder its refusal moved, of an accepted one its frame with the
+-- info moved
+module _ (mode : Mode) (s : List ℕ) where
+  abbrev rest : List ℕ
+  rest = drop (start_of s) s
 
-pub old-whole : (mode : Mode) (s : List ℕ) →
-    let d = decode mode (drop (start_of s) s) in
-    ◌≡◌ {A = Decoded} (record {
-      answer = moved_answer (start_of s) (length s) d.answer;
-      frame = d.frame;
-      info_start = moved_info (start_of s) d.info_start;
-      info_len = d.info_len;
-    })
-    (decode_old mode s)
-unfolding decode_old
-old-whole mode s = refl
+  pub old_refused : (r : DecodeError) → (decode mode rest).answer ≡ Err r → (decode_old mode s).answer ≡ Err (moved_error (start_of s) (length s) r)
+  unfolding decode_old
+  old_refused r e = rw e refl
+
+  pub old_accepted : (decode mode rest).answer ≡ Ok tt → (decode_old mode s).answer ≡ Ok tt
+  unfolding decode_old
+  old_accepted e = rw e refl
+
+  pub old_info : ((decode_old mode s).frame ≡ (decode mode rest).frame)
+      × ((decode_old mode s).info_start ≡ moved_info (start_of s) (decode mode rest).info_start)
+      × ((decode_old mode s).info_len ≡ (decode mode rest).info_len)
+  unfolding decode_old
+  old_info = (refl, refl, refl)
 
 -- the places of the remainder, counted from the capture's first octet, stand in the capture
 pub places_inside : (mode : Mode) (s : List ℕ) →
@@ -93,19 +96,3 @@ info_inside mode s =
     let l = length-drop (start_of s) s in
     let some = first_le nonzero s in
     by (is_accepted (decode mode t).answer) (λ e. omega (arith, (inside mode t e).info)) (λ e. omega (arith, (refused_parts mode t e).1))
-
--- an answer with neither start and end nor a length stays
-pub told_placeless : (k len : ℕ) (a : DecodeAnswer) → ((start end : ℕ) → a ≡ read.AddressFieldTooShort start end → ⊥) → ((n : ℕ) → a ≡ read.FrameTooShort n → ⊥)
-    → a ≡ moved_answer k len a
-told_placeless k len read.Accepted h g = refl
-told_placeless k len read.OnlyNullBytes h g = refl
-told_placeless k len read.NoEndToAddressField h g = refl
-told_placeless k len (read.AddressFieldTooShort start end) h g = absurd (h start end refl)
-told_placeless k len (read.FrameTooShort rest) h g = absurd (g rest refl)
-told_placeless k len read.MissingPidField h g = refl
-told_placeless k len read.UnrecognisedUFieldType h g = refl
-told_placeless k len read.WrongSizeFrmrInfo h g = refl
-told_placeless k len read.TooManyRepeaters h g = refl
-told_placeless k len read.LeadingNullBytes h g = refl
-told_placeless k len read.FrameRejectInLongMode h g = refl
-told_placeless k len read.MissingControlOctet h g = refl

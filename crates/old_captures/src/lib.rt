@@ -2,28 +2,27 @@
 // reads it. Nothing else in the box reads so.
 #![tactic(auto)]
 
-ghost use Rattle.std.specs.Prelude.{◌≡◌, ◌+◌, ◌^◌, ◌≤◌, ◌<◌};
-ghost use Rattle.decode.specs.Answer.{report_of};
-ghost use Rattle.grammar.specs.Moved.{moved_answer, moved_info};
+ghost use Rattle.std.specs.Prelude.{◌≡◌, Result, Ok, Err, ◌+◌, ◌^◌, ◌≤◌, ◌<◌};
+ghost use Rattle.decode.specs.Answer.{error_report};
+ghost use Rattle.decode.specs.Read.{outcome};
+ghost use Rattle.grammar.specs.Moved.{moved_error, moved_info};
 ghost use Rattle.old_captures.specs.Old.{decode_old};
 
 use control::Mode;
-use decode::{DecodeAnswer, Decoded};
+use decode::{DecodeError, Decoded};
 
-// An answer to what follows the first `nulls` of `len` octets, with its places in the whole.
-fn moved_answer(answer: DecodeAnswer, nulls: usize, len: usize) -> DecodeAnswer
-    requires { (nulls + (report_of answer).start ≤ len) × (nulls + (report_of answer).end ≤ len) }
-    ensures { result ≡ moved_answer nulls len answer }
+// A refusal of what follows the first `nulls` of `len` octets, with its places in the whole.
+fn moved_error(error: DecodeError, nulls: usize, len: usize) -> DecodeError
+    requires { (nulls + (error_report error).start ≤ len) × (nulls + (error_report error).end ≤ len) }
+    ensures { result ≡ moved_error nulls len error }
 {
-    let DecodeAnswer::AddressFieldTooShort { start, end } = answer else {
-        let DecodeAnswer::FrameTooShort { len: _ } = answer else {
-            return answer;
-        };
-        return DecodeAnswer::FrameTooShort { len };
-    };
-    DecodeAnswer::AddressFieldTooShort {
-        start: nulls + start,
-        end: nulls + end,
+    match error {
+        DecodeError::AddressFieldTooShort { start, end } => DecodeError::AddressFieldTooShort {
+            start: nulls + start,
+            end: nulls + end,
+        },
+        DecodeError::FrameTooShort { .. } => DecodeError::FrameTooShort { len },
+        _ => error,
     }
 }
 
@@ -39,29 +38,26 @@ fn moved_info(at: usize, nulls: usize) -> usize
 }
 
 // The answer alone.
-pub fn answer_of(mode: Mode, capture: &[u8]) -> DecodeAnswer
+pub fn answer_of(mode: Mode, capture: &[u8]) -> Result<(), DecodeError>
     ensures { result ≡ (decode_old mode capture.now).answer }
 {
     let nulls = search::find(capture, 0xFF);
-    let outline = decode::outline_of(mode, &capture[nulls..]);
-    let answer = outline.answer;
-    moved_answer(answer, nulls, capture.len())
+    match decode::outline_of(mode, &capture[nulls..]) {
+        Ok(_) => Ok(()),
+        Err(error) => Err(moved_error(error, nulls, capture.len())),
+    }
 }
 
 // The frame after the nulls, and where its info stands in the capture.
-pub fn from_bytes(mode: Mode, capture: &[u8]) -> Decoded
-    ensures { result ≡ decode_old mode capture.now }
+pub fn from_bytes(mode: Mode, capture: &[u8]) -> Result<Decoded, DecodeError>
+    ensures { result ≡ outcome (decode_old mode capture.now) }
 {
     let nulls = search::find(capture, 0xFF);
-    let decoded = reading::from_bytes(mode, &capture[nulls..]);
-    let answer = decoded.answer;
-    let moved = moved_answer(answer, nulls, capture.len());
-    let info_start = moved_info(decoded.info_start, nulls);
-    let frame = decoded.frame;
-    Decoded {
-        answer: moved,
-        frame,
-        info_start,
-        info_len: decoded.info_len,
+    match reading::from_bytes(mode, &capture[nulls..]) {
+        Ok(decoded) => Ok(Decoded {
+            info_start: moved_info(decoded.info_start, nulls),
+            ..decoded
+        }),
+        Err(error) => Err(moved_error(error, nulls, capture.len())),
     }
 }

@@ -4,9 +4,11 @@
 #![tactic(auto)]
 
 ghost use Rattle.std.specs.Prelude.{◌≡◌, cond, ◌||◌, [], ◌∷◌, length};
-ghost use Rattle.text.specs.Text.{address_number_of, read_parts, read_text};
+ghost use Rattle.octets.specs.Outcome.{number_by, length_of};
+ghost use Rattle.text.specs.Text.{address_number_of, address_read, read_parts, read_text};
 ghost use Rattle.printing.specs.Print.{print_number_of, printed, printed_into};
-ghost use Rattle.decode.specs.Answer.{number_of};
+ghost use Rattle.octets.specs.Outcome.{number_by};
+ghost use Rattle.decode.specs.Answer.{error_number, number_of};
 ghost use Rattle.frame.specs.Frame.{write_number, simple_ui, default_frame};
 ghost use Rattle.decode.specs.Read.{decode};
 ghost use Rattle.old_captures.specs.Old.{decode_old};
@@ -20,13 +22,15 @@ ghost use Rattle.hops.specs.Station.{same_station};
 ghost use Rattle.octets.specs.Splice.{splice};
 ghost use Rattle.flat.specs.Laid.{address_flat, flat_of};
 ghost use Rattle.flat.specs.Given.{address_at, content_at, frame_from};
-ghost use Rattle.probe.specs.Places.{places_of};
+ghost use Rattle.probe.specs.Places.{places_of, places_in, shown};
 ghost use Rattle.probe.specs.Calls.{lacks, answers, leaves, leaves_by, read_flat, hops_of};
 
+use address::Address;
 use answer::Numbered;
 use control::Mode;
-use decode::Decoded;
+use decode::{DecodeError, Decoded};
 use frame::Ax25Frame;
+use text::AddressError;
 
 mod places; // places.rt: the places of a decode
 
@@ -47,10 +51,14 @@ const ACCEPTED: u32 = 0;
 const NO_ROOM: u32 = 24;
 
 // What was decoded: the number, the frame, and its places, which a refusal's details are among.
-fn put_decoded(decoded: Decoded, flat: &mut [u8], places: &mut [usize]) -> u32
-    ensures value { result ≡ answers (lacks flat.old 102 || lacks places.old 5) (number_of decoded.answer) }
-    ensures flat_after { flat.new ≡ leaves_by (lacks flat.old 102 || lacks places.old 5) (number_of decoded.answer) flat.old (flat_of decoded.frame) }
-    ensures places_after { places.new ≡ leaves (lacks flat.old 102 || lacks places.old 5) places.old (places_of decoded) }
+fn put_decoded(
+    decoded: Result<Decoded, DecodeError>,
+    flat: &mut [u8],
+    places: &mut [usize],
+) -> u32
+    ensures value { result ≡ answers (lacks flat.old 102 || lacks places.old 5) (number_by error_number decoded) }
+    ensures flat_after { flat.new ≡ leaves_by (lacks flat.old 102 || lacks places.old 5) (number_by error_number decoded) flat.old (flat_of (shown decoded).frame) }
+    ensures places_after { places.new ≡ leaves (lacks flat.old 102 || lacks places.old 5) places.old (places_in decoded) }
 {
     if flat.len() < FRAME {
         return NO_ROOM;
@@ -58,14 +66,13 @@ fn put_decoded(decoded: Decoded, flat: &mut [u8], places: &mut [usize]) -> u32
     if places.len() < PLACES {
         return NO_ROOM;
     }
-    let answer = decoded.answer;
     places::put_places(places, decoded);
-    let number = answer.number();
+    let number = decoded.number();
     if number != ACCEPTED {
         return number;
     }
-    let frame = decoded.frame;
-    flat::laid::put_frame(flat, frame);
+    let shown = places::shown(decoded);
+    flat::laid::put_frame(flat, shown.frame);
     number
 }
 
@@ -82,7 +89,7 @@ pub extern "C" fn probe_decode(
     ensures places_after { places.new ≡ leaves (lacks flat.old 102 || lacks places.old 5) places.old (places_of (decode (mode_of mode) input.now)) }
 {
     put_decoded(
-        reading::from_bytes(Mode::of_number(mode), input),
+        reading::from_bytes(Mode::from(mode), input),
         flat,
         places,
     )
@@ -101,7 +108,7 @@ pub extern "C" fn probe_decode_old(
     ensures places_after { places.new ≡ leaves (lacks flat.old 102 || lacks places.old 5) places.old (places_of (decode_old (mode_of mode) input.now)) }
 {
     put_decoded(
-        old_captures::from_bytes(Mode::of_number(mode), input),
+        old_captures::from_bytes(Mode::from(mode), input),
         flat,
         places,
     )
@@ -124,7 +131,7 @@ pub extern "C" fn probe_encode(
         return NO_ROOM;
     }
     let frame = flat::given::frame_from(flat);
-    let written = frame.to_bytes(Mode::of_number(mode), info, out);
+    let written = frame.to_bytes(Mode::from(mode), info, out);
     len[0] = written.unwrap_or(0);
     written.number()
 }
@@ -143,61 +150,55 @@ pub extern "C" fn probe_again(given: &[u8], flat: &mut [u8]) -> u32
     0
 }
 
-// Reads a callsign and an SSID: the number and the address.
-#[unsafe(no_mangle)]
-pub extern "C" fn probe_from_parts(callsign: &[u8], ssid: u8, flat: &mut [u8]) -> u32
-    ensures value { result ≡ answers (lacks flat.old 8) (address_number_of (read_parts callsign.now ssid).answer) }
-    ensures flat_after { flat.new ≡ leaves_by (lacks flat.old 8) (address_number_of (read_parts callsign.now ssid).answer) flat.old (address_flat (read_parts callsign.now ssid).address) }
+// What was read: the number and the address.
+fn put_read(read: Result<Address, AddressError>, flat: &mut [u8]) -> u32
+    ensures value { result ≡ answers (lacks flat.old 8) (number_by address_number_of read) }
+    ensures flat_after { flat.new ≡ leaves_by (lacks flat.old 8) (number_by address_number_of read) flat.old (address_flat (address_read read)) }
 {
     if flat.len() < ADDRESS {
         return NO_ROOM;
     }
-    let read = text::from_parts(callsign, ssid);
-    let answer = read.answer;
-    let number = answer.number();
-    if number != ACCEPTED {
-        return number;
+    match read {
+        Ok(address) => {
+            flat::laid::put_address(flat, 0, address);
+            ACCEPTED
+        }
+        Err(refusal) => refusal.number(),
     }
-    let address = read.address;
-    flat::laid::put_address(flat, 0, address);
-    number
+}
+
+// Reads a callsign and an SSID: the number and the address.
+#[unsafe(no_mangle)]
+pub extern "C" fn probe_from_parts(callsign: &[u8], ssid: u8, flat: &mut [u8]) -> u32
+    ensures value { result ≡ answers (lacks flat.old 8) (number_by address_number_of (read_parts callsign.now ssid)) }
+    ensures flat_after { flat.new ≡ leaves_by (lacks flat.old 8) (number_by address_number_of (read_parts callsign.now ssid)) flat.old (address_flat (address_read (read_parts callsign.now ssid))) }
+{
+    put_read(text::from_parts(callsign, ssid), flat)
 }
 
 // Reads a text: the number and the address.
 #[unsafe(no_mangle)]
 pub extern "C" fn probe_from_str(text: &[u8], flat: &mut [u8]) -> u32
-    ensures value { result ≡ answers (lacks flat.old 8) (address_number_of (read_text text.now).answer) }
-    ensures flat_after { flat.new ≡ leaves_by (lacks flat.old 8) (address_number_of (read_text text.now).answer) flat.old (address_flat (read_text text.now).address) }
+    ensures value { result ≡ answers (lacks flat.old 8) (number_by address_number_of (read_text text.now)) }
+    ensures flat_after { flat.new ≡ leaves_by (lacks flat.old 8) (number_by address_number_of (read_text text.now)) flat.old (address_flat (address_read (read_text text.now))) }
 {
-    if flat.len() < ADDRESS {
-        return NO_ROOM;
-    }
-    let read = text::from_str(text);
-    let answer = read.answer;
-    let number = answer.number();
-    if number != ACCEPTED {
-        return number;
-    }
-    let address = read.address;
-    flat::laid::put_address(flat, 0, address);
-    number
+    put_read(text::from_str(text), flat)
 }
 
 // Prints a flat address: the number, the text, and how long it is.
 #[unsafe(no_mangle)]
 pub extern "C" fn probe_print(flat: &[u8], out: &mut [u8], len: &mut [usize]) -> u32
-    ensures value { result ≡ answers (lacks len.old 1) (print_number_of (printed (address_at flat.now 0) (length out.old)).answer) }
+    ensures value { result ≡ answers (lacks len.old 1) (number_by print_number_of (printed (address_at flat.now 0) (length out.old))) }
     ensures out_after { out.new ≡ cond (lacks len.old 1) out.old (printed_into (address_at flat.now 0) out.old) }
-    ensures len_after { len.new ≡ leaves (lacks len.old 1) len.old ((printed (address_at flat.now 0) (length out.old)).length ∷ []) }
+    ensures len_after { len.new ≡ leaves (lacks len.old 1) len.old (length_of (printed (address_at flat.now 0) (length out.old)) ∷ []) }
 {
     if len.len() < 1 {
         return NO_ROOM;
     }
     let address = flat::given::address_from(flat);
     let printed = printing::print(address, out);
-    let answer = printed.answer;
-    len[0] = printed.length;
-    answer.number()
+    len[0] = printed.unwrap_or(0);
+    printed.number()
 }
 
 // The simple UI frame of two flat addresses.
@@ -239,7 +240,7 @@ pub extern "C" fn probe_content(mode: u32, input: &[u8], flat: &mut [u8]) -> u32
     if flat.len() < CONTENT {
         return NO_ROOM;
     }
-    match parse::parse_content(Mode::of_number(mode), input) {
+    match parse::parse_content(Mode::from(mode), input) {
         Ok(content) => {
             flat::laid::put_content(flat, content);
             0
@@ -265,7 +266,7 @@ pub extern "C" fn probe_content_encode(
         return NO_ROOM;
     }
     let given = flat::given::content_from(content);
-    let written = encoding::encode(Mode::of_number(mode), given, info, out);
+    let written = encoding::encode(Mode::from(mode), given, info, out);
     len[0] = written.unwrap_or(0);
     written.number()
 }

@@ -4,11 +4,13 @@
 #![tactic(auto)]
 
 ghost use Rattle.std.specs.Prelude.{◌≡◌, cond, length as list_length};
+ghost use Rattle.octets.specs.Outcome.{number_by, length_of};
 ghost use Rattle.octets.specs.Splice.{splice};
 ghost use Rattle.control.specs.Mode.{mode_of};
 ghost use Rattle.spelling.specs.Canonical.{canonical};
-ghost use Rattle.respelling.specs.Reencode.{reencode, reencoded, report_of};
+ghost use Rattle.respelling.specs.Reencode.{reencode, reencoded, error_number};
 
+use answer::Numbered;
 use control::Mode;
 
 // 1 where the input is canonical, else 0.
@@ -16,7 +18,7 @@ use control::Mode;
 pub extern "C" fn probe_canonical(mode: u32, input: &[u8]) -> u32
     ensures { result ≡ cond (canonical (mode_of mode) input.now) 1 0 }
 {
-    if spelling::is_canonical(Mode::of_number(mode), input) {
+    if spelling::is_canonical(Mode::from(mode), input) {
         1
     } else {
         0
@@ -31,12 +33,11 @@ pub extern "C" fn probe_reencode(
     output: &mut [u8],
     length: &mut usize,
 ) -> u32
-    ensures value { result ≡ (report_of (reencode (mode_of mode) input.now (list_length output.old)).answer).number }
+    ensures value { result ≡ number_by error_number (reencode (mode_of mode) input.now (list_length output.old)) }
     ensures output_after { output.new ≡ splice output.old 0 (reencoded (mode_of mode) input.now (list_length output.old)) }
-    ensures length_after { length.new ≡ (reencode (mode_of mode) input.now (list_length output.old)).length }
+    ensures length_after { length.new ≡ length_of (reencode (mode_of mode) input.now (list_length output.old)) }
 {
-    let done = respelling::reencode(Mode::of_number(mode), input, output);
-    *length = done.length;
-    let answer = done.answer;
-    answer.number()
+    let done = respelling::reencode(Mode::from(mode), input, output);
+    *length = done.unwrap_or(0);
+    done.number()
 }

@@ -4,14 +4,17 @@
 ghost use Rattle.std.specs.Prelude.{◌≡◌, ◌≤◌, ◌<◌, length};
 ghost use Rattle.frame.specs.Spell.{marked};
 ghost use Rattle.decode.specs.Read.{command_of};
+ghost use Rattle.decode.specs.Answer.{error_number};
 ghost use Rattle.decode.specs.Outline.{outline_of};
 ghost use Rattle.reason.specs.Reason.{first_of, accepted_reason, reason_of, judged_of, place_of, why_of, code_of};
 
+use answer::Numbered;
 use control::Mode;
-use decode::{DecodeAnswer, Outline};
+use decode::{DecodeError, Outline};
 
-// Of an accepted input that there is none, or the first that holds in this order; of any other that it is refused.
-#[derive(Clone, Copy)]
+// Of an accepted input that there is none, or the first that holds in this order; of any other that it is refused. No Option of four reasons
+// in a Result: these six are the numbers that C is given, by `code_of` in the clause `value` of its call.
+#[derive(Clone, Copy, Debug, PartialEq, Eq)]
 pub enum Reason {
     None,
     Leftover,
@@ -29,10 +32,10 @@ pub struct Why {
     pub place: usize,
 }
 
-// The outline that an input's answer is told by, and the reason that it leads to.
+// The outline of an input, or why it is refused, and the reason that it leads to.
 #[derive(Clone, Copy)]
 pub struct Judged {
-    pub outline: Outline,
+    pub outline: Result<Outline, DecodeError>,
     pub reason: Reason,
 }
 
@@ -94,15 +97,14 @@ fn accepted_reason(mode: Mode, bytes: &[u8], end: usize) -> Reason
     )
 }
 
-fn by_outline(mode: Mode, bytes: &[u8], outline: Outline) -> Reason
+fn by_outline(mode: Mode, bytes: &[u8], outline: Result<Outline, DecodeError>) -> Reason
     requires { outline ≡ outline_of mode bytes.now }
     ensures { result ≡ reason_of mode bytes.now }
 {
-    let answer = outline.answer;
-    let DecodeAnswer::Accepted = answer else {
-        return Reason::Refused;
-    };
-    accepted_reason(mode, bytes, outline.end)
+    match outline {
+        Ok(outline) => accepted_reason(mode, bytes, outline.end),
+        Err(_) => Reason::Refused,
+    }
 }
 
 // The reason alone: the canonical check and the dumper ask for no more.
@@ -121,22 +123,25 @@ pub fn judge(mode: Mode, bytes: &[u8]) -> Judged
     Judged { outline, reason }
 }
 
-// The place that a decode number is about: none of 0, 1, 2 and 10, where a ninth repeater starts of 9, the end of 3 and 4, the control octet of
-// all others. The end is searched for once more where it is wanted: a refusal's outline has none.
-fn place_of(number: u32, bytes: &[u8]) -> usize
-    ensures { result ≡ place_of number bytes.now }
+// The place that a refusal is about: none of 1, 2 and 10, where a ninth repeater starts of 9, the end of 3 and 4, the control octet of all
+// others. The end is searched for once more where it is wanted: a refusal has no outline.
+fn place_of(error: DecodeError, bytes: &[u8]) -> usize
+    ensures { result ≡ place_of (error_number error) bytes.now }
 {
-    if number < 3 || number == 10 {
-        return 0;
+    match error {
+        DecodeError::OnlyNullBytes
+        | DecodeError::NoEndToAddressField
+        | DecodeError::LeadingNullBytes => 0,
+        DecodeError::TooManyRepeaters => 70,
+        DecodeError::AddressFieldTooShort { .. } | DecodeError::FrameTooShort { .. } => {
+            search::find(bytes, 0x01)
+        }
+        DecodeError::MissingPidField
+        | DecodeError::UnrecognisedUFieldType
+        | DecodeError::WrongSizeFrmrInfo
+        | DecodeError::FrameRejectInLongMode
+        | DecodeError::MissingControlOctet => search::find(bytes, 0x01) + 1,
     }
-    if number == 9 {
-        return 70;
-    }
-    let end = search::find(bytes, 0x01);
-    if number < 5 {
-        return end;
-    }
-    end + 1
 }
 
 // The reason with the decode number and the place.
@@ -144,11 +149,17 @@ pub fn why_of(mode: Mode, bytes: &[u8]) -> Why
     ensures { result ≡ why_of mode bytes.now }
 {
     let outline = decode::outline_of(mode, bytes);
-    let answer = outline.answer;
-    let number = answer.number();
-    Why {
-        reason: by_outline(mode, bytes, outline),
-        number,
-        place: place_of(number, bytes),
+    let reason = by_outline(mode, bytes, outline);
+    match outline {
+        Ok(_) => Why {
+            reason,
+            number: 0,
+            place: 0,
+        },
+        Err(error) => Why {
+            reason,
+            number: error.number(),
+            place: place_of(error, bytes),
+        },
     }
 }

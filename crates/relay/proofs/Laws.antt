@@ -25,9 +25,11 @@ use Rattle.decode.specs.Read.{parsed_at, route_at, decode}
 use Rattle.hops.specs.Hops.{marked_at, marks, set_of, hop_set, due_place, broken}
 use Rattle.hops.proofs.Laws.{marked_in, hop-set_is}
 use Rattle.grammar.proofs.Marks.{route, place_read}
-use Rattle.relay.specs.declared.RelayAnswer.{RelayAnswer}
-use Rattle.relay.specs.declared.RelayAnswer.TheVariants.{Relayed, NotEncodable, Refused, RouteUsedUp, BrokenMarks, AnotherStation}
-use Rattle.relay.specs.Relay.{or_mark, ours, due_answer, relay_answer, left_by, relayed, station_of, relay_answer_as, relayed_as}
+use Rattle.std.specs.Prelude.{Ok, Err}
+use Rattle.decode.specs.declared.DecodeError.{DecodeError}
+use Rattle.decode.proofs.Read.{answer_accepted}
+use Rattle.relay.specs.declared.RelayError.TheVariants.{NotEncodable, Refused, RouteUsedUp, BrokenMarks, AnotherStation}
+use Rattle.relay.specs.Relay.{RelayAnswer, or_mark, ours, due_answer, relay_answer, left_by, relayed, station_of, relay_answer_as, relayed_as}
 
 -- the mark of a place, shifted down, is what its bit adds to the set
 shifted : (b : ℕ) → b < 256 → b / 128 ≡ flag 0 (mark_set b)
@@ -62,34 +64,34 @@ module _ (s : List ℕ) (e : is_accepted (decode Short s).answer ≡ true) where
   due_read h = let r = route Short s e in rw r.read (place_read s 14 n (due_place (decode Short s).frame) h r.few).0
 
 -- how the due place answers
-pub due_none : (own : Address) (f : Ax25Frame) → due_place f ≡ f.route_count → due_answer own f ≡ RouteUsedUp
+pub due_none : (own : Address) (f : Ax25Frame) → due_place f ≡ f.route_count → due_answer own f ≡ Err RouteUsedUp
 unfolding due_answer
 due_none own f e = simp (eq-eqb (due_place f) f.route_count e)
 
-pub due-broken : (own : Address) (f : Ax25Frame) → (due_place f ≡ f.route_count → ⊥) → broken f ≡ true → due_answer own f ≡ BrokenMarks
+pub due-broken : (own : Address) (f : Ax25Frame) → (due_place f ≡ f.route_count → ⊥) → broken f ≡ true → due_answer own f ≡ Err BrokenMarks
 unfolding due_answer
 due-broken own f n b = simp (ne_eqb (due_place f) f.route_count n, b)
 
-pub due-other : (own : Address) (f : Ax25Frame) → (due_place f ≡ f.route_count → ⊥) → broken f ≡ false → ours own f ≡ false → due_answer own f ≡ AnotherStation
+pub due-other : (own : Address) (f : Ax25Frame) → (due_place f ≡ f.route_count → ⊥) → broken f ≡ false → ours own f ≡ false → due_answer own f ≡ Err AnotherStation
 unfolding due_answer
 due-other own f n b e = simp (ne_eqb (due_place f) f.route_count n, b, e)
 
-pub due-ours : (own : Address) (f : Ax25Frame) → (due_place f ≡ f.route_count → ⊥) → broken f ≡ false → ours own f ≡ true → due_answer own f ≡ Relayed
+pub due-ours : (own : Address) (f : Ax25Frame) → (due_place f ≡ f.route_count → ⊥) → broken f ≡ false → ours own f ≡ true → due_answer own f ≡ Ok tt
 unfolding due_answer
 due-ours own f n b e = simp (ne_eqb (due_place f) f.route_count n, b, e)
 
 -- the answer in its order, and what each leaves
-pub relay_stranger : (own : Address) (s : List ℕ) → encodable own ≡ false → relay_answer own s ≡ NotEncodable
+pub relay_stranger : (own : Address) (s : List ℕ) → encodable own ≡ false → relay_answer own s ≡ Err NotEncodable
 unfolding relay_answer
 relay_stranger own s h = simp h
 
-pub relay-refused : (own : Address) (s : List ℕ) → encodable own ≡ true → is_accepted (decode Short s).answer ≡ false → relay_answer own s ≡ Refused (decode Short s).answer
+pub relay-refused : (own : Address) (s : List ℕ) (r : DecodeError) → encodable own ≡ true → (decode Short s).answer ≡ Err r → relay_answer own s ≡ Err (Refused r)
 unfolding relay_answer
-relay-refused own s h e = simp (h, e)
+relay-refused own s r h e = rw (h, e) refl
 
 pub relay-accepted : (own : Address) (s : List ℕ) → encodable own ≡ true → is_accepted (decode Short s).answer ≡ true → relay_answer own s ≡ due_answer own (decode Short s).frame
 unfolding relay_answer
-relay-accepted own s h e = simp (h, e)
+relay-accepted own s h e = rw (h, answer_accepted (decode Short s).answer e) refl
 
 pub relayed_by : (own : Address) (s : List ℕ) (a : RelayAnswer) → relay_answer own s ≡ a → relayed own s ≡ left_by a s
 unfolding relayed
@@ -116,7 +118,7 @@ pub as_station : (c : List ℕ) (ssid : ℕ) (s : List ℕ) → length c ≤ 6 �
 unfolding relay_answer_as
 as_station c ssid s h = rw (le-ltb 6 (length c) h) refl
 
-pub as-refused : (c : List ℕ) (ssid : ℕ) (s : List ℕ) → 6 < length c → relay_answer_as c ssid s ≡ NotEncodable
+pub as-refused : (c : List ℕ) (ssid : ℕ) (s : List ℕ) → 6 < length c → relay_answer_as c ssid s ≡ Err NotEncodable
 unfolding relay_answer_as
 as-refused c ssid s h = rw (lt-ltb 6 (length c) h) refl
 

@@ -2,39 +2,48 @@
 // group of the repeater that is due: the outline tells where the groups stand, and the hop set is read off the octets.
 #![tactic(auto)]
 
-ghost use Rattle.std.specs.Prelude.{◌≡◌, true, ◌+◌, ◌*◌, ◌≤◌, ◌<◌, length, get_or, set};
-ghost use Rattle.decode.specs.Answer.{is_accepted};
+ghost use Rattle.std.specs.Prelude.{◌≡◌, Ok, ◌+◌, ◌*◌, ◌≤◌, ◌<◌, length, get_or, set};
+ghost use Rattle.decode.specs.Outline.{outline_of};
 ghost use Rattle.decode.specs.Read.{parsed_at, route_at, decode};
 ghost use Rattle.hops.specs.Hops.{marks, set_of};
 ghost use Rattle.hops.specs.Station.{same_station};
-ghost use Rattle.relay.specs.Relay.{report_of, due_answer, relay_answer, or_mark, left_by, relayed, station_of, relay_answer_as, relayed_as};
+ghost use Rattle.relay.specs.Relay.{error_number, due_answer, relay_answer, or_mark, left_by, relayed, station_of, relay_answer_as, relayed_as};
+ghost use Rattle.relay.specs.declared.RelayError.TheVariants.{Refused};
 
 use address::Address;
+use answer::Numbered;
 use control::Mode;
-use decode::DecodeAnswer;
+use decode::{DecodeError, Outline};
 
-#[derive(Clone, Copy)]
-pub enum RelayAnswer {
-    Relayed,
+// Why a frame is not relayed.
+#[derive(Clone, Copy, Debug, PartialEq, Eq)]
+pub enum RelayError {
     NotEncodable,
-    Refused(DecodeAnswer),
+    Refused(DecodeError),
     RouteUsedUp,
     BrokenMarks,
     AnotherStation,
 }
 
-impl RelayAnswer {
-    pub fn number(self) -> u32
-        ensures { result ≡ (report_of self).number }
-    {
+impl Numbered for RelayError {
+    ghost number_of = { error_number };
+
+    fn number(self) -> u32 {
         match self {
-            RelayAnswer::Relayed => 0,
-            RelayAnswer::NotEncodable => 22,
-            RelayAnswer::Refused(answer) => answer.number(),
-            RelayAnswer::RouteUsedUp => 41,
-            RelayAnswer::BrokenMarks => 43,
-            RelayAnswer::AnotherStation => 42,
+            RelayError::NotEncodable => 22,
+            RelayError::Refused(error) => error.number(),
+            RelayError::RouteUsedUp => 41,
+            RelayError::BrokenMarks => 43,
+            RelayError::AnotherStation => 42,
         }
+    }
+}
+
+impl From<DecodeError> for RelayError {
+    ghost from_gives = { λ error gives. gives ≡ Refused error };
+
+    fn from(error: DecodeError) -> RelayError {
+        RelayError::Refused(error)
     }
 }
 
@@ -68,42 +77,39 @@ fn set_mark(bytes: &mut [u8], last: usize)
     bytes[last] |= 0b1000_0000;
 }
 
-// A frame that decodes, with so many repeaters.
-fn relay_due(own: Address, bytes: &mut [u8], count: usize) -> RelayAnswer
-    requires { (is_accepted (decode Mode.Short bytes.old).answer ≡ true) × (count ≡ (decode Mode.Short bytes.old).frame.route_count) }
+// A frame that decodes, with this outline.
+fn relay_due(own: Address, bytes: &mut [u8], outline: Outline) -> Result<(), RelayError>
+    requires { Ok outline ≡ outline_of Mode.Short bytes.old }
     ensures value { result ≡ due_answer own (decode Mode.Short bytes.old).frame }
     ensures bytes_after { bytes.new ≡ left_by (due_answer own (decode Mode.Short bytes.old).frame) bytes.old }
 {
+    let count = outline.route_count;
     let set = hop_set_at(bytes, 14, count);
     let due = hops::first_clear(set) as usize;
     if due == count {
-        return RelayAnswer::RouteUsedUp;
+        return Err(RelayError::RouteUsedUp);
     }
     if set >> due != 0 {
-        return RelayAnswer::BrokenMarks;
+        return Err(RelayError::BrokenMarks);
     }
     let at = 14 + 7 * due;
     if !is_ours(own, bytes, at) {
-        return RelayAnswer::AnotherStation;
+        return Err(RelayError::AnotherStation);
     }
     set_mark(bytes, at + 6);
-    RelayAnswer::Relayed
+    Ok(())
 }
 
 // Sets our mark in the lent frame, where the repeater that is due is ours. A refusal leaves the frame alone.
-pub fn relay(own: Address, bytes: &mut [u8]) -> RelayAnswer
+pub fn relay(own: Address, bytes: &mut [u8]) -> Result<(), RelayError>
     ensures value { result ≡ relay_answer own bytes.old }
     ensures bytes_after { bytes.new ≡ relayed own bytes.old }
 {
     if !own.is_encodable() {
-        return RelayAnswer::NotEncodable;
+        return Err(RelayError::NotEncodable);
     }
-    let outline = decode::outline_of(Mode::Short, bytes);
-    let answer = outline.answer;
-    let DecodeAnswer::Accepted = answer else {
-        return RelayAnswer::Refused(answer);
-    };
-    relay_due(own, bytes, outline.route_count)
+    let outline = decode::outline_of(Mode::Short, bytes)?;
+    relay_due(own, bytes, outline)
 }
 
 // A character as it is; a space past the end.
@@ -134,12 +140,12 @@ fn station_of(callsign: &[u8], ssid: u8) -> Address
 }
 
 // The same for a callsign of at most six octets, as they are.
-pub fn relay_as(callsign: &[u8], ssid: u8, bytes: &mut [u8]) -> RelayAnswer
+pub fn relay_as(callsign: &[u8], ssid: u8, bytes: &mut [u8]) -> Result<(), RelayError>
     ensures value { result ≡ relay_answer_as callsign.now ssid bytes.old }
     ensures bytes_after { bytes.new ≡ relayed_as callsign.now ssid bytes.old }
 {
     if callsign.len() > 6 {
-        return RelayAnswer::NotEncodable;
+        return Err(RelayError::NotEncodable);
     }
     let own = station_of(callsign, ssid);
     relay(own, bytes)

@@ -18,7 +18,8 @@ use Rattle.decode.specs.Answer.{is_accepted}
 use Rattle.decode.specs.Read.{route_at, command_of, decode, info_in}
 use Rattle.decode.specs.Outline.{outline_of}
 use Rattle.decode.specs.declared.Outline.{Outline}
-use Rattle.decode.proofs.Whole.{outline_end}
+use Rattle.decode.proofs.Read.{answer_accepted}
+use Rattle.decode.proofs.Whole.{outlined}
 use Rattle.frame.specs.Spell.{repeater_at, groups_of, destination_mark, address_field, spell}
 use Rattle.frame.specs.Write.{Taken}
 use Rattle.frame.proofs.Write.{spell-length, marks_differ, field_put, accepted_taken}
@@ -28,8 +29,10 @@ use Rattle.grammar.proofs.Parts.{parts}
 use Rattle.grammar.proofs.Plain.{read, inside, info-length}
 use Rattle.grammar.proofs.Respell.{mark-spell, decoded-written}
 use Rattle.spelling.specs.Canonical.{again}
-use Rattle.respelling.specs.Reencode.{due, reencode_answer, reencoded, reencode}
-use Rattle.respelling.specs.declared.ReencodeAnswer.TheVariants.{Written, Refused, NoRoom}
+use Rattle.respelling.specs.Reencode.{due, reencoded, reencode}
+use Rattle.respelling.specs.declared.ReencodeError.TheVariants.{Refused, NoRoom}
+use Rattle.decode.specs.declared.DecodeError.{DecodeError}
+use Rattle.std.specs.Prelude.{Ok, Err}
 
 -- what is due, by the decode
 pub due-accepted : (mode : Mode) (s : List ℕ) → is_accepted (decode mode s).answer ≡ true → due mode s ≡ spell mode (decode mode s).frame (info_in s (decode mode s))
@@ -41,34 +44,29 @@ unfolding due
 due-refused mode s e = simp e
 
 -- and its length, by the outline and the content
-pub due-length : (mode : Mode) (s : List ℕ) (b : Outline) (k : FrameContent) (n : ℕ) → Octets s → is_accepted (decode mode s).answer ≡ true
-    → b ≡ outline_of mode s → k ≡ (decode mode s).frame.content → n ≡ kept_of mode k (length s - (b.end + 1))
+pub due-length : (mode : Mode) (s : List ℕ) (b : Outline) (k : FrameContent) (n : ℕ) → Octets s → Ok b ≡ outline_of mode s
+    → k ≡ (decode mode s).frame.content → n ≡ kept_of mode k (length s - (b.end + 1))
     → 14 + 7 * b.route_count + n ≡ length (due mode s)
-due-length mode s b k n o e p q r =
+due-length mode s b k n o p q r =
+    let t = outlined mode s b p in
+    let e = t.accepted in
     let d = parts mode s o e in
     let l = spell-length mode (decode mode s).frame (info_in s (decode mode s)) in
-    rw (r, q, p, outline_end mode s e, due-accepted mode s e) (omega (arith, info-length s (decode mode s) (inside mode s e), d.before, d.carried))
+    rw (r, q, t.route_count, t.end, due-accepted mode s e) (omega (arith, info-length s (decode mode s) (inside mode s e), d.before, d.carried))
 
 -- a refused input is answered with its decode, and nothing is written
-pub refused_answer : (mode : Mode) (s : List ℕ) (room : ℕ) → is_accepted (decode mode s).answer ≡ false
-    → (reencode mode s room ≡ record { answer = Refused (decode mode s).answer; length = 0 }) × (reencoded mode s room ≡ [])
-unfolding reencode reencode_answer reencoded
-refused_answer mode s room e =
+pub refused_answer : (mode : Mode) (s : List ℕ) (room : ℕ) (r : DecodeError) → (decode mode s).answer ≡ Err r
+    → (reencode mode s room ≡ Err (Refused r)) × (reencoded mode s room ≡ [])
+unfolding reencode reencoded
+refused_answer mode s room r e =
     let none : ltb room 0 ≡ false = le-ltb room 0 (omega arith) in
-    (simp (e, due-refused mode s e, none), simp (due-refused mode s e, none))
+    let nothing = due-refused mode s (rw e refl) in
+    (rw e refl, rw (nothing, none) refl)
 
 -- re-encoding never needs more room than the input's length
 pub due_fits : (mode : Mode) (s : List ℕ) → Octets s → is_accepted (decode mode s).answer ≡ true → length (due mode s) ≤ length s
 due_fits mode s o e =
     rw (due-accepted mode s e, ← mark-spell mode (decode mode s).frame (info_in s (decode mode s))) (read mode s o e).fits
-
--- and written where there is room for the input's length
-pub again-room : (mode : Mode) (s : List ℕ) (room : ℕ) → Octets s → is_accepted (decode mode s).answer ≡ true → length s ≤ room
-    → (reencode_answer mode s room ≡ Written) × (reencoded mode s room ≡ again mode s)
-unfolding reencode_answer reencoded again
-again-room mode s room o e h =
-    let fits : ltb room (length (due mode s)) ≡ false = le-ltb room (length (due mode s)) (omega (arith, due_fits mode s o e)) in
-    (simp (e, fits), simp fits (due-accepted mode s e))
 
 -- what is due of an accepted input is its respelling; in any room: 24 and nothing where it is too little, else the whole
 pub due-again : (mode : Mode) (s : List ℕ) → is_accepted (decode mode s).answer ≡ true → due mode s ≡ again mode s
@@ -76,18 +74,25 @@ unfolding due
 due-again mode s e = simp e
 
 pub again-short : (mode : Mode) (s : List ℕ) (room : ℕ) → is_accepted (decode mode s).answer ≡ true → room < length (again mode s)
-    → (reencode mode s room ≡ record { answer = NoRoom; length = 0 }) × (reencoded mode s room ≡ [])
-unfolding reencode reencode_answer reencoded
+    → (reencode mode s room ≡ Err NoRoom) × (reencoded mode s room ≡ [])
+unfolding reencode reencoded
 again-short mode s room e h =
     let short : ltb room (length (again mode s)) ≡ true = lt-ltb room (length (again mode s)) h in
-    (simp (e, due-again mode s e, short), simp (due-again mode s e, short))
+    (rw (answer_accepted (decode mode s).answer e, due-again mode s e, short) refl, rw (due-again mode s e, short) refl)
 
 pub again_fits : (mode : Mode) (s : List ℕ) (room : ℕ) → is_accepted (decode mode s).answer ≡ true → length (again mode s) ≤ room
-    → (reencode mode s room ≡ record { answer = Written; length = length (again mode s) }) × (reencoded mode s room ≡ again mode s)
-unfolding reencode reencode_answer reencoded
+    → (reencode mode s room ≡ Ok (length (again mode s))) × (reencoded mode s room ≡ again mode s)
+unfolding reencode reencoded
 again_fits mode s room e h =
     let fits : ltb room (length (again mode s)) ≡ false = le-ltb room (length (again mode s)) h in
-    (simp (e, due-again mode s e, fits), simp (due-again mode s e, fits))
+    (rw (answer_accepted (decode mode s).answer e, due-again mode s e, fits) refl, rw (due-again mode s e, fits) refl)
+
+-- and written where there is room for the input's length
+pub again-room : (mode : Mode) (s : List ℕ) (room : ℕ) → Octets s → is_accepted (decode mode s).answer ≡ true → length s ≤ room
+    → (reencode mode s room ≡ Ok (length (again mode s))) × (reencoded mode s room ≡ again mode s)
+again-room mode s room o e h =
+    let fits = rw (due-again mode s e) at (due_fits mode s o e) in
+    again_fits mode s room e (omega (arith, fits, h))
 
 -- what is due is taken by writing, where there is room
 pub due_taken : (mode : Mode) (s : List ℕ) (room : ℕ) → Octets s → is_accepted (decode mode s).answer ≡ true → length (due mode s) ≤ room

@@ -1,51 +1,52 @@
 // Re-encoding: what a frame decoded and written again would be, from the input's octets straight into the output's. No frame is built.
 #![tactic(auto)]
 
-ghost use Rattle.std.specs.Prelude.{◌≡◌, true, ◌+◌, ◌-◌, ◌*◌, ◌≤◌, length};
+ghost use Rattle.std.specs.Prelude.{◌≡◌, Ok, ◌+◌, ◌-◌, ◌*◌, ◌≤◌, length};
 ghost use Rattle.octets.specs.Splice.{splice};
 ghost use Rattle.frame.specs.Spell.{groups_of, destination_mark, address_field};
-ghost use Rattle.decode.specs.Answer.{is_accepted};
 ghost use Rattle.decode.specs.Read.{end_of, route_at, command_of, decode};
 ghost use Rattle.decode.specs.Outline.{outline_of};
 ghost use Rattle.grammar.specs.Kept.{kept_of};
-ghost use Rattle.respelling.specs.Reencode.{due, reencode, reencoded, report_of};
+ghost use Rattle.respelling.specs.Reencode.{due, reencode, reencoded, error_number};
+ghost use Rattle.respelling.specs.declared.ReencodeError.TheVariants.{Refused};
 
+use answer::Numbered;
 use content::FrameContent;
 use control::Mode;
-use decode::{DecodeAnswer, Outline};
+use decode::{DecodeError, Outline};
 
-#[derive(Clone, Copy)]
-pub enum ReencodeAnswer {
-    Written,
-    Refused(DecodeAnswer),
+// Why an input is not re-encoded.
+#[derive(Clone, Copy, Debug, PartialEq, Eq)]
+pub enum ReencodeError {
+    Refused(DecodeError),
     NoRoom,
 }
 
-// What re-encoding gives: how many octets of the output are the frame.
-#[derive(Clone, Copy)]
-pub struct Reencoded {
-    pub answer: ReencodeAnswer,
-    pub length: usize,
-}
+impl Numbered for ReencodeError {
+    ghost number_of = { error_number };
 
-impl ReencodeAnswer {
-    pub fn number(self) -> u32
-        ensures { result ≡ (report_of self).number }
-    {
+    fn number(self) -> u32 {
         match self {
-            ReencodeAnswer::Written => 0,
-            ReencodeAnswer::Refused(answer) => answer.number(),
-            ReencodeAnswer::NoRoom => 24,
+            ReencodeError::Refused(error) => error.number(),
+            ReencodeError::NoRoom => 24,
         }
     }
 }
 
-// The content of an accepted input, whose control octet is at `control`.
-fn content_at(mode: Mode, bytes: &[u8], control: usize) -> FrameContent
-    requires { (is_accepted (decode mode bytes.now).answer ≡ true) × (control ≡ end_of bytes.now + 1) }
+impl From<DecodeError> for ReencodeError {
+    ghost from_gives = { λ error gives. gives ≡ Refused error };
+
+    fn from(error: DecodeError) -> ReencodeError {
+        ReencodeError::Refused(error)
+    }
+}
+
+// The content of an accepted input with this outline.
+fn content_at(mode: Mode, bytes: &[u8], outline: Outline) -> FrameContent
+    requires { Ok outline ≡ outline_of mode bytes.now }
     ensures { result ≡ (decode mode bytes.now).frame.content }
 {
-    parse::parse_content(mode, &bytes[control..]).unwrap()
+    parse::parse_content(mode, &bytes[outline.end + 1..]).unwrap()
 }
 
 // How many of the `rest` octets after the address field are kept.
@@ -62,13 +63,11 @@ fn kept_of(mode: Mode, content: FrameContent, rest: usize) -> usize
 pub fn reencoded_length(mode: Mode, bytes: &[u8]) -> usize
     ensures { result ≡ length (due mode bytes.now) }
 {
-    let outline = decode::outline_of(mode, bytes);
-    let answer = outline.answer;
-    let DecodeAnswer::Accepted = answer else {
+    let Ok(outline) = decode::outline_of(mode, bytes) else {
         return 0;
     };
     let control = outline.end + 1;
-    let content = content_at(mode, bytes, control);
+    let content = content_at(mode, bytes, outline);
     14 + 7 * outline.route_count + kept_of(mode, content, bytes.len() - control)
 }
 
@@ -91,14 +90,15 @@ fn put_route(out: &mut [u8], bytes: &[u8], count: usize)
     }
 }
 
-// The address field of an accepted input: destination, source, repeaters.
-fn put_addresses(mode: Mode, out: &mut [u8], bytes: &[u8], count: usize)
-    requires { (is_accepted (decode mode bytes.now).answer ≡ true) × (count ≡ (decode mode bytes.now).frame.route_count) × (14 + 7 * count ≤ length out.old) }
+// The address field of an accepted input with this outline: destination, source, repeaters.
+fn put_addresses(mode: Mode, out: &mut [u8], bytes: &[u8], outline: Outline)
+    requires { (Ok outline ≡ outline_of mode bytes.now) × (14 + 7 * outline.route_count ≤ length out.old) }
     ensures { out.new ≡ splice out.old 0 (address_field (decode mode bytes.now).frame) }
 {
     let to = group::mark_set(bytes[6]);
     let from = group::mark_set(bytes[13]);
     let mark = written_mark(to, from);
+    let count = outline.route_count;
     placing::respell(out, 0, bytes, 0, mark, false);
     placing::respell(out, 7, bytes, 7, !mark, count == 0);
     put_route(out, bytes, count);
@@ -113,44 +113,30 @@ fn put_due(
     content: FrameContent,
     kept: usize,
 )
-    requires { (is_accepted (decode mode bytes.now).answer ≡ true) × (outline ≡ outline_of mode bytes.now) × (content ≡ (decode mode bytes.now).frame.content) × (kept ≡ kept_of mode content (length bytes.now - (end_of bytes.now + 1))) × (length (due mode bytes.now) ≤ length out.old) }
+    requires { (Ok outline ≡ outline_of mode bytes.now) × (content ≡ (decode mode bytes.now).frame.content) × (kept ≡ kept_of mode content (length bytes.now - (end_of bytes.now + 1))) × (length (due mode bytes.now) ≤ length out.old) }
     ensures { out.new ≡ splice out.old 0 (due mode bytes.now) }
 {
-    let count = outline.route_count;
-    put_addresses(mode, out, bytes, count);
+    put_addresses(mode, out, bytes, outline);
     let control = outline.end + 1;
     let start = control + content.front_len(mode);
     let end = control + kept;
-    let at = 14 + 7 * count;
+    let at = 14 + 7 * outline.route_count;
     encoding::encode(mode, content, &bytes[start..end], &mut out[at..]).unwrap();
 }
 
 // The frame decoded and written again. Not for forwarding: what re-encoding changes is listed in README.md.
-pub fn reencode(mode: Mode, bytes: &[u8], out: &mut [u8]) -> Reencoded
+pub fn reencode(mode: Mode, bytes: &[u8], out: &mut [u8]) -> Result<usize, ReencodeError>
     ensures value { result ≡ reencode mode bytes.now (length out.old) }
     ensures out_after { out.new ≡ splice out.old 0 (reencoded mode bytes.now (length out.old)) }
 {
-    let outline = decode::outline_of(mode, bytes);
-    let answer = outline.answer;
-    let DecodeAnswer::Accepted = answer else {
-        return Reencoded {
-            answer: ReencodeAnswer::Refused(answer),
-            length: 0,
-        };
-    };
+    let outline = decode::outline_of(mode, bytes)?;
     let control = outline.end + 1;
-    let content = content_at(mode, bytes, control);
+    let content = content_at(mode, bytes, outline);
     let kept = kept_of(mode, content, bytes.len() - control);
     let length = 14 + 7 * outline.route_count + kept;
     if out.len() < length {
-        return Reencoded {
-            answer: ReencodeAnswer::NoRoom,
-            length: 0,
-        };
+        return Err(ReencodeError::NoRoom);
     }
     put_due(mode, out, bytes, outline, content, kept);
-    Reencoded {
-        answer: ReencodeAnswer::Written,
-        length,
-    }
+    Ok(length)
 }

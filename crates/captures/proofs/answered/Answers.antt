@@ -6,6 +6,7 @@ use native.Mathlib.Omega.{arith}
 use lib.ListN.{take, drop}
 use Rattle.octets.specs.Octet.{Octets}
 use Rattle.octets.proofs.Octet.{octets-take, octets-drop}
+use Rattle.decode.proofs.Read.{number_with}
 use Rattle.reason.specs.declared.Judged.{Judged}
 use Rattle.spelling.proofs.Laws.{canonical_none}
 use Rattle.captures.specs.Capture.{part_of, answered}
@@ -32,4 +33,4 @@ returns c =
     let long : a.capture.start + a.capture.length - a.capture.start ≡ a.capture.length = omega arith in
     let is : take (a.capture.start + a.capture.length - a.capture.start) (drop a.capture.start a.input.now) ≡ part =
     ap (λ (n : ℕ). take n (drop a.capture.start a.input.now)) long in
-    rw (c.kind_by.ensures, c.one_if_none.ensures, c.number.ensures, c.judge-judged.ensures, is, canonical_none a.mode part octets) refl
+    rw (c.kind_by.ensures, c.one_if_none.ensures, c.number.ensures, c.judge-judged.ensures, is, number_with, canonical_none a.mode part octets) refl

@@ -7,9 +7,9 @@ use Rattle.demand_contracts_frames.proofs.compared.Goals as goal
 pub returns : goal.returns
 returns c =
     let check = c.is_canonical.ensures in
-    let read = c.from_bytes.ensures in
+    let read = c.decoded.ensures.value in
     let check-other = c.is_canonical-2.ensures in
-    let read-other = c.from_bytes-2.ensures in
+    let read-other = c.decoded-2.ensures.value in
     record {
       nothing_unseen = rw (read, check-other, read-other)
           (λ yes. nothing-unseen _ _ _ (λ j. search rules) (λ j. search rules) (sym check ∙ yes));

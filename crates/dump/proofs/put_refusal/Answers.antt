@@ -1,7 +1,7 @@
 use Rattle.std.proofs.Common.{◌≡◌, ◌++◌, refl, ap}
 use Rattle.std.proofs.lemmas.List.{append_assoc}
-use Rattle.decode.specs.declared.DecodeAnswer.{DecodeAnswer}
-use Rattle.decode.specs.Answer.{number_of}
+use Rattle.decode.specs.Answer.{error_number}
+use Rattle.decode.specs.declared.DecodeError.{DecodeError}
 use Rattle.words.specs.Ascii.{ascii}
 use Rattle.words.specs.Words.{decimal}
 use Rattle.words.proofs.Room.{cut_then}
@@ -9,9 +9,9 @@ use Rattle.dump.specs.Dump.{detail_text, refusal_text}
 use Rattle.dump.proofs.Laws.{no_details}
 use Rattle.dump.proofs.put_refusal.Goals as goal
 
-refusal_parts : (a : DecodeAnswer) → refusal_text a ≡ ascii "answer=" ++ (decimal (number_of a) ++ (ascii "\n" ++ detail_text a))
+refusal_parts : (a : DecodeError) → refusal_text a ≡ ascii "answer=" ++ (decimal (error_number a) ++ (ascii "\n" ++ detail_text a))
 unfolding refusal_text
-refusal_parts a = rw (append_assoc (decimal (number_of a)) (ascii "\n")) refl
+refusal_parts a = rw (append_assoc (decimal (error_number a)) (ascii "\n")) refl
 
 pub returns-in-AddressFieldTooShort : goal.returns-in-AddressFieldTooShort
 returns-in-AddressFieldTooShort c =
@@ -23,4 +23,4 @@ returns-in-FrameTooShort c =
 
 pub returns-in_default : goal.returns-in_default
 returns-in_default c =
-    rw (c.put_number.ensures, c.number.ensures, refusal_parts, no_details c.args.answer c.in_default.not-AddressFieldTooShort c.in_default.not-FrameTooShort) refl
+    rw (c.put_number.ensures, c.number.ensures, refusal_parts, no_details c.args.error c.in_default.not-AddressFieldTooShort c.in_default.not-FrameTooShort) refl

@@ -1,25 +1,35 @@
 -- The answer of the remainder's outline, moved.
-use mathlib.Core.Path.{◌≡◌, refl, ap, ◌∙◌}
-use lib.ListN.{drop}
+use Rattle.std.proofs.Common.{rules, ◌≡◌, ◌∙◌, refl, sym}
+use Rattle.std.specs.Prelude.{drop}
 use Rattle.octets.proofs.Splice.{part_from}
-use Rattle.decode.specs.Read.{start_of, decode}
-use Rattle.decode.specs.declared.Outline.{Outline}
-use Rattle.decode.proofs.Read.{start-masked}
-use Rattle.old_captures.proofs.Laws.{places_inside, old_answer}
-use borrow.Author.Rules.{rules}
+use Rattle.decode.specs.Outline.{outline_of}
+use Rattle.decode.specs.Read.{start_of}
+use Rattle.decode.proofs.Read.{start-masked, answer_accepted}
+use Rattle.decode.proofs.Whole.{outlined, not_outlined}
+use Rattle.old_captures.proofs.Laws.{places_inside, old_refused, old_accepted}
 use Rattle.old_captures.proofs.answer_of.Goals as goal
-use Rattle.old_captures.proofs.answer_of.Goals.{After-outline_of-outline}
+use Rattle.old_captures.proofs.answer_of.Goals.{After-outline_of}
 
-nulls : (c : After-outline_of-outline) → c.find-nulls.result ≡ start_of c.args.capture.now
+nulls : (c : After-outline_of) → c.find-nulls.result ≡ start_of c.args.capture.now
 nulls c = c.find-nulls.ensures.value ∙ start-masked _ (λ k. search rules)
 
-answered : (c : After-outline_of-outline) →
-    let a = c.args in
-    c.outline_of-outline.result.answer ≡ (decode a.mode (drop (start_of a.capture.now) a.capture.now)).answer
-answered c = ap (λ (o : Outline). o.answer) c.outline_of-outline.ensures ∙ rw (part_from, nulls c) refl
+-- the outline is that of the remainder
+rest : (c : After-outline_of) → c.outline_of.result ≡ outline_of c.args.mode (drop (start_of c.args.capture.now) c.args.capture.now)
+rest c = c.outline_of.ensures ∙ rw (part_from, nulls c) refl
 
-pub moved_answer-requires : goal.moved_answer-requires
-moved_answer-requires c = rw (answered (goal.at.moved_answer-requires c).After-outline_of-outline, nulls (goal.at.moved_answer-requires c).After-outline_of-outline) (places_inside _ _)
+pub moved_error-requires : goal.moved_error-requires
+moved_error-requires c =
+    let o = (goal.at.moved_error-requires c).After-outline_of in
+    let r = not_outlined _ _ _ (sym c.in-Err.is ∙ rest o) in
+    rw (nulls o) (rw r at (places_inside c.args.mode c.args.capture.now))
 
-pub returns : goal.returns
-returns c = c.moved_answer.ensures ∙ rw (answered (goal.at.returns c).After-outline_of-outline, nulls (goal.at.returns c).After-outline_of-outline) (old_answer _ _)
+pub returns-in-Ok : goal.returns-in-Ok
+returns-in-Ok c =
+    let t = outlined _ _ _ (sym c.in-Ok.is ∙ rest (goal.at.returns-in-Ok c).After-outline_of) in
+    sym (old_accepted _ _ (answer_accepted _ t.accepted))
+
+pub returns-in-Err : goal.returns-in-Err
+returns-in-Err c =
+    let o = (goal.at.returns-in-Err c).After-outline_of in
+    let r = not_outlined _ _ _ (sym c.in-Err.is ∙ rest o) in
+    rw (c.moved_error.ensures, nulls o) (sym (old_refused _ _ _ r))

@@ -19,4 +19,4 @@ returns-then-number-ne-ACCEPTED c =
 
 pub returns : goal.returns
 returns c =
-    record { value = rw (le-ltb _ _ c.if-flat-lt-FRAME.false, le-ltb _ _ c.if-places-lt-PLACES.false) (rw c.number-number.ensures refl); flat_after = rw (le-ltb _ _ c.if-flat-lt-FRAME.false, le-ltb _ _ c.if-places-lt-PLACES.false) (rw (← c.number-number.ensures, eq-eqb _ _ c.if-number-ne-ACCEPTED.false) c.put_frame.ensures); places_after = rw (le-ltb _ _ c.if-flat-lt-FRAME.false, le-ltb _ _ c.if-places-lt-PLACES.false) (c.put_places.ensures) }
+    record { value = rw (le-ltb _ _ c.if-flat-lt-FRAME.false, le-ltb _ _ c.if-places-lt-PLACES.false) (rw c.number-number.ensures refl); flat_after = rw (le-ltb _ _ c.if-flat-lt-FRAME.false, le-ltb _ _ c.if-places-lt-PLACES.false) (rw (← c.number-number.ensures, eq-eqb _ _ c.if-number-ne-ACCEPTED.false, ← c.shown-shown.ensures) c.put_frame.ensures); places_after = rw (le-ltb _ _ c.if-flat-lt-FRAME.false, le-ltb _ _ c.if-places-lt-PLACES.false) (c.put_places.ensures) }

@@ -1,13 +1,13 @@
 -- The content's answer is that of the octets from the control octet on; a refusal is passed on, and what stands before the info is there.
-use mathlib.Core.Path.{◌≡◌, ◌∙◌}
-use native.Mathlib.Omega.{arith}
-use lib.ListN.{drop, length-drop}
-use Rattle.std.specs.Prelude.{Ok}
+use Rattle.std.proofs.Common.{◌≡◌, ◌∙◌, refl, sym, arith}
+use Rattle.std.specs.Prelude.{Ok, drop}
+use lib.ListN.{length-drop}
+use Rattle.std.proofs.lemmas.Result.{err_from_is_err_and}
 use Rattle.octets.proofs.Splice.{part_from}
 use Rattle.content.specs.declared.FrameContent.{FrameContent}
 use Rattle.parse.specs.Content.{content_of}
 use Rattle.parse.proofs.Read.{sized}
-use Rattle.decode.specs.Read.{frame_at, with_content}
+use Rattle.decode.specs.Read.{frame_at, with_content, refused_with}
 use Rattle.address_field.specs.Field.{framed}
 use Rattle.address_field.proofs.Laws.{framed_at}
 use Rattle.reading.proofs.decode_content.Goals as goal
@@ -15,7 +15,7 @@ use Rattle.reading.proofs.decode_content.Goals.{After-parse_content, After-parse
 
 -- the content's answer, at the octets from the control octet on
 answered : (c : After-parse_content) → content_of c.args.mode (drop c.args.control c.args.bytes.now) ≡ c.parse_content.result
-answered c = simp (c.parse_content.ensures, part_from)
+answered c = sym (c.parse_content.ensures ∙ rw part_from refl)
 
 -- the octets hold the groups
 held : (c : After-parse_frame-frame) (k : FrameContent) →
@@ -24,26 +24,23 @@ held : (c : After-parse_frame-frame) (k : FrameContent) →
 held c =
     framed_at c.args.bytes.now c.args.count c.requires.0 c.requires.1
 
+pub returns-in_err-content : goal.returns-in_err-content
+unfolding with_content refused_with
+returns-in_err-content c =
+    let p = err_from_is_err_and c.from_residual.result c.from_residual.ensures.1 in
+    rw (p.1, p.2, answered (goal.at.returns-in_err-content c).After-parse_content, c.in_err-content.was) refl
+
 pub accepted-requires : goal.accepted-requires
 unfolding frame_at
 accepted-requires c =
     let a = c.args in
     let s = drop a.control a.bytes.now in
     let is : content_of a.mode s ≡ Ok c.parse_frame-frame.result.content =
-    answered (goal.at.accepted-requires c).After-parse_content ∙ simp (c.in-Ok.is, c.parse_frame-frame.ensures, held (goal.at.accepted-requires c).After-parse_frame-frame) in
+    answered (goal.at.accepted-requires c).After-parse_content ∙ c.in_ok-content.was ∙ simp (c.parse_frame-frame.ensures, held (goal.at.accepted-requires c).After-parse_frame-frame) in
     omega (arith, length-drop a.control a.bytes.now, (sized a.mode s _ is).1)
 
-pub returns-in-Ok : goal.returns-in-Ok
+pub returns : goal.returns
 unfolding with_content
-returns-in-Ok c =
-    simp (
-      c.accepted.ensures,
-      c.parse_frame-frame.ensures,
-      held (goal.at.returns-in-Ok c).After-parse_frame-frame,
-      answered (goal.at.returns-in-Ok c).After-parse_content,
-      c.in-Ok.is,
-    )
-
-pub returns-in-Err : goal.returns-in-Err
-unfolding with_content
-returns-in-Err c = simp (c.refused.ensures, c.refusal.ensures, answered (goal.at.returns-in-Err c).After-parse_content, c.in-Err.is)
+returns c =
+    c.accepted.ensures
+    ∙ rw (c.parse_frame-frame.ensures, held (goal.at.returns c).After-parse_frame-frame, answered (goal.at.returns c).After-parse_content, c.in_ok-content.was) refl

@@ -1,18 +1,11 @@
--- A refused outline is refused; an accepted one goes on where the octets hold what it tells of.
-use Prim.Native.Nat.{◌+◌, ◌*◌, ◌≤◌}
-use mathlib.Core.Path.{◌≡◌, refl, sym, ◌∙◌}
-use mathlib.Core.Bool.{true}
-use native.Mathlib.Omega.{arith}
-use lib.ListN.{length}
-use Rattle.decode.specs.Answer.{is_accepted}
+-- The frame goes on where the octets hold what the outline tells of.
+use Rattle.std.proofs.Common.{◌≡◌, ◌∙◌, refl, sym, arith, ◌+◌, ◌*◌, ◌≤◌, length}
+use Rattle.std.specs.Prelude.{true}
+use Rattle.decode.specs.Read.{refused_with}
 use Rattle.decode.specs.Outline.{holds, decode_by}
-use Rattle.decode.proofs.Read.{told-refused}
 use Rattle.decode.proofs.Whole.{room}
 use Rattle.reading.proofs.from_outline.Goals as goal
-use Rattle.reading.proofs.from_outline.Goals.{Else-not-holds, In-Accepted}
-
-accepted : (c : In-Accepted) → is_accepted c.args.outline.answer ≡ true
-accepted c = rw c.in-Accepted.is refl
+use Rattle.reading.proofs.from_outline.Goals.{Else-not-holds}
 
 inside : (c : Else-not-holds) →
     let a = c.args in
@@ -26,13 +19,9 @@ within : (c : Else-not-holds) →
     × (a.outline.end + 1 ≤ length a.bytes.now)
 within c = room _ _ _ (inside c)
 
-pub returns-in_default : goal.returns-in_default
-unfolding decode_by
-returns-in_default c = simp (c.refused.ensures, told-refused c.args.outline.answer c.in_default.not-Accepted)
-
 pub returns-then-not-holds : goal.returns-then-not-holds
-unfolding decode_by
-returns-then-not-holds c = simp (c.refused-then-not-holds.ensures, accepted (goal.at.returns-then-not-holds c).In-Accepted, sym c.holds.ensures ∙ c.if-not-holds.true)
+unfolding decode_by refused_with
+returns-then-not-holds c = rw (sym c.holds.ensures ∙ c.if-not-holds.true) refl
 
 pub overflow_add-outline : goal.overflow_add-outline
 overflow_add-outline c = omega (arith, (within (goal.at.overflow_add-outline c).Else-not-holds).2)
@@ -42,4 +31,4 @@ decode_content-requires c = within (goal.at.decode_content-requires c).Else-not-
 
 pub returns : goal.returns
 unfolding decode_by
-returns c = simp (c.decode_content.ensures, accepted (goal.at.returns c).In-Accepted, inside (goal.at.returns c).Else-not-holds)
+returns c = c.decode_content.ensures ∙ rw (inside (goal.at.returns c).Else-not-holds) refl

@@ -1,15 +1,18 @@
--- The number is that of the outline's answer.
-use mathlib.Core.Path.{◌≡◌, refl, ap, ◌∙◌}
-use Rattle.decode.specs.Answer.{number_of}
-use Rattle.decode.specs.Read.{decode}
-use Rattle.decode.specs.declared.Outline.{Outline}
-use Rattle.reason.specs.Reason.{why_of}
+-- By whether there is an outline.
+use Rattle.std.proofs.Common.{◌≡◌, ◌∙◌, refl, sym}
+use Rattle.decode.proofs.Read.{answer_accepted}
+use Rattle.decode.proofs.Whole.{outlined, not_outlined}
+use Rattle.reason.specs.Reason.{why_of, place_of}
 use Rattle.reason.proofs.why_of.Goals as goal
-use Rattle.reason.proofs.why_of.Goals.{After-number-number}
 
-counted : (c : After-number-number) → let a = c.args in c.number-number.result ≡ number_of (decode a.mode a.bytes.now).answer
-counted c = c.number-number.ensures ∙ ap (λ (o : Outline). number_of o.answer) c.outline_of-outline.ensures
+pub returns-in-Ok : goal.returns-in-Ok
+unfolding why_of place_of
+returns-in-Ok c =
+    let t = outlined _ _ _ (sym c.in-Ok.is ∙ c.outline_of-outline.ensures) in
+    rw (c.by_outline-reason.ensures, answer_accepted _ t.accepted) refl
 
-pub returns : goal.returns
+pub returns-in-Err : goal.returns-in-Err
 unfolding why_of
-returns c = rw (c.place_of.ensures, c.by_outline.ensures, counted (goal.at.returns c).After-number-number) refl
+returns-in-Err c =
+    let t = not_outlined _ _ _ (sym c.in-Err.is ∙ c.outline_of-outline.ensures) in
+    rw (c.place_of.ensures, c.number.ensures, c.by_outline-reason.ensures, t) refl

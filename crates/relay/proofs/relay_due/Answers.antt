@@ -16,8 +16,18 @@ use Rattle.hops.specs.Station.{same_station}
 use Rattle.hops.proofs.Laws.{due_clear, due_within, broken-set}
 use Rattle.relay.specs.Relay.{ours, left_by}
 use Rattle.relay.proofs.Laws.{groups_inside, set_read, due_read, due_none, due-broken, due-other, due-ours}
+use Rattle.std.specs.Prelude.{Ok}
+use Rattle.decode.specs.Outline.{outline_of}
+use Rattle.decode.specs.declared.Outline.{Outline}
+use Rattle.decode.proofs.Whole.{outlined}
 use Rattle.relay.proofs.relay_due.Goals as goal
 use Rattle.relay.proofs.relay_due.Goals.{After-first_clear-due, Else-due-count}
+
+-- what the outline tells
+tied : (s : List ℕ) (o : Outline) → Ok o ≡ outline_of Short s → (is_accepted (decode Short s).answer ≡ true) × (o.route_count ≡ (decode Short s).frame.route_count)
+tied s o e =
+    let t = outlined Short s o e in
+    (t.accepted, t.route_count)
 
 -- the set that the loop read
 is_set : (s : List ℕ) (n set : ℕ) → (is_accepted (decode Short s).answer ≡ true) × (n ≡ (decode Short s).frame.route_count)
@@ -30,27 +40,27 @@ due_is : (s : List ℕ) (n set d : ℕ) → (is_accepted (decode Short s).answer
 due_is s n set d r e f = f ∙ rw (is_set s n set r e) (due_clear _)
 
 due : (c : After-first_clear-due) → c.first_clear-due.result ≡ due_place (decode Short c.args.bytes.now).frame
-due c = due_is _ _ _ _ c.requires c.hop_set_at-set.ensures c.first_clear-due.ensures
+due c = due_is _ _ _ _ (tied _ _ c.requires) c.hop_set_at-set.ensures c.first_clear-due.ensures
 
 due_here : (c : Else-due-count) → c.first_clear-due.result ≡ due_place (decode Short c.args.bytes.now).frame
-due_here c = due_is _ _ _ _ c.requires c.hop_set_at-set.ensures c.first_clear-due.ensures
+due_here c = due_is _ _ _ _ (tied _ _ c.requires) c.hop_set_at-set.ensures c.first_clear-due.ensures
 
 -- where some place is due: it is one of those in use, and its group stands in the octets
 inner : (c : Else-due-count) →
     let f = (decode Short c.args.bytes.now).frame in
     due_place f < f.route_count
 inner c =
-    omega (arith, due_within (decode Short c.args.bytes.now).frame, c.requires.1, due_here c, c.if-due-count.false)
+    omega (arith, due_within (decode Short c.args.bytes.now).frame, (tied _ _ c.requires).1, due_here c, c.if-due-count.false)
 
 few : (c : Else-due-count) → c.first_clear-due.result < 8
 few c =
-    omega (arith, (groups_inside _ c.requires.0).0, inner c, due_here c)
+    omega (arith, (groups_inside _ (tied _ _ c.requires).0).0, inner c, due_here c)
 
 due_in : (c : Else-due-count) →
     let a = c.args in
     14 + 7 * c.first_clear-due.result + 7 ≤ length a.bytes.now
 due_in c =
-    omega (arith, (groups_inside _ c.requires.0).1, due_here c, inner c)
+    omega (arith, (groups_inside _ (tied _ _ c.requires).0).1, due_here c, inner c)
 
 -- it is the due place, and not the route's end
 is-due : (c : Else-due-count) →
@@ -62,7 +72,7 @@ is-due c q = omega (arith, inner c, q)
 above : (c : Else-due-count) →
     eqb (c.hop_set_at-set.result / 2 ^ c.first_clear-due.result) 0
     ≡ not (broken (decode Short c.args.bytes.now).frame)
-above c = rw (is_set _ _ _ c.requires c.hop_set_at-set.ensures, due_here c) (broken-set _)
+above c = rw (is_set _ _ _ (tied _ _ c.requires) c.hop_set_at-set.ensures, due_here c) (broken-set _)
 
 whole : (c : Else-due-count) → c.hop_set_at-set.result / 2 ^ c.first_clear-due.result ≡ 0 → broken (decode Short c.args.bytes.now).frame ≡ false
 whole c none = not-true _ (sym (above c) ∙ eq-eqb _ _ none)
@@ -71,16 +81,16 @@ whole c none = not-true _ (sym (above c) ∙ eq-eqb _ _ none)
 whose : (c : Else-due-count) (is : Bool) → is ≡ same_station c.args.own (parsed_at c.args.bytes.now (14 + 7 * c.first_clear-due.result)).address
     → is ≡ ours c.args.own (decode Short c.args.bytes.now).frame
 whose c is e =
-    e ∙ rw (due_here c) (ap (same_station c.args.own) (sym (due_read c.args.bytes.now c.requires.0 (inner c))))
+    e ∙ rw (due_here c) (ap (same_station c.args.own) (sym (due_read c.args.bytes.now (tied _ _ c.requires).0 (inner c))))
 
 pub hop_set_at-set-requires : goal.hop_set_at-set-requires
 hop_set_at-set-requires c =
-    let i = groups_inside _ c.requires.0 in
-    (omega (arith, i.0, c.requires.1), omega (arith, i.1, c.requires.1))
+    let i = groups_inside _ (tied _ _ c.requires).0 in
+    (omega (arith, i.0, (tied _ _ c.requires).1), omega (arith, i.1, (tied _ _ c.requires).1))
 
 pub returns-then-due-count : goal.returns-then-due-count
 returns-then-due-count c =
-    let e = due_none c.args.own (decode Short c.args.bytes.now).frame (sym (due (goal.at.returns-then-due-count c).After-first_clear-due) ∙ c.if-due-count.true ∙ c.requires.1) in
+    let e = due_none c.args.own (decode Short c.args.bytes.now).frame (sym (due (goal.at.returns-then-due-count c).After-first_clear-due) ∙ c.if-due-count.true ∙ (tied _ _ c.requires).1) in
     record { value = sym e; bytes_after = ap (λ a. left_by a c.args.bytes.now) (sym e) }
 
 pub overflow_cast-due-2 : goal.overflow_cast-due-2

@@ -9,9 +9,11 @@ use Rattle.content.specs.Spell.{front}
 use Rattle.control.specs.declared.Mode.{Mode}
 use Rattle.content.specs.declared.FrameContent.{FrameContent}
 use Rattle.frame.proofs.Write.{field_room, content-length, content-put}
-use Rattle.decode.specs.Read.{end_of, decode}
+use Rattle.decode.specs.Answer.{is_accepted}
 use Rattle.decode.specs.declared.Outline.{Outline}
-use Rattle.decode.proofs.Whole.{outline_end}
+use Rattle.decode.specs.Read.{end_of, decode}
+use Rattle.std.specs.Prelude.{true}
+use Rattle.decode.proofs.Whole.{outlined}
 use Rattle.grammar.specs.Kept.{kept_of}
 use Rattle.grammar.proofs.Marks.{route}
 use Rattle.grammar.proofs.Parts.{parts}
@@ -22,6 +24,7 @@ use Rattle.respelling.proofs.put_due.Goals.{After-front_len}
 
 -- the numbers of the outline, the length of what stands before the info, and how much is kept
 pub record Numbers (m : Mode) (s : List ℕ) (b : Outline) (f n : ℕ) : Type 0 where
+  pub accepted : is_accepted (decode m s).answer ≡ true
   pub count : b.route_count ≡ (decode m s).frame.route_count
   pub end : b.end ≡ end_of s
   pub front : f ≡ length (front m (decode m s).frame.content)
@@ -32,11 +35,13 @@ numbers : (c : After-front_len) →
     Numbers a.mode a.bytes.now a.outline c.front_len.result a.kept
 numbers c =
     let p = c.requires in
+    let t = outlined _ _ _ p.0 in
     record {
-      count = ap (λ (b : Outline). b.route_count) p.1;
-      end = ap (λ (b : Outline). b.end) p.1 ∙ outline_end _ _ p.0;
-      front = c.front_len.ensures ∙ ap (λ (k : FrameContent). length (front c.args.mode k)) p.2;
-      kept = p.3 ∙ rw p.2 refl;
+      accepted = t.accepted;
+      count = t.route_count;
+      end = t.end;
+      front = c.front_len.ensures ∙ ap (λ (k : FrameContent). length (front c.args.mode k)) p.1;
+      kept = p.2 ∙ rw p.1 refl;
     }
 
 -- info ends in the input, and starts no later than it ends
@@ -45,24 +50,24 @@ bounds : (c : After-front_len) →
     (a.outline.end + 1 + c.front_len.result ≤ a.outline.end + 1 + a.kept) × (a.outline.end + 1 + a.kept ≤ length a.bytes.now)
 bounds c =
     let n = numbers c in
-    let d = parts _ _ (λ k. search rules) c.requires.0 in
+    let d = parts _ _ (λ k. search rules) n.accepted in
     (omega (arith, n.front, n.kept, d.before), omega (arith, n.end, n.kept, d.kept))
 
 -- what is left of the output starts inside it
 room : (c : After-front_len) → 14 + 7 * c.args.outline.route_count ≤ length c.put_addresses.new.out
 room c =
-    let t = due_taken _ _ _ (λ k. search rules) c.requires.0 c.requires.4 in
+    let t = due_taken _ _ _ (λ k. search rules) (numbers c).accepted c.requires.3 in
     rw (c.put_addresses.ensures, splice-length, (numbers c).count) (field_room _ _ _ c.args.out.now t)
 
 pub put_addresses-requires : goal.put_addresses-requires
 put_addresses-requires c =
-    let count = ap (λ (b : Outline). b.route_count) c.requires.1 in
-    (c.requires.0, count, rw count (field_room _ _ _ c.args.out.now (due_taken _ _ _ (λ k. search rules) c.requires.0 c.requires.4)))
+    let t = outlined _ _ _ c.requires.0 in
+    (c.requires.0, rw t.route_count (field_room _ _ _ c.args.out.now (due_taken _ _ _ (λ k. search rules) t.accepted c.requires.3)))
 
 pub overflow_add-control : goal.overflow_add-control
 overflow_add-control c =
-    let p = c.requires in
-    omega (arith, ap (λ (b : Outline). b.end) p.1 ∙ outline_end _ _ p.0, (route _ _ p.0).end_in)
+    let t = outlined _ _ _ c.requires.0 in
+    omega (arith, t.end, (route _ _ t.accepted).end_in)
 
 pub overflow_add-start : goal.overflow_add-start
 overflow_add-start c =
@@ -75,10 +80,10 @@ overflow_add-end c =
     search rules
 
 pub overflow_mul-at : goal.overflow_mul-at
-overflow_mul-at c = omega (arith, (numbers (goal.at.overflow_mul-at c).After-front_len).count, (route _ _ c.requires.0).few)
+overflow_mul-at c = omega (arith, (numbers (goal.at.overflow_mul-at c).After-front_len).count, (route _ _ (outlined _ _ _ c.requires.0).accepted).few)
 
 pub overflow_add-at : goal.overflow_add-at
-overflow_add-at c = omega (arith, (numbers (goal.at.overflow_add-at c).After-front_len).count, (route _ _ c.requires.0).few)
+overflow_add-at c = omega (arith, (numbers (goal.at.overflow_add-at c).After-front_len).count, (route _ _ (outlined _ _ _ c.requires.0).accepted).few)
 
 pub slice_bounds-encode-count : goal.slice_bounds-encode-count
 slice_bounds-encode-count c =
@@ -113,7 +118,7 @@ info : (c : After-front_len) →
     Info a.mode a.bytes.now (a.outline.end + 1 + c.front_len.result) (a.outline.end + 1 + a.kept - (a.outline.end + 1 + c.front_len.result))
 info c =
     let n = numbers c in
-    let d = parts _ _ (λ k. search rules) c.requires.0 in
+    let d = parts _ _ (λ k. search rules) n.accepted in
     record { from_is = omega (arith, n.front, n.end); many_is = omega (arith, n.front, n.kept, d.carried) }
 
 -- nothing is refused
@@ -122,16 +127,18 @@ unwrap-requires c =
     let e = c.encode.ensures.value in
     let w = (goal.at.unwrap-requires c).After-front_len in
     let i = info w in
-    let d = parts _ _ (λ k. search rules) c.requires.0 in
-    let t = due_taken _ _ _ (λ k. search rules) c.requires.0 c.requires.4 in
+    let n = numbers w in
+    let d = parts _ _ (λ k. search rules) n.accepted in
+    let t = due_taken _ _ _ (λ k. search rules) n.accepted c.requires.3 in
     let ok = content-length _ _ _ c.args.out.now t in
-    rw (e, i.many_is, i.from_is, ← d.info, c.put_addresses.ensures, c.requires.2, (numbers w).count, ok) refl
+    rw (e, i.many_is, i.from_is, ← d.info, c.put_addresses.ensures, c.requires.1, n.count, ok) refl
 
 pub returns : goal.returns
 returns c =
     let e = c.encode.ensures.out_after in
     let w = (goal.at.returns c).After-front_len in
     let i = info w in
-    let d = parts _ _ (λ k. search rules) c.requires.0 in
-    rw (e, i.many_is, i.from_is, ← d.info, c.put_addresses.ensures, c.requires.2, (numbers w).count, due-accepted _ _ c.requires.0)
-    (content-put _ _ _ c.args.out.now (due_taken _ _ _ (λ k. search rules) c.requires.0 c.requires.4))
+    let n = numbers w in
+    let d = parts _ _ (λ k. search rules) n.accepted in
+    rw (e, i.many_is, i.from_is, ← d.info, c.put_addresses.ensures, c.requires.1, n.count, due-accepted _ _ n.accepted)
+    (content-put _ _ _ c.args.out.now (due_taken _ _ _ (λ k. search rules) n.accepted c.requires.3))

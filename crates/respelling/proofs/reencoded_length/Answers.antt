@@ -1,74 +1,70 @@
 -- Nothing of a refused input; of an accepted one the address field and what is kept of the content.
-use Prim.Native.Nat.{ℕ, ◌+◌, ◌-◌, ◌*◌}
-use mathlib.Core.Path.{◌≡◌, refl, ap, sym, ◌∙◌}
-use mathlib.Core.Bool.{true}
-use native.Mathlib.Omega.{arith}
-use lib.ListN.{length}
+use Rattle.std.proofs.Common.{rules, ◌≡◌, ◌∙◌, refl, sym, ap, ℕ, ◌+◌, ◌-◌, ◌*◌, length, arith}
+use Rattle.std.specs.Prelude.{Ok}
 use Rattle.octets.specs.Octet.{Octets}
 use Rattle.content.specs.declared.FrameContent.{FrameContent}
-use Rattle.decode.specs.Answer.{is_accepted}
 use Rattle.decode.specs.Outline.{outline_of}
-use Rattle.decode.specs.Read.{end_of, decode}
-use Rattle.decode.specs.declared.Outline.{Outline}
-use Rattle.decode.proofs.Read.{told-refused}
-use Rattle.decode.proofs.Whole.{outline_end}
+use Rattle.decode.specs.Read.{decode}
+use Rattle.decode.proofs.Whole.{Outlined, outlined, not_outlined}
 use Rattle.grammar.specs.Kept.{kept_of}
 use Rattle.grammar.proofs.Marks.{Route, route}
 use Rattle.respelling.specs.Reencode.{due}
 use Rattle.respelling.proofs.Laws.{due-refused, due-length, due_fits}
-use borrow.Author.Rules.{rules}
 use Rattle.respelling.proofs.reencoded_length.Goals as goal
-use Rattle.respelling.proofs.reencoded_length.Goals.{In-Accepted}
+use Rattle.respelling.proofs.reencoded_length.Goals.{In-Ok}
 
--- the outline's answer is decoding's
-answered : (c : In-Accepted) → c.outline_of-outline.result.answer ≡ (decode c.args.mode c.args.bytes.now).answer
-answered c = ap (λ (o : Outline). o.answer) c.outline_of-outline.ensures
+tied : (c : In-Ok) → Ok c.in-Ok.outline ≡ outline_of c.args.mode c.args.bytes.now
+tied c = sym c.in-Ok.is ∙ c.outline_of.ensures
 
-accepted : (c : In-Accepted) → is_accepted (decode c.args.mode c.args.bytes.now).answer ≡ true
-accepted c = rw (← answered c) (rw c.in-Accepted.is refl)
+-- what the outline tells
+told : (c : In-Ok) → Outlined c.args.mode c.args.bytes.now c.in-Ok.outline
+told c = outlined _ _ _ (tied c)
 
 -- where its parts stand
-within : (c : In-Accepted) → Route c.args.bytes.now (decode c.args.mode c.args.bytes.now)
-within c = route _ _ (accepted c)
+within : (c : In-Ok) → Route c.args.bytes.now (decode c.args.mode c.args.bytes.now)
+within c = route _ _ (told c).accepted
 
-octets : (c : In-Accepted) → Octets c.args.bytes.now
+octets : (c : In-Ok) → Octets c.args.bytes.now
 octets c k = search rules
 
-told : (c : In-Accepted) → c.outline_of-outline.result ≡ outline_of c.args.mode c.args.bytes.now
-told c = c.outline_of-outline.ensures
-
-ends : (c : In-Accepted) → c.outline_of-outline.result.end ≡ end_of c.args.bytes.now
-ends c = ap (λ (o : Outline). o.end) (told c) ∙ outline_end _ _ (accepted c)
-
 -- the sum is the length
-whole : (c : In-Accepted) (k : FrameContent) (n : ℕ) → k ≡ (decode c.args.mode c.args.bytes.now).frame.content
-    → n ≡ kept_of c.args.mode k (length c.args.bytes.now - (c.outline_of-outline.result.end + 1))
-    → 14 + 7 * c.outline_of-outline.result.route_count + n ≡ length (due c.args.mode c.args.bytes.now)
-whole c k n p q = due-length _ _ _ _ _ (octets c) (accepted c) (told c) p q
+whole : (c : In-Ok) (k : FrameContent) (n : ℕ) → k ≡ (decode c.args.mode c.args.bytes.now).frame.content
+    → n ≡ kept_of c.args.mode k (length c.args.bytes.now - (c.in-Ok.outline.end + 1))
+    → 14 + 7 * c.in-Ok.outline.route_count + n ≡ length (due c.args.mode c.args.bytes.now)
+whole c k n p q = due-length _ _ _ _ _ (octets c) (tied c) p q
 
 pub returns-in_default : goal.returns-in_default
 returns-in_default c =
-    let f = c.outline_of-outline in
-    let same = ap (λ (o : Outline). o.answer) f.ensures in
-    sym (ap length (due-refused _ _ (rw (← same) (told-refused f.result.answer c.in_default.not-Accepted))))
+    let r = not_outlined _ _ _ (sym c.in_default.is ∙ c.outline_of.ensures) in
+    sym (ap length (due-refused _ _ (rw r refl)))
 
 pub overflow_add-control : goal.overflow_add-control
-overflow_add-control c = rw (ends (goal.at.overflow_add-control c).In-Accepted) (omega (arith, (within (goal.at.overflow_add-control c).In-Accepted).end_in))
+overflow_add-control c =
+    let i = (goal.at.overflow_add-control c).In-Ok in
+    omega (arith, (told i).end, (within i).end_in)
 
 pub content_at-content-requires : goal.content_at-content-requires
-content_at-content-requires c = (accepted (goal.at.content_at-content-requires c).In-Accepted, ap (λ (n : ℕ). n + 1) (ends (goal.at.content_at-content-requires c).In-Accepted))
+content_at-content-requires c = tied (goal.at.content_at-content-requires c).In-Ok
 
 pub overflow_mul-result : goal.overflow_mul-result
-overflow_mul-result c = rw (told (goal.at.overflow_mul-result c).In-Accepted) (omega (arith, (within (goal.at.overflow_mul-result c).In-Accepted).few))
+overflow_mul-result c =
+    let i = (goal.at.overflow_mul-result c).In-Ok in
+    omega (arith, (told i).route_count, (within i).few)
 
 pub overflow_add-result : goal.overflow_add-result
-overflow_add-result c = rw (told (goal.at.overflow_add-result c).In-Accepted) (omega (arith, (within (goal.at.overflow_add-result c).In-Accepted).few))
+overflow_add-result c =
+    let i = (goal.at.overflow_add-result c).In-Ok in
+    omega (arith, (told i).route_count, (within i).few)
 
 pub overflow_sub-bytes : goal.overflow_sub-bytes
-overflow_sub-bytes c = rw (ends (goal.at.overflow_sub-bytes c).In-Accepted) (omega (arith, (within (goal.at.overflow_sub-bytes c).In-Accepted).end_in))
+overflow_sub-bytes c =
+    let i = (goal.at.overflow_sub-bytes c).In-Ok in
+    omega (arith, (told i).end, (within i).end_in)
 
 pub overflow_add-result-2 : goal.overflow_add-result-2
-overflow_add-result-2 c = omega (arith, whole (goal.at.overflow_add-result-2 c).In-Accepted _ _ c.content_at-content.ensures c.kept_of.ensures, due_fits _ _ (octets (goal.at.overflow_add-result-2 c).In-Accepted) (accepted (goal.at.overflow_add-result-2 c).In-Accepted))
+overflow_add-result-2 c =
+    let i = (goal.at.overflow_add-result-2 c).In-Ok in
+    omega (arith, whole i _ _ c.content_at-content.ensures c.kept_of.ensures, due_fits _ _ (octets i) (told i).accepted)
 
 pub returns : goal.returns
-returns c = whole (goal.at.returns c).In-Accepted _ _ c.content_at-content.ensures c.kept_of.ensures
+returns c = whole (goal.at.returns c).In-Ok _ _ c.content_at-content.ensures c.kept_of.ensures

@@ -4,8 +4,8 @@ use borrow.Author.Tests.{eq-eqb, ne_eqb}
 use Rattle.decode.specs.Read.{start_of}
 use Rattle.decode.proofs.Read.{start-masked}
 use borrow.Author.Rules.{rules}
-use Rattle.decode.proofs.null_answer.Goals as goal
-use Rattle.decode.proofs.null_answer.Goals.{After-find-nulls}
+use Rattle.decode.proofs.null_error.Goals as goal
+use Rattle.decode.proofs.null_error.Goals.{After-find-nulls}
 
 start : (c : After-find-nulls) → c.find-nulls.result ≡ start_of c.args.bytes.now
 start c = c.find-nulls.ensures.value ∙ start-masked _ (λ k. search rules)
