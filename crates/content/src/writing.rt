@@ -10,10 +10,7 @@ use control::Mode;
 fn is_response(c: CommandResponse) -> bool
     ensures { result ≡ is_response c }
 {
-    match c {
-        CommandResponse::Command => false,
-        CommandResponse::Response => true,
-    }
+    matches!(c, CommandResponse::Response)
 }
 
 impl FrameReject {
@@ -21,8 +18,7 @@ impl FrameReject {
     fn front(self) -> [u8; 4]
         ensures { result ≡ front Mode.Short (FrameContent.FrameReject self) }
     {
-        let command_response = self.command_response;
-        let response = is_response(command_response);
+        let response = is_response(self.command_response);
         [
             control::unnumbered(0b1000_0111, self.final_bit),
             control::flags(self.z, self.y, self.x, self.w),
@@ -36,23 +32,14 @@ impl FrameContent {
     pub fn has_info(self) -> bool
         ensures { result ≡ has_info self }
     {
-        match self {
-            FrameContent::Information(_) => true,
-            FrameContent::ReceiveReady(_) => false,
-            FrameContent::ReceiveNotReady(_) => false,
-            FrameContent::Reject(_) => false,
-            FrameContent::SelectiveReject(_) => false,
-            FrameContent::SetAsynchronousBalancedMode(_) => false,
-            FrameContent::SetAsynchronousBalancedModeExtended(_) => false,
-            FrameContent::Disconnect(_) => false,
-            FrameContent::DisconnectedMode(_) => false,
-            FrameContent::UnnumberedAcknowledge(_) => false,
-            FrameContent::FrameReject(_) => false,
-            FrameContent::UnnumberedInformation(_) => true,
-            FrameContent::ExchangeIdentification(_) => true,
-            FrameContent::Test(_) => true,
-            FrameContent::UnknownContent => true,
-        }
+        matches!(
+            self,
+            FrameContent::Information(_)
+                | FrameContent::UnnumberedInformation(_)
+                | FrameContent::ExchangeIdentification(_)
+                | FrameContent::Test(_)
+                | FrameContent::UnknownContent
+        )
     }
 
     // How many octets stand before the info.
@@ -61,15 +48,15 @@ impl FrameContent {
     {
         match self {
             FrameContent::Information(_) => mode.controls() + 1,
-            FrameContent::ReceiveReady(_) => mode.controls(),
-            FrameContent::ReceiveNotReady(_) => mode.controls(),
-            FrameContent::Reject(_) => mode.controls(),
-            FrameContent::SelectiveReject(_) => mode.controls(),
-            FrameContent::SetAsynchronousBalancedMode(_) => 1,
-            FrameContent::SetAsynchronousBalancedModeExtended(_) => 1,
-            FrameContent::Disconnect(_) => 1,
-            FrameContent::DisconnectedMode(_) => 1,
-            FrameContent::UnnumberedAcknowledge(_) => 1,
+            FrameContent::ReceiveReady(_)
+            | FrameContent::ReceiveNotReady(_)
+            | FrameContent::Reject(_)
+            | FrameContent::SelectiveReject(_) => mode.controls(),
+            FrameContent::SetAsynchronousBalancedMode(_)
+            | FrameContent::SetAsynchronousBalancedModeExtended(_)
+            | FrameContent::Disconnect(_)
+            | FrameContent::DisconnectedMode(_)
+            | FrameContent::UnnumberedAcknowledge(_) => 1,
             FrameContent::FrameReject(_) => 4,
             FrameContent::UnnumberedInformation(_) => 2,
             FrameContent::ExchangeIdentification(_) => 1,
@@ -84,8 +71,7 @@ impl FrameContent {
     {
         match self {
             FrameContent::Information(i) => {
-                let pid = i.pid;
-                let octet = pid.to_byte();
+                let octet = i.pid.to_byte();
                 control::i_front(mode, i.receive_sequence, i.poll, i.send_sequence, octet)
             }
             FrameContent::ReceiveReady(rr) => {
@@ -123,10 +109,9 @@ impl FrameContent {
             }
             FrameContent::FrameReject(fr) => fr.front(),
             FrameContent::UnnumberedInformation(ui) => {
-                let pid = ui.pid;
                 [
                     control::unnumbered(0b0000_0011, ui.poll_or_final),
-                    pid.to_byte(),
+                    ui.pid.to_byte(),
                     0,
                     0,
                 ]
@@ -147,30 +132,21 @@ impl FrameContent {
     fn is_frame_reject(self) -> bool
         ensures { result ≡ is_frame_reject self }
     {
-        match self {
-            FrameContent::FrameReject(_) => true,
-            _ => false,
-        }
+        matches!(self, FrameContent::FrameReject(_))
     }
 
     // FRMR in the long mode, which has none.
     pub fn long_frmr(self, mode: Mode) -> bool
         ensures { result ≡ long_frmr mode self }
     {
-        match mode {
-            Mode::Short => false,
-            Mode::Long => self.is_frame_reject(),
-        }
+        matches!(mode, Mode::Long) && self.is_frame_reject()
     }
 
     // Info, of this length, for a kind that has none.
     pub fn stray_info(self, carried: usize) -> bool
         ensures { result ≡ stray_info self carried }
     {
-        if self.has_info() {
-            return false;
-        }
-        carried != 0
+        !self.has_info() && carried != 0
     }
 
     // A layer 3 identifier with an octet outside the class: only I and UI have one.
@@ -178,14 +154,8 @@ impl FrameContent {
         ensures { result ≡ stray_pid self }
     {
         match self {
-            FrameContent::Information(i) => {
-                let pid = i.pid;
-                pid.outside_class()
-            }
-            FrameContent::UnnumberedInformation(ui) => {
-                let pid = ui.pid;
-                pid.outside_class()
-            }
+            FrameContent::Information(i) => i.pid.outside_class(),
+            FrameContent::UnnumberedInformation(ui) => ui.pid.outside_class(),
             _ => false,
         }
     }

@@ -12,32 +12,25 @@ use control::Mode;
 fn octet(bytes: &[u8], at: usize) -> u8
     ensures { result ≡ get_or bytes.now at 0 }
 {
-    if at < bytes.len() { bytes[at] } else { 0 }
+    bytes.get(at).copied().unwrap_or(0)
 }
 
 fn frmr_tidy(flags: u8, sequences: u8) -> bool
     ensures { result ≡ frmr_tidy flags sequences }
 {
-    let high = flags & 0b1111_0000;
-    if high != 0 {
-        return false;
-    }
-    let low = sequences & 0b0000_0001;
-    low == 0
+    flags & 0b1111_0000 == 0 && sequences & 0b0000_0001 == 0
 }
 
 fn is_i(control: u8) -> bool
     ensures { result ≡ is_i control }
 {
-    let low = control & 0b0000_0001;
-    low == 0
+    control & 0b0000_0001 == 0
 }
 
 fn is_s(control: u8) -> bool
     ensures { result ≡ is_s control }
 {
-    let low = control & 0b0000_0011;
-    low == 1
+    control & 0b0000_0011 == 0b0000_0001
 }
 
 fn s_tidy(mode: Mode, control: u8) -> bool
@@ -69,12 +62,8 @@ pub fn is_tidy(mode: Mode, bytes: &[u8]) -> bool
 fn u_has_tail(control: u8, len: usize) -> bool
     ensures { result ≡ u_tail control len }
 {
-    let kind = control & 0b1110_1111;
-    match kind {
-        0b0000_0011 => false,
-        0b1010_1111 => false,
-        0b1110_0011 => false,
-        0b1000_0111 => false,
+    match control & 0b1110_1111 {
+        0b0000_0011 | 0b1010_1111 | 0b1110_0011 | 0b1000_0111 => false,
         _ => 1 < len,
     }
 }

@@ -23,14 +23,17 @@ pub struct Fields {
     pub poll: bool,
 }
 
-impl Mode {
-    // The mode by its number: 0 is the short one, any other the long one.
-    pub fn of_number(number: u32) -> Mode
-        ensures { result ≡ mode_of number }
-    {
+// The mode by its number: 0 is the short one, any other the long one.
+impl From<u32> for Mode {
+    ghost from_gives = { λ number mode. mode ≡ mode_of number };
+
+    #[tactic(auto, unfolding(crate::specs::Mode::mode_of))]
+    fn from(number: u32) -> Mode {
         if number == 0 { Mode::Short } else { Mode::Long }
     }
+}
 
+impl Mode {
     // How many control octets an I or S frame has.
     pub fn controls(self) -> usize
         ensures { result ≡ controls self }

@@ -28,6 +28,7 @@ use Rattle.frame.specs.declared.Ax25Frame.{Ax25Frame}
 use Rattle.grammar.proofs.Numbers.{decode-rows, write-rows}
 use Rattle.grammar.proofs.Refused.{refused-octets, accepted-octets, number_zero}
 use Rattle.grammar.proofs.Respell.{written_is}
+use Rattle.octets.specs.Outcome.{number_by}
 use Rattle.octets.specs.Table.{Table, given, FirstRow}
 use Rattle.demands.specs.Numbers.{decode_table, write_table, print_table, parts_table, text_table}
 use Rattle.octets.specs.Lent.{starting}
@@ -46,15 +47,15 @@ pub writing : (mode : Mode) (f : Ax25Frame) (info : List ℕ) (room n : ℕ) →
 unfolding given
 writing mode f info room n = by-table _ (write_table mode f info room) (write-rows mode f info room) n
 
-pub printing : (a : Address) (room n : ℕ) → (print_number_of (printed a room).answer ≡ n) ↔ FirstRow (print_table a room) n
+pub printing : (a : Address) (room n : ℕ) → (number_by print_number_of (printed a room) ≡ n) ↔ FirstRow (print_table a room) n
 unfolding given
 printing a room n = by-table _ (print_table a room) (print_numbers a room) n
 
-pub parts : (c : List ℕ) (ssid n : ℕ) → (address_number_of (read_parts c ssid).answer ≡ n) ↔ FirstRow (parts_table c ssid) n
+pub parts : (c : List ℕ) (ssid n : ℕ) → (number_by address_number_of (read_parts c ssid) ≡ n) ↔ FirstRow (parts_table c ssid) n
 unfolding given
 parts c ssid n = by-table _ (parts_table c ssid) (parts_numbers c ssid) n
 
-pub text : (t : List ℕ) (n : ℕ) → (address_number_of (read_text t).answer ≡ n) ↔ FirstRow (text_table t) n
+pub text : (t : List ℕ) (n : ℕ) → (number_by address_number_of (read_text t) ≡ n) ↔ FirstRow (text_table t) n
 unfolding given
 text t n = by-table _ (text_table t) (text_numbers t) n
 

@@ -1,6 +1,7 @@
 -- What a contract allows is one result: two results that both equal the definition of the arguments are equal, by cases too, and
 -- so are two numbers that are both of the first row that holds, two that are 1 exactly when something holds and else 0, and two
--- answers of writing or of printing with one number.
+-- answers of writing with one number, or of printing with one number and length.
+use Rattle.std.proofs.Common.{Result, Ok, Err, arith}
 use Prim.Native.Nat.{ℕ}
 use mathlib.Core.Path.{◌≡◌, refl, ap, sym, ◌∙◌}
 use mathlib.Core.Bool.{Bool, true, false, cond}
@@ -13,8 +14,9 @@ use Rattle.std.specs.Prelude.{Result, Ok, Err}
 use Rattle.frame.specs.declared.WriteError.{WriteError}
 use Rattle.frame.specs.declared.WriteError.TheVariants as write
 use Rattle.printing.specs.Print.{print_number_of}
-use Rattle.printing.specs.declared.PrintAnswer.{PrintAnswer}
-use Rattle.printing.specs.declared.PrintAnswer.TheVariants as print
+use Rattle.printing.specs.declared.PrintError.{PrintError}
+use Rattle.printing.specs.declared.PrintError.TheVariants as print
+use Rattle.octets.specs.Outcome.{number_by, length_of}
 use Rattle.octets.specs.Table.{Table, FirstRow}
 use Rattle.octets.proofs.Table.{exactly}
 
@@ -68,14 +70,18 @@ written_back (Err write.NoRoom) = refl
 pub one_answer : (a b : Result Unit WriteError) → write_number a ≡ write_number b → a ≡ b
 one_answer = its_own write_number written written_back
 
-printed : ℕ → PrintAnswer
-printed n = cond (eqb n 0) print.Printed (cond (eqb n 22) print.NotEncodable print.NoRoom)
+printed : ℕ → PrintError
+printed n = cond (eqb n 22) print.NotEncodable print.NoRoom
 
-printed-back : (a : PrintAnswer) → printed (print_number_of a) ≡ a
+printed-back : (a : PrintError) → printed (print_number_of a) ≡ a
 unfolding printed
-printed-back print.Printed = refl
 printed-back print.NotEncodable = refl
 printed-back print.NoRoom = refl
 
-pub one_print : (a b : PrintAnswer) → print_number_of a ≡ print_number_of b → a ≡ b
-one_print = its_own print_number_of printed printed-back
+pub one_print : (a b : Result ℕ PrintError) → number_by print_number_of a ≡ number_by print_number_of b → length_of a ≡ length_of b → a ≡ b
+one_print (Ok n) (Ok m) e f = ap Ok f
+one_print (Ok n) (Err print.NotEncodable) e f = absurd (omega arith)
+one_print (Ok n) (Err print.NoRoom) e f = absurd (omega arith)
+one_print (Err print.NotEncodable) (Ok m) e f = absurd (omega arith)
+one_print (Err print.NoRoom) (Ok m) e f = absurd (omega arith)
+one_print (Err x) (Err y) e f = ap Err (its_own print_number_of printed printed-back x y e)

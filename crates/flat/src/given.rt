@@ -15,7 +15,7 @@ use protocol::ProtocolIdentifier;
 fn octet(flat: &[u8], at: usize) -> u8
     ensures { result ≡ octet_at flat.now at }
 {
-    if at < flat.len() { flat[at] } else { 0 }
+    flat.get(at).copied().unwrap_or(0)
 }
 
 fn flag(flat: &[u8], at: usize) -> bool

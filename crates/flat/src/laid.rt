@@ -1,5 +1,5 @@
 // From a frame to its flat record.
-ghost use Rattle.std.specs.Prelude.{◌≡◌, ◌≤◌, length};
+ghost use Rattle.std.specs.Prelude.{◌≡◌, ◌+◌, ◌≤◌, length};
 ghost use Rattle.octets.specs.Splice.{splice};
 ghost use Rattle.flat.specs.Laid.{address_flat, entry_flat, route_flat, count_flat, mark_flat, response_flat, pid_case, pid_octet, bare_flat, with_pid_flat, reject_flat, content_flat, rest_flat, flat_of};
 
@@ -11,46 +11,25 @@ use protocol::ProtocolIdentifier;
 // How many octets a flat frame has.
 const FRAME: usize = 102;
 
+fn address_octets(address: Address) -> [u8; 8]
+    ensures { result ≡ address_flat address }
+{
+    let [a, b, c, d, e, f] = address.callsign;
+    [a, b, c, d, e, f, address.ssid, address.reserved]
+}
+
 pub fn put_address(out: &mut [u8], at: usize, address: Address)
     ensures { out.new ≡ splice out.old at (address_flat address) }
 {
-    let c = address.callsign;
-    lent_buffer::put(
-        out,
-        at,
-        &[
-            c[0],
-            c[1],
-            c[2],
-            c[3],
-            c[4],
-            c[5],
-            address.ssid,
-            address.reserved,
-        ],
-    );
+    lent_buffer::put(out, at, &address_octets(address));
 }
 
 fn put_entry(out: &mut [u8], at: usize, entry: RouteEntry)
+    requires { at + 9 ≤ length out.old }
     ensures { out.new ≡ splice out.old at (entry_flat entry) }
 {
-    let repeater = entry.repeater;
-    let c = repeater.callsign;
-    lent_buffer::put(
-        out,
-        at,
-        &[
-            c[0],
-            c[1],
-            c[2],
-            c[3],
-            c[4],
-            c[5],
-            repeater.ssid,
-            repeater.reserved,
-            entry.has_repeated as u8,
-        ],
-    );
+    put_address(out, at, entry.repeater);
+    lent_buffer::put(out, at + 8, &[u8::from(entry.has_repeated)]);
 }
 
 // All eight places, in use or not.
@@ -58,19 +37,17 @@ fn put_route(out: &mut [u8], route: [RouteEntry; 8])
     requires { 88 ≤ length out.old }
     ensures { out.new ≡ splice out.old 16 (route_flat route 8) }
 {
-    let mut i = 0;
-    while i < 8 {
-        let entry = route[i];
-        put_entry(out, 16 + 9 * i, entry);
-        i += 1;
+    for (place, entry) in route.iter().enumerate() {
+        put_entry(out, 16 + 9 * place, *entry);
     }
 }
 
 // A count of 255 and more is 255: writing refuses them all alike.
+#[tactic(auto, unfolding(crate::specs::Laid::count_flat))]
 fn count_octet(count: usize) -> u8
     ensures { result ≡ count_flat count }
 {
-    if count < 255 { count as u8 } else { 255 }
+    count.min(255) as u8
 }
 
 fn mark_octet(mark: Mark) -> u8
@@ -111,22 +88,8 @@ fn pid_octet(pid: ProtocolIdentifier) -> u8
     ensures { result ≡ pid_octet pid }
 {
     match pid {
-        ProtocolIdentifier::Layer3Impl(octet) => octet,
-        ProtocolIdentifier::X25Plp => 0,
-        ProtocolIdentifier::CompressedTcpIp => 0,
-        ProtocolIdentifier::UncompressedTcpIp => 0,
-        ProtocolIdentifier::SegmentationFragment => 0,
-        ProtocolIdentifier::TexnetDatagram => 0,
-        ProtocolIdentifier::LinkQuality => 0,
-        ProtocolIdentifier::Appletalk => 0,
-        ProtocolIdentifier::AppletalkArp => 0,
-        ProtocolIdentifier::ArpaIp => 0,
-        ProtocolIdentifier::ArpaAddress => 0,
-        ProtocolIdentifier::Flexnet => 0,
-        ProtocolIdentifier::NetRom => 0,
-        ProtocolIdentifier::None => 0,
-        ProtocolIdentifier::Escape => 0,
-        ProtocolIdentifier::Unknown(octet) => octet,
+        ProtocolIdentifier::Layer3Impl(octet) | ProtocolIdentifier::Unknown(octet) => octet,
+        _ => 0,
     }
 }
 

@@ -1,7 +1,9 @@
 -- What `follow` prints of a recorded link (document 02, M-112): of the two texts that name its stations, of each frame, and at the end.
-use Rattle.std.specs.Prelude.{ℕ, Bool, true, false, cond, List, [], ◌++◌, Option, Some, None, Ok, Err, eqb, ltb}
-use Rattle.text.specs.Text.{address_number_of, read_text}
-use Rattle.text.specs.declared.AddressAnswer.{AddressAnswer}
+use Rattle.std.specs.Prelude.{ℕ, Bool, true, false, Result, cond, List, [], ◌++◌, Option, Some, None, Ok, Err, eqb, ltb}
+use Rattle.octets.specs.Outcome.{number_by}
+use Rattle.address.specs.declared.Address.{Address}
+use Rattle.text.specs.Text.{address_number_of, address_read, read_text}
+use Rattle.text.specs.declared.AddressError.{AddressError}
 use Rattle.link_record.specs.Record.{LinkAnswer, number_of, fresh}
 use Rattle.link_record.specs.declared.Link.{Link}
 use Rattle.link_record.specs.declared.LinkError.TheVariants.{NotEncodable, EqualStations, Unsound, Full, Refused}
@@ -20,11 +22,11 @@ answer_text n = cond (eqb n 0) [] (line "answer=" (decimal n))
 
 -- ---- the two texts
 -- the number that they are refused by: the first text's, or the second's where the first is read
-unfoldable pub refused_by : AddressAnswer → AddressAnswer → ℕ
-refused_by a b = cond (eqb (address_number_of a) 0) (address_number_of b) (address_number_of a)
+unfoldable pub refused_by : Result Address AddressError → Result Address AddressError → ℕ
+refused_by a b = cond (eqb (number_by address_number_of a) 0) (number_by address_number_of b) (number_by address_number_of a)
 
 abbrev pub texts_number : List ℕ → List ℕ → ℕ
-texts_number a b = refused_by (read_text a).answer (read_text b).answer
+texts_number a b = refused_by (read_text a) (read_text b)
 
 -- what is printed of them
 abbrev pub begin_text : List ℕ → List ℕ → List ℕ
@@ -34,7 +36,7 @@ begin_text a b = answer_text (texts_number a b)
 abbrev pub begun : List ℕ → List ℕ → ℕ → Begun
 begun a b room = record {
   ready = eqb (texts_number a b) 0;
-  link = fresh (read_text a).address (read_text b).address;
+  link = fresh (address_read (read_text a)) (address_read (read_text b));
   length = behind room 0 (begin_text a b);
 }
 

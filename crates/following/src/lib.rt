@@ -6,10 +6,11 @@ ghost use Rattle.octets.specs.Splice.{splice};
 ghost use Rattle.words.specs.Room.{behind};
 ghost use Rattle.following.specs.Following.{answer_text, refused_by, begin_text, begun, stops, from_text, gap_line, gap_text, offered_text, follow_text, followed, totals_text};
 
+use address::Address;
 use answer::Numbered;
 use link_frame::Side;
 use link_record::{Link, LinkError};
-use text::AddressAnswer;
+use text::AddressError;
 use words::page::Page;
 
 // What the two texts come to: whether both are read, the record of the link between their stations, and how many octets are printed. A flag
@@ -41,7 +42,7 @@ fn put_answer(out: &mut [u8], number: u32) -> usize
     page.write_to(out).unwrap_or(0)
 }
 
-fn refused_by(a: AddressAnswer, b: AddressAnswer) -> u32
+fn refused_by(a: Result<Address, AddressError>, b: Result<Address, AddressError>) -> u32
     ensures { result ≡ refused_by a b }
 {
     let number = a.number();
@@ -59,10 +60,12 @@ pub fn begin(a: &[u8], b: &[u8], out: &mut [u8]) -> Begun
 {
     let first = text::from_str(a);
     let second = text::from_str(b);
-    let number = refused_by(first.answer, second.answer);
+    let number = refused_by(first, second);
+    let station = first.unwrap_or(Address::default());
+    let partner = second.unwrap_or(Address::default());
     Begun {
         ready: number == 0,
-        link: link_record::fresh(first.address, second.address),
+        link: link_record::fresh(station, partner),
         length: put_answer(out, number),
     }
 }

@@ -57,7 +57,8 @@ fn put_route(out: &mut [u8], at: usize, route: &[RouteEntry])
     ensures { out.new ≡ splice out.old at (groups_of route.now (length route.now) (length route.now)) }
 {
     for (i, entry) in route.iter().enumerate() {
-        placing::put(
+        // Its room and its address were looked at before, so that it is not refused.
+        let _ = placing::put(
             out,
             at + 7 * i,
             entry.repeater,
@@ -74,8 +75,9 @@ fn put_addresses(out: &mut [u8], frame: Ax25Frame)
 {
     let to = destination_mark(frame.command_or_response);
     let count = frame.route_count;
-    placing::put(out, 0, frame.destination, to, false);
-    placing::put(out, 7, frame.source, !to, count == 0);
+    // Their room and their addresses were looked at before, so that neither is refused.
+    let _ = placing::put(out, 0, frame.destination, to, false);
+    let _ = placing::put(out, 7, frame.source, !to, count == 0);
     put_route(out, 14, &frame.route[..count]);
 }
 

@@ -1,4 +1,5 @@
 -- What writing a group and reading it gives, and the other way round. Upper crates rest on these and look into no group.
+use Rattle.std.proofs.Common.{Err}
 use Prim.Native.Nat.{ℕ, zero, suc, ◌*◌, ◌/◌, ◌%◌, ◌<◌, ◌≤◌}
 use mathlib.Core.Path.{◌≡◌, refl, ◌∙◌}
 use mathlib.Core.Bool.{Bool, true, false, cond}
@@ -14,7 +15,8 @@ use Rattle.octets.proofs.Octet.{octet-same}
 use Rattle.address.specs.declared.Address.{Address}
 use Rattle.address.specs.Address.{low, encodable, PlainAddress}
 use Rattle.address.proofs.Laws.{encodable_is, plain_ssid, plain_reserved, plain-character, six_list}
-use Rattle.group.specs.declared.GroupAnswer.TheVariants.{NotEncodable}
+use Rattle.octets.specs.Outcome.{number_by}
+use Rattle.group.specs.declared.GroupError.TheVariants.{NotEncodable}
 use Rattle.group.specs.Group.{address_of, mark_of, mark_set, octet_at, ssid_octet, group_of, group_number_of, write_group}
 
 -- a written group has seven octets
@@ -189,12 +191,12 @@ written_read (a ∷ b ∷ c ∷ d ∷ e ∷ f ∷ g ∷ h ∷ l) s o v = absurd 
 
 -- what `to_bytes` gives of an address that cannot be written
 pub write-refused : (a : Address) (m e : Bool) → encodable a ≡ false
-    → write_group a m e ≡ record { answer = NotEncodable; group = 0 ∷ 0 ∷ 0 ∷ 0 ∷ 0 ∷ 0 ∷ 0 ∷ [] }
+    → write_group a m e ≡ Err NotEncodable
 unfolding write_group
 write-refused a m e t = simp t
 
 -- its number is 22 exactly when the address cannot be written
-pub group_numbers : (a : Address) (m e : Bool) → group_number_of (write_group a m e).answer ≡ cond (encodable a) 0 22
+pub group_numbers : (a : Address) (m e : Bool) → number_by group_number_of (write_group a m e) ≡ cond (encodable a) 0 22
 unfolding write_group
 group_numbers a m e = by (encodable a) (λ t. simp t) (λ t. simp t)
 

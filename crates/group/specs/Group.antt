@@ -1,11 +1,10 @@
 -- The group of an address (rule 3): seven octets of AX.25's address field. Six hold a character each in bits 1 to 7; the seventh holds the
 -- SSID in bits 1 to 4, the reserved bits 5 and 6, the mark (C or H) in bit 7. Bit 0 of each is the extension bit.
-use Rattle.std.specs.Prelude.{ℕ, ◌+◌, ◌*◌, ◌/◌, ◌%◌, Bool, cond, List, [], ◌∷◌, get_or}
+use Rattle.std.specs.Prelude.{ℕ, ◌+◌, ◌*◌, ◌/◌, ◌%◌, Bool, cond, Result, Ok, Err, List, [], ◌∷◌, get_or}
 use Rattle.octets.specs.Octet.{field, bit, flag}
 use Rattle.address.specs.declared.Address.{Address}
-use Rattle.group.specs.declared.GroupAnswer.{GroupAnswer}
-use Rattle.group.specs.declared.GroupAnswer.TheVariants.{Written, NotEncodable}
-use Rattle.group.specs.declared.WrittenGroup.{WrittenGroup}
+use Rattle.group.specs.declared.GroupError.{GroupError}
+use Rattle.group.specs.declared.GroupError.TheVariants.{NotEncodable}
 use Rattle.address.specs.Address.{encodable}
 
 -- the character in octet k of a group: the octet shifted right by one
@@ -41,14 +40,10 @@ group_of a mark end =
     octet_at a.callsign 0 ∷ octet_at a.callsign 1 ∷ octet_at a.callsign 2 ∷ octet_at a.callsign 3
     ∷ octet_at a.callsign 4 ∷ octet_at a.callsign 5 ∷ ssid_octet a.ssid a.reserved mark end ∷ []
 
--- document 01's numbers for writing one address
-abbrev pub group_number_of : GroupAnswer → ℕ
-group_number_of Written = 0
+-- document 01's number for an address that is not written
+abbrev pub group_number_of : GroupError → ℕ
 group_number_of NotEncodable = 22
 
--- what writing gives: a refused address leaves seven zeros
-unfoldable pub write_group : Address → Bool → Bool → WrittenGroup
-write_group a mark end =
-    cond (encodable a)
-    (record { answer = Written; group = group_of a mark end })
-    (record { answer = NotEncodable; group = 0 ∷ 0 ∷ 0 ∷ 0 ∷ 0 ∷ 0 ∷ 0 ∷ [] })
+-- what writing gives
+unfoldable pub write_group : Address → Bool → Bool → Result (List ℕ) GroupError
+write_group a mark end = cond (encodable a) (Ok (group_of a mark end)) (Err NotEncodable)

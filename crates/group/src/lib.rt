@@ -5,6 +5,7 @@ ghost use Rattle.std.specs.Prelude.{◌≡◌, cond};
 ghost use Rattle.group.specs.Group.{address_of, mark_of, mark_set, ssid_octet, group_of, write_group, group_number_of};
 
 use address::Address;
+use answer::Numbered;
 
 #[derive(Clone, Copy, Debug, PartialEq, Eq)]
 pub struct ParsedAddress {
@@ -12,26 +13,18 @@ pub struct ParsedAddress {
     pub high_bit: bool,
 }
 
-// How writing a group ended.
+// Why a group is not written.
 #[derive(Clone, Copy, Debug, PartialEq, Eq)]
-pub enum GroupAnswer {
-    Written,
+pub enum GroupError {
     NotEncodable,
 }
 
-#[derive(Clone, Copy, Debug, PartialEq, Eq)]
-pub struct WrittenGroup {
-    pub answer: GroupAnswer,
-    pub group: [u8; 7],
-}
+impl Numbered for GroupError {
+    ghost number_of = { group_number_of };
 
-impl GroupAnswer {
-    pub fn number(self) -> u32
-        ensures { result ≡ group_number_of self }
-    {
+    fn number(self) -> u32 {
         match self {
-            GroupAnswer::Written => 0,
-            GroupAnswer::NotEncodable => 22,
+            GroupError::NotEncodable => 22,
         }
     }
 }
@@ -77,19 +70,16 @@ pub fn group_of(address: Address, high_bit: bool, final_in_address: bool) -> [u8
     [a, b, c, d, e, f, last]
 }
 
-// The group of an address; zeros where the address is refused.
-pub fn to_bytes(address: Address, high_bit: bool, final_in_address: bool) -> WrittenGroup
+// The group of an address.
+pub fn to_bytes(
+    address: Address,
+    high_bit: bool,
+    final_in_address: bool,
+) -> Result<[u8; 7], GroupError>
     ensures { result ≡ write_group address high_bit final_in_address }
 {
     if !address.is_encodable() {
-        return WrittenGroup {
-            answer: GroupAnswer::NotEncodable,
-            group: [0; 7],
-        };
+        return Err(GroupError::NotEncodable);
     }
-    let group = group_of(address, high_bit, final_in_address);
-    WrittenGroup {
-        answer: GroupAnswer::Written,
-        group,
-    }
+    Ok(group_of(address, high_bit, final_in_address))
 }

@@ -107,6 +107,7 @@ fn is_unsound(link: Link) -> bool
 }
 
 // What a record is refused by before a frame is looked at; nothing where it takes one more.
+#[tactic(auto, unfolding(crate::specs::Record::refusal))]
 pub fn refusal(link: Link) -> Result<(), LinkError>
     ensures { result ≡ refusal link }
 {

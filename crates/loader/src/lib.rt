@@ -67,7 +67,7 @@ pub extern "C" fn ax25_reason(input: &[u8], mode: u32, number: &mut u32, place: 
     ensures number_after { number.new ≡ (why_of (mode_of mode) input.now).number }
     ensures place_after { place.new ≡ (why_of (mode_of mode) input.now).place }
 {
-    let why = reason::why_of(Mode::of_number(mode), input);
+    let why = reason::why_of(Mode::from(mode), input);
     *number = why.number;
     *place = why.place;
     let reason = why.reason;
@@ -80,7 +80,7 @@ pub extern "C" fn ax25_reason(input: &[u8], mode: u32, number: &mut u32, place: 
 pub extern "C" fn ax25_captures(input: &[u8], mode: u32, records: &mut [CaptureRecord])
     ensures { records.new ≡ filled_all (mode_of mode) input.now records.old }
 {
-    captures::fill(Mode::of_number(mode), input, records)
+    captures::fill(Mode::from(mode), input, records)
 }
 
 // How many octets re-encoding gives; 0 where the input is refused.

@@ -1,4 +1,5 @@
 -- What writing a group into lent octets gives. Upper crates rest on these.
+use Rattle.std.proofs.Common.{Ok}
 use Prim.Native.Nat.{ℕ, ◌+◌, ◌≤◌, ◌<◌}
 use mathlib.Core.Path.{◌≡◌}
 use mathlib.Core.Bool.{Bool, true, cond}
@@ -13,16 +14,16 @@ use Rattle.address.specs.Address.{encodable}
 use Rattle.group.specs.Group.{address_of, group_of}
 use Rattle.address.specs.declared.Address.{Address}
 use Rattle.group.proofs.Laws.{group-length}
-use Rattle.placing.specs.declared.PutAnswer.TheVariants.{Written}
+use Rattle.octets.specs.Outcome.{number_by}
 use Rattle.placing.specs.Put.{put_number, put_answer, put_octets, respelled}
 
 -- 22 exactly when the address cannot be written, and else 24 exactly when there are not seven octets from `at` on
-pub put_numbers : (a : Address) (at room : ℕ) → put_number (put_answer a at room) ≡ cond (encodable a) (cond (leb (at + 7) room) 0 24) 22
+pub put_numbers : (a : Address) (at room : ℕ) → number_by put_number (put_answer a at room) ≡ cond (encodable a) (cond (leb (at + 7) room) 0 24) 22
 unfolding put_answer
 put_numbers a at room = by (encodable a) (λ t. by (leb (at + 7) room) (λ q. simp (t, q)) (λ q. simp (t, q))) (λ t. simp t)
 
 -- and either leaves them alone
-pub put_refused : (l : List ℕ) (at : ℕ) (a : Address) (m e : Bool) → (put_answer a at (length l) ≡ Written → ⊥) → splice l at (put_octets a m e) ≡ l
+pub put_refused : (l : List ℕ) (at : ℕ) (a : Address) (m e : Bool) → (put_answer a at (length l) ≡ Ok tt → ⊥) → splice l at (put_octets a m e) ≡ l
 unfolding put_answer put_octets
 put_refused l at a m e n =
     by (encodable a)

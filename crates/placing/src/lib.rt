@@ -6,23 +6,22 @@ ghost use Rattle.octets.specs.Splice.{splice};
 ghost use Rattle.placing.specs.Put.{put_number, put_answer, put_octets, respelled};
 
 use address::Address;
+use answer::Numbered;
 
-// How writing a group ended.
+// Why a group is not written.
 #[derive(Clone, Copy, Debug, PartialEq, Eq)]
-pub enum PutAnswer {
-    Written,
+pub enum PutError {
     NotEncodable,
     NoRoom,
 }
 
-impl PutAnswer {
-    pub fn number(self) -> u32
-        ensures { result ≡ put_number self }
-    {
+impl Numbered for PutError {
+    ghost number_of = { put_number };
+
+    fn number(self) -> u32 {
         match self {
-            PutAnswer::Written => 0,
-            PutAnswer::NotEncodable => 22,
-            PutAnswer::NoRoom => 24,
+            PutError::NotEncodable => 22,
+            PutError::NoRoom => 24,
         }
     }
 }
@@ -44,22 +43,18 @@ pub fn put(
     address: Address,
     high_bit: bool,
     final_in_address: bool,
-) -> PutAnswer
+) -> Result<(), PutError>
     ensures value { result ≡ put_answer address at (length out.old) }
     ensures out_after { out.new ≡ splice out.old at (put_octets address high_bit final_in_address) }
 {
     if !address.is_encodable() {
-        return PutAnswer::NotEncodable;
+        return Err(PutError::NotEncodable);
     }
-    if store(
-        out,
-        at,
-        group::group_of(address, high_bit, final_in_address),
-    ) {
-        PutAnswer::Written
-    } else {
-        PutAnswer::NoRoom
+    let group = group::group_of(address, high_bit, final_in_address);
+    if !store(out, at, group) {
+        return Err(PutError::NoRoom);
     }
+    Ok(())
 }
 
 // The group in the seven octets of `bytes` from `from` on, written anew from `at` on: the group of the address that is read there. Where

@@ -1,4 +1,6 @@
 -- How the printer comes to its definitions: the callsign's length by one pass, and the text in two parts.
+use Rattle.std.proofs.Common.{Result, Ok, Err}
+use Rattle.std.specs.Result.{result_unwrap_or}
 use Prim.Native.Nat.{ℕ, zero, suc, ◌+◌, ◌≤◌, ◌<◌}
 use mathlib.Core.Logic.{◌≢◌}
 use mathlib.Core.Path.{◌≡◌, refl, sym, ◌∙◌}
@@ -11,6 +13,7 @@ use lib.ListN.{length, get_or, take, drop, length-append}
 use lib.Seq.{length-take-le}
 use Rattle.octets.proofs.Choice.{by, either}
 use Rattle.octets.specs.Splice.{splice}
+use Rattle.octets.specs.Outcome.{number_by, length_of}
 use Rattle.octets.proofs.Splice.{splice_in, splice_out, splice-more}
 use Rattle.address.specs.declared.Address.{Address}
 use Rattle.address.specs.Address.{encodable}
@@ -63,7 +66,7 @@ module _ (c : List ℕ) (s n : ℕ) (e : n ≡ used c) where
       rw z at m ∙ rw e refl
 
 -- the numbers that printing gives
-pub print_numbers : (a : Address) (room : ℕ) → print_number_of (printed a room).answer ≡ cond (not (encodable a)) 22 (cond (short a room) 24 0)
+pub print_numbers : (a : Address) (room : ℕ) → number_by print_number_of (printed a room) ≡ cond (not (encodable a)) 22 (cond (short a room) 24 0)
 unfolding printed
 print_numbers a room =
     by (encodable a) (λ e. by (short a room) (λ r. simp (e, r)) (λ r. simp (e, r))) (λ e. simp e)
@@ -77,8 +80,8 @@ printed_text a out e h =
     rw e (splice_in out 0 (text_of a) (omega arith) ∙ rw z refl)
 
 -- by its number: a refusal has length 0 and leaves the output alone; else the text stands at its start, with its length
-pub refused_print : (a : Address) (out : List ℕ) → (print_number_of (printed a (length out)).answer ≡ 0 → ⊥)
-    → ((printed a (length out)).length ≡ 0) × (printed_into a out ≡ out)
+pub refused_print : (a : Address) (out : List ℕ) → (number_by print_number_of (printed a (length out)) ≡ 0 → ⊥)
+    → (length_of (printed a (length out)) ≡ 0) × (printed_into a out ≡ out)
 unfolding printed printed_into
 refused_print a out n =
     by (encodable a)
@@ -87,8 +90,8 @@ refused_print a out n =
     (λ r. absurd (n (simp (e, r)))))
     (λ e. (simp e, simp e))
 
-pub accepted_print : (a : Address) (out : List ℕ) → print_number_of (printed a (length out)).answer ≡ 0
-    → ((printed a (length out)).length ≡ length (text_of a)) × (printed_into a out ≡ text_of a ++ drop (length (text_of a)) out)
+pub accepted_print : (a : Address) (out : List ℕ) → number_by print_number_of (printed a (length out)) ≡ 0
+    → (length_of (printed a (length out)) ≡ length (text_of a)) × (printed_into a out ≡ text_of a ++ drop (length (text_of a)) out)
 unfolding printed
 accepted_print a out n =
     let rows : ◌≡◌ {A = ℕ} (cond (not (encodable a)) 22 (cond (short a (length out)) 24 0)) 0 = sym (print_numbers a (length out)) ∙ n in
@@ -99,13 +102,18 @@ accepted_print a out n =
     (λ e. let z : ◌≡◌ {A = ℕ} 22 0 = rw e at rows in absurd (omega arith))
 
 -- what is printed lies within the room, and an address that can be written is printed where its text fits
-pub print_within : (a : Address) (room : ℕ) → (printed a room).length ≤ room
+pub print_within : (a : Address) (room : ℕ) → length_of (printed a room) ≤ room
 unfolding printed
 print_within a room =
     by (encodable a)
     (λ e. by (short a room) (λ r. simp (e, r) (omega arith)) (λ r. simp (e, r) (ltb-false room (length (text_of a)) r)))
     (λ e. simp e (omega arith))
 
-pub print_fits : (a : Address) (room : ℕ) → encodable a ≡ true → length (text_of a) ≤ room → (printed a room).length ≡ length (text_of a)
+pub print_fits : (a : Address) (room : ℕ) → encodable a ≡ true → length (text_of a) ≤ room → length_of (printed a room) ≡ length (text_of a)
 unfolding printed
 print_fits a room e h = simp (e, le-ltb room (length (text_of a)) h)
+
+-- how long a text is that may be refused, as code takes it from a `Result`
+pub length-unwrapped : {E : Type 0} (r : Result ℕ E) → result_unwrap_or r 0 ≡ length_of r
+length-unwrapped (Ok n) = refl
+length-unwrapped (Err e) = refl

@@ -1,11 +1,10 @@
 -- Printing an address: its text, the numbers of refusals, and what is left in the output (document 01, Text).
-use Rattle.std.specs.Prelude.{ℕ, suc, ◌+◌, ◌/◌, ◌%◌, Bool, cond, ◌&&◌, List, [], ◌∷◌, ◌++◌, eqb, ltb, length, take}
+use Rattle.std.specs.Prelude.{ℕ, suc, ◌+◌, ◌/◌, ◌%◌, Bool, Result, Ok, Err, cond, ◌&&◌, List, [], ◌∷◌, ◌++◌, eqb, ltb, length, take}
 use Rattle.octets.specs.Splice.{splice}
 use Rattle.address.specs.declared.Address.{Address}
 use Rattle.address.specs.Address.{encodable}
-use Rattle.printing.specs.declared.PrintAnswer.{PrintAnswer}
-use Rattle.printing.specs.declared.PrintAnswer.TheVariants as print
-use Rattle.printing.specs.declared.Printed.{Printed}
+use Rattle.printing.specs.declared.PrintError.{PrintError}
+use Rattle.printing.specs.declared.PrintError.TheVariants.{NotEncodable, NoRoom}
 
 abbrev pub space : ℕ → Bool
 space c = eqb c 32
@@ -31,24 +30,18 @@ ssid_suffix s = cond (eqb s 0) [] (45 ∷ decimal_text s)
 abbrev pub text_of : Address → List ℕ
 text_of a = trimmed a.callsign ++ ssid_suffix a.ssid
 
--- document 01's numbers for printing
-abbrev pub print_number_of : PrintAnswer → ℕ
-print_number_of print.Printed = 0
-print_number_of print.NotEncodable = 22
-print_number_of print.NoRoom = 24
+-- document 01's numbers for an address that is not printed
+abbrev pub print_number_of : PrintError → ℕ
+print_number_of NotEncodable = 22
+print_number_of NoRoom = 24
 
 -- 24: the output is shorter than the text
 abbrev pub short : Address → ℕ → Bool
 short a room = ltb room (length (text_of a))
 
--- what printing answers, with room for that many octets
-unfoldable pub printed : Address → ℕ → Printed
-printed a room =
-    cond (encodable a)
-    (cond (short a room)
-    (record { answer = print.NoRoom; length = 0 })
-    (record { answer = print.Printed; length = length (text_of a) }))
-    (record { answer = print.NotEncodable; length = 0 })
+-- what printing answers, with room for that many octets: how long the text is
+unfoldable pub printed : Address → ℕ → Result ℕ PrintError
+printed a room = cond (encodable a) (cond (short a room) (Err NoRoom) (Ok (length (text_of a)))) (Err NotEncodable)
 
 -- what it leaves in the output: the text at its start, or all as it was
 unfoldable pub printed_into : Address → List ℕ → List ℕ

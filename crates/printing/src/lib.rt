@@ -6,56 +6,40 @@ ghost use Rattle.octets.specs.Splice.{splice};
 ghost use Rattle.printing.specs.Print.{used, ssid_suffix, text_of, print_number_of, printed, printed_into};
 
 use address::Address;
+use answer::Numbered;
 
-// How printing ended.
+// Why an address is not printed.
 #[derive(Clone, Copy, Debug, PartialEq, Eq)]
-pub enum PrintAnswer {
-    Printed,
+pub enum PrintError {
     NotEncodable,
     NoRoom,
 }
 
-#[derive(Clone, Copy, Debug, PartialEq, Eq)]
-pub struct Printed {
-    pub answer: PrintAnswer,
-    pub length: usize,
-}
+impl Numbered for PrintError {
+    ghost number_of = { print_number_of };
 
-impl PrintAnswer {
-    pub fn number(self) -> u32
-        ensures { result ≡ print_number_of self }
-    {
+    fn number(self) -> u32 {
         match self {
-            PrintAnswer::Printed => 0,
-            PrintAnswer::NotEncodable => 22,
-            PrintAnswer::NoRoom => 24,
+            PrintError::NotEncodable => 22,
+            PrintError::NoRoom => 24,
         }
     }
 }
 
-// The text of an address, written at the start of `out`. A refusal leaves `out` alone.
-pub fn print(address: Address, out: &mut [u8]) -> Printed
+// The text of an address, written at the start of `out`, and how long it is. A refusal leaves `out` alone.
+pub fn print(address: Address, out: &mut [u8]) -> Result<usize, PrintError>
     ensures value { result ≡ printed address (length out.old) }
     ensures out_after { out.new ≡ printed_into address out.old }
 {
     if !address.is_encodable() {
-        return Printed {
-            answer: PrintAnswer::NotEncodable,
-            length: 0,
-        };
+        return Err(PrintError::NotEncodable);
     }
     let room = out.len();
     let length = put_text(address, out);
     if room < length {
-        return Printed {
-            answer: PrintAnswer::NoRoom,
-            length: 0,
-        };
+        return Err(PrintError::NoRoom);
     }
-    Printed {
-        answer: PrintAnswer::Printed,
-        length,
-    }
+    Ok(length)
 }
 
 // The text written where there is room for all of it; its length in any case.

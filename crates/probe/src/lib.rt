@@ -4,7 +4,8 @@
 #![tactic(auto)]
 
 ghost use Rattle.std.specs.Prelude.{◌≡◌, cond, ◌||◌, [], ◌∷◌, length};
-ghost use Rattle.text.specs.Text.{address_number_of, read_parts, read_text};
+ghost use Rattle.octets.specs.Outcome.{number_by, length_of};
+ghost use Rattle.text.specs.Text.{address_number_of, address_read, read_parts, read_text};
 ghost use Rattle.printing.specs.Print.{print_number_of, printed, printed_into};
 ghost use Rattle.octets.specs.Outcome.{number_by};
 ghost use Rattle.decode.specs.Answer.{error_number, number_of};
@@ -24,10 +25,12 @@ ghost use Rattle.flat.specs.Given.{address_at, content_at, frame_from};
 ghost use Rattle.probe.specs.Places.{places_of, places_in, shown};
 ghost use Rattle.probe.specs.Calls.{lacks, answers, leaves, leaves_by, read_flat, hops_of};
 
+use address::Address;
 use answer::Numbered;
 use control::Mode;
 use decode::{DecodeError, Decoded};
 use frame::Ax25Frame;
+use text::AddressError;
 
 mod places; // places.rt: the places of a decode
 
@@ -82,7 +85,7 @@ pub extern "C" fn probe_decode(
     ensures places_after { places.new ≡ leaves (lacks flat.old 102 || lacks places.old 5) places.old (places_of (decode (mode_of mode) input.now)) }
 {
     put_decoded(
-        reading::from_bytes(Mode::of_number(mode), input),
+        reading::from_bytes(Mode::from(mode), input),
         flat,
         places,
     )
@@ -101,7 +104,7 @@ pub extern "C" fn probe_decode_old(
     ensures places_after { places.new ≡ leaves (lacks flat.old 102 || lacks places.old 5) places.old (places_of (decode_old (mode_of mode) input.now)) }
 {
     put_decoded(
-        old_captures::from_bytes(Mode::of_number(mode), input),
+        old_captures::from_bytes(Mode::from(mode), input),
         flat,
         places,
     )
@@ -124,7 +127,7 @@ pub extern "C" fn probe_encode(
         return NO_ROOM;
     }
     let frame = flat::given::frame_from(flat);
-    let written = frame.to_bytes(Mode::of_number(mode), info, out);
+    let written = frame.to_bytes(Mode::from(mode), info, out);
     len[0] = written.unwrap_or(0);
     written.number()
 }
@@ -143,61 +146,55 @@ pub extern "C" fn probe_again(given: &[u8], flat: &mut [u8]) -> u32
     0
 }
 
-// Reads a callsign and an SSID: the number and the address.
-#[unsafe(no_mangle)]
-pub extern "C" fn probe_from_parts(callsign: &[u8], ssid: u8, flat: &mut [u8]) -> u32
-    ensures value { result ≡ answers (lacks flat.old 8) (address_number_of (read_parts callsign.now ssid).answer) }
-    ensures flat_after { flat.new ≡ leaves_by (lacks flat.old 8) (address_number_of (read_parts callsign.now ssid).answer) flat.old (address_flat (read_parts callsign.now ssid).address) }
+// What was read: the number and the address.
+fn put_read(read: Result<Address, AddressError>, flat: &mut [u8]) -> u32
+    ensures value { result ≡ answers (lacks flat.old 8) (number_by address_number_of read) }
+    ensures flat_after { flat.new ≡ leaves_by (lacks flat.old 8) (number_by address_number_of read) flat.old (address_flat (address_read read)) }
 {
     if flat.len() < ADDRESS {
         return NO_ROOM;
     }
-    let read = text::from_parts(callsign, ssid);
-    let answer = read.answer;
-    let number = answer.number();
-    if number != ACCEPTED {
-        return number;
+    match read {
+        Ok(address) => {
+            flat::laid::put_address(flat, 0, address);
+            ACCEPTED
+        }
+        Err(refusal) => refusal.number(),
     }
-    let address = read.address;
-    flat::laid::put_address(flat, 0, address);
-    number
+}
+
+// Reads a callsign and an SSID: the number and the address.
+#[unsafe(no_mangle)]
+pub extern "C" fn probe_from_parts(callsign: &[u8], ssid: u8, flat: &mut [u8]) -> u32
+    ensures value { result ≡ answers (lacks flat.old 8) (number_by address_number_of (read_parts callsign.now ssid)) }
+    ensures flat_after { flat.new ≡ leaves_by (lacks flat.old 8) (number_by address_number_of (read_parts callsign.now ssid)) flat.old (address_flat (address_read (read_parts callsign.now ssid))) }
+{
+    put_read(text::from_parts(callsign, ssid), flat)
 }
 
 // Reads a text: the number and the address.
 #[unsafe(no_mangle)]
 pub extern "C" fn probe_from_str(text: &[u8], flat: &mut [u8]) -> u32
-    ensures value { result ≡ answers (lacks flat.old 8) (address_number_of (read_text text.now).answer) }
-    ensures flat_after { flat.new ≡ leaves_by (lacks flat.old 8) (address_number_of (read_text text.now).answer) flat.old (address_flat (read_text text.now).address) }
+    ensures value { result ≡ answers (lacks flat.old 8) (number_by address_number_of (read_text text.now)) }
+    ensures flat_after { flat.new ≡ leaves_by (lacks flat.old 8) (number_by address_number_of (read_text text.now)) flat.old (address_flat (address_read (read_text text.now))) }
 {
-    if flat.len() < ADDRESS {
-        return NO_ROOM;
-    }
-    let read = text::from_str(text);
-    let answer = read.answer;
-    let number = answer.number();
-    if number != ACCEPTED {
-        return number;
-    }
-    let address = read.address;
-    flat::laid::put_address(flat, 0, address);
-    number
+    put_read(text::from_str(text), flat)
 }
 
 // Prints a flat address: the number, the text, and how long it is.
 #[unsafe(no_mangle)]
 pub extern "C" fn probe_print(flat: &[u8], out: &mut [u8], len: &mut [usize]) -> u32
-    ensures value { result ≡ answers (lacks len.old 1) (print_number_of (printed (address_at flat.now 0) (length out.old)).answer) }
+    ensures value { result ≡ answers (lacks len.old 1) (number_by print_number_of (printed (address_at flat.now 0) (length out.old))) }
     ensures out_after { out.new ≡ cond (lacks len.old 1) out.old (printed_into (address_at flat.now 0) out.old) }
-    ensures len_after { len.new ≡ leaves (lacks len.old 1) len.old ((printed (address_at flat.now 0) (length out.old)).length ∷ []) }
+    ensures len_after { len.new ≡ leaves (lacks len.old 1) len.old (length_of (printed (address_at flat.now 0) (length out.old)) ∷ []) }
 {
     if len.len() < 1 {
         return NO_ROOM;
     }
     let address = flat::given::address_from(flat);
     let printed = printing::print(address, out);
-    let answer = printed.answer;
-    len[0] = printed.length;
-    answer.number()
+    len[0] = printed.unwrap_or(0);
+    printed.number()
 }
 
 // The simple UI frame of two flat addresses.
@@ -239,7 +236,7 @@ pub extern "C" fn probe_content(mode: u32, input: &[u8], flat: &mut [u8]) -> u32
     if flat.len() < CONTENT {
         return NO_ROOM;
     }
-    match parse::parse_content(Mode::of_number(mode), input) {
+    match parse::parse_content(Mode::from(mode), input) {
         Ok(content) => {
             flat::laid::put_content(flat, content);
             0
@@ -265,7 +262,7 @@ pub extern "C" fn probe_content_encode(
         return NO_ROOM;
     }
     let given = flat::given::content_from(content);
-    let written = encoding::encode(Mode::of_number(mode), given, info, out);
+    let written = encoding::encode(Mode::from(mode), given, info, out);
     len[0] = written.unwrap_or(0);
     written.number()
 }

@@ -3,7 +3,8 @@
 #![tactic(auto)]
 
 ghost use Rattle.std.specs.Prelude.{◌≡◌, cond, ◌||◌, [], ◌∷◌, length};
-ghost use Rattle.text.specs.Text.{address_number_of, read_parts, read_text};
+ghost use Rattle.octets.specs.Outcome.{number_by, length_of};
+ghost use Rattle.text.specs.Text.{address_number_of, address_read, read_parts, read_text};
 ghost use Rattle.printing.specs.Print.{print_number_of, printed, printed_into};
 ghost use Rattle.decode.specs.Answer.{number_of};
 ghost use Rattle.frame.specs.Frame.{write_number, simple_ui, default_frame};
@@ -74,25 +75,25 @@ pub extern "C" fn probe_again(given: &[u8], flat: &mut [u8]) -> u32
 
 #[unsafe(no_mangle)]
 pub extern "C" fn probe_from_parts(callsign: &[u8], ssid: u8, flat: &mut [u8]) -> u32
-    ensures value { result ≡ answers (lacks flat.old 8) (address_number_of (read_parts callsign.now ssid).answer) }
-    ensures flat_after { flat.new ≡ leaves_by (lacks flat.old 8) (address_number_of (read_parts callsign.now ssid).answer) flat.old (address_flat (read_parts callsign.now ssid).address) }
+    ensures value { result ≡ answers (lacks flat.old 8) (number_by address_number_of (read_parts callsign.now ssid)) }
+    ensures flat_after { flat.new ≡ leaves_by (lacks flat.old 8) (number_by address_number_of (read_parts callsign.now ssid)) flat.old (address_flat (address_read (read_parts callsign.now ssid))) }
 {
     probe::probe_from_parts(callsign, ssid, flat)
 }
 
 #[unsafe(no_mangle)]
 pub extern "C" fn probe_from_str(text: &[u8], flat: &mut [u8]) -> u32
-    ensures value { result ≡ answers (lacks flat.old 8) (address_number_of (read_text text.now).answer) }
-    ensures flat_after { flat.new ≡ leaves_by (lacks flat.old 8) (address_number_of (read_text text.now).answer) flat.old (address_flat (read_text text.now).address) }
+    ensures value { result ≡ answers (lacks flat.old 8) (number_by address_number_of (read_text text.now)) }
+    ensures flat_after { flat.new ≡ leaves_by (lacks flat.old 8) (number_by address_number_of (read_text text.now)) flat.old (address_flat (address_read (read_text text.now))) }
 {
     probe::probe_from_str(text, flat)
 }
 
 #[unsafe(no_mangle)]
 pub extern "C" fn probe_print(flat: &[u8], out: &mut [u8], len: &mut [usize]) -> u32
-    ensures value { result ≡ answers (lacks len.old 1) (print_number_of (printed (address_at flat.now 0) (length out.old)).answer) }
+    ensures value { result ≡ answers (lacks len.old 1) (number_by print_number_of (printed (address_at flat.now 0) (length out.old))) }
     ensures out_after { out.new ≡ cond (lacks len.old 1) out.old (printed_into (address_at flat.now 0) out.old) }
-    ensures len_after { len.new ≡ leaves (lacks len.old 1) len.old ((printed (address_at flat.now 0) (length out.old)).length ∷ []) }
+    ensures len_after { len.new ≡ leaves (lacks len.old 1) len.old (length_of (printed (address_at flat.now 0) (length out.old)) ∷ []) }
 {
     probe::probe_print(flat, out, len)
 }

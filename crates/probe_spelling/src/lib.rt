@@ -18,7 +18,7 @@ use control::Mode;
 pub extern "C" fn probe_canonical(mode: u32, input: &[u8]) -> u32
     ensures { result ≡ cond (canonical (mode_of mode) input.now) 1 0 }
 {
-    if spelling::is_canonical(Mode::of_number(mode), input) {
+    if spelling::is_canonical(Mode::from(mode), input) {
         1
     } else {
         0
@@ -37,7 +37,7 @@ pub extern "C" fn probe_reencode(
     ensures output_after { output.new ≡ splice output.old 0 (reencoded (mode_of mode) input.now (list_length output.old)) }
     ensures length_after { length.new ≡ length_of (reencode (mode_of mode) input.now (list_length output.old)) }
 {
-    let done = respelling::reencode(Mode::of_number(mode), input, output);
+    let done = respelling::reencode(Mode::from(mode), input, output);
     *length = done.unwrap_or(0);
     done.number()
 }

@@ -4,6 +4,7 @@ ghost use Rattle.std.specs.Prelude.{◌≤◌, length};
 
 use crate::words::{first, show_lent, show_number};
 use address::Address;
+use answer::Numbered;
 use std::io::Stdout;
 
 // The list is of the short mode, the Rust's.
@@ -128,10 +129,8 @@ fn group(output: Stdout, flat: &[u8], n: usize) {
     let mark = n % 2 == 1;
     let end = n / 2 % 2 == 1;
     let written = group::to_bytes(address, mark, end);
-    let answer = written.answer;
-    let octets = written.group;
-    show_answer(output, answer.number());
-    show_lent(output, &octets);
+    show_answer(output, written.number());
+    show_lent(output, &written.unwrap_or([0; 7]));
     let mut out = [0xEEu8; 12];
     put_in(output, &mut out, n / 4, address, mark, end);
 }

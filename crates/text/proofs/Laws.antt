@@ -1,8 +1,9 @@
 -- The numbers of reading, each given exactly when its condition of the table holds, in the table's order; and that the
 -- text of an address reads back as it.
+use Rattle.std.proofs.Common.{Result, Ok, Err, IsOk}
 use Prim.Native.Nat.{ℕ, zero, suc, ◌+◌, ◌*◌, ◌-◌, ◌/◌, ◌%◌, ◌<◌, ◌≤◌}
 use mathlib.Core.Path.{◌≡◌, refl, ap, sym, ◌∙◌}
-use mathlib.Core.Bool.{Bool, true, false, cond, not, ◌&&◌}
+use mathlib.Core.Bool.{Bool, true, false, false≢true, cond, not, ◌&&◌}
 use mathlib.Core.List.{List, [], ◌∷◌, ◌++◌}
 use native.Mathlib.Nat.{add-zero}
 use native.Mathlib.Omega.{arith}
@@ -18,12 +19,11 @@ use Rattle.octets.proofs.Count.{count_append}
 use Rattle.octets.proofs.First.{first_step, first_end, first_past}
 use Rattle.octets.proofs.Octet.{octet_where}
 use Rattle.address.specs.declared.Address.{Address}
-use Rattle.text.specs.declared.AddressAnswer.{AddressAnswer}
-use Rattle.text.specs.declared.AddressAnswer.TheVariants.{Accepted}
-use Rattle.text.specs.declared.AddressRead.{AddressRead}
+use Rattle.text.specs.declared.AddressError.{AddressError}
+use Rattle.octets.specs.Outcome.{number_by}
 use Rattle.address.specs.Address.{low, reserved_ones, with_ones, no_call, encodable, PlainAddress}
 use Rattle.octets.specs.Count.{count}
-use Rattle.text.specs.Text.{address_number_of, hyphen, digit, upper_case, lower_case, alphanumeric, upper, upper_at, decimal_from, decimal, digits8, after_plus, callsign_text, many_hyphens, empty, long, wide, has_ssid, ssid_text, ssid_value, bad_ssid, padded, read_callsign, read_parts, read_text, upper_or_digit, TextAddress, high, strange}
+use Rattle.text.specs.Text.{address_number_of, address_read, hyphen, digit, upper_case, lower_case, alphanumeric, upper, upper_at, decimal_from, decimal, digits8, after_plus, callsign_text, many_hyphens, empty, long, wide, has_ssid, ssid_text, ssid_value, bad_ssid, padded, read_callsign, read_parts, read_text, upper_or_digit, TextAddress, high, strange}
 use Rattle.printing.specs.Print.{space, used, trimmed, decimal_text, ssid_suffix, text_of}
 use Rattle.address.proofs.Laws.{six_list, no_call-plain, no_call_ones, encodable_is}
 use Rattle.printing.proofs.Laws.{used_le, trimmed-length}
@@ -33,19 +33,19 @@ abbrev pub callsign_rows : List ℕ → ℕ → ℕ
 callsign_rows c s = cond (empty c) 32 (cond (long c) 31 (cond (strange c) 32 (cond (wide s) 34 0)))
 
 -- the numbers that reading gives
-callsign_numbers : (c : List ℕ) (s : ℕ) → address_number_of (read_callsign c s).answer ≡ callsign_rows c s
+callsign_numbers : (c : List ℕ) (s : ℕ) → number_by address_number_of (read_callsign c s) ≡ callsign_rows c s
 unfolding read_callsign
 callsign_numbers c s =
     by (empty c) (λ e. simp e) (λ e.
     by (long c) (λ l. simp (e, l)) (λ l.
     by (all alphanumeric c) (λ x. by (wide s) (λ w. simp (e, l, x, w)) (λ w. simp (e, l, x, w))) (λ x. simp (e, l, x))))
 
-pub parts_numbers : (c : List ℕ) (s : ℕ) → address_number_of (read_parts c s).answer ≡ cond (high c) 35 (callsign_rows c s)
+pub parts_numbers : (c : List ℕ) (s : ℕ) → number_by address_number_of (read_parts c s) ≡ cond (high c) 35 (callsign_rows c s)
 unfolding read_parts
 parts_numbers c s = by (all low c) (λ h. simp h (callsign_numbers c s)) (λ h. simp h)
 
 pub text_numbers : (t : List ℕ)
-    → address_number_of (read_text t).answer
+    → number_by address_number_of (read_text t)
     ≡ cond (high t) 35 (cond (many_hyphens t) 32 (cond (bad_ssid t) 33 (callsign_rows (callsign_text t) (ssid_value t))))
 unfolding read_text
 text_numbers t =
@@ -54,28 +54,20 @@ text_numbers t =
     by (bad_ssid t) (λ b. simp (h, m, b)) (λ b. simp (h, m, b) (callsign_numbers (callsign_text t) (ssid_value t)))))
     (λ h. simp h)
 
--- a refused read gives NOCALL
-abbrev Bare : AddressRead → Type 0
-Bare r = (r.answer ≡ Accepted → ⊥) → r.address ≡ no_call
+-- a refused read gives NOCALL, and what is not refused the address that was read
+refused : (r : Result Address AddressError) → (IsOk r → ⊥) → address_read r ≡ no_call
+refused (Ok a) n = absurd (n refl)
+refused (Err e) n = refl
 
-callsign-refused : (c : List ℕ) (s : ℕ) → Bare (read_callsign c s)
-unfolding read_callsign
-callsign-refused c s =
-    either Bare (empty c) (λ _ n. refl)
-    (λ _. either Bare (long c) (λ _ n. refl)
-    (λ _. either Bare (strange c) (λ _ n. refl)
-    (λ _. either Bare (wide s) (λ _ n. refl) (λ _ n. absurd (n refl)))))
+read : (r : Result Address AddressError) → IsOk r → r ≡ Ok (address_read r)
+read (Ok a) e = refl
+read (Err e) h = absurd (false≢true h)
 
-pub parts-refused : (c : List ℕ) (s : ℕ) → ((read_parts c s).answer ≡ Accepted → ⊥) → (read_parts c s).address ≡ no_call
-unfolding read_parts
-parts-refused c s = either Bare (high c) (λ _ n. refl) (λ _. callsign-refused c s)
+pub parts-refused : (c : List ℕ) (s : ℕ) → (IsOk (read_parts c s) → ⊥) → address_read (read_parts c s) ≡ no_call
+parts-refused c s = refused (read_parts c s)
 
-pub text-refused : (t : List ℕ) → ((read_text t).answer ≡ Accepted → ⊥) → (read_text t).address ≡ no_call
-unfolding read_text
-text-refused t =
-    either Bare (high t) (λ _ n. refl)
-    (λ _. either Bare (many_hyphens t) (λ _ n. refl)
-    (λ _. either Bare (bad_ssid t) (λ _ n. refl) (λ _. callsign-refused (callsign_text t) (ssid_value t))))
+pub text-refused : (t : List ℕ) → (IsOk (read_text t) → ⊥) → address_read (read_text t) ≡ no_call
+text-refused t = refused (read_text t)
 
 -- upper-case letters and digits, as the other tests see them: octets, so that each is one computed test
 fine_octet : (c : ℕ) → upper_or_digit c ≡ true → c < 256
@@ -237,12 +229,12 @@ module _ (c u : List ℕ) (s : ℕ) (q : Suffix u s) (o : all other c ≡ true) 
   few = le-ltb 1 (count hyphen (c ++ u)) (omega (arith, count_append hyphen c u, count_none c o, q.hyphens))
 
 accepted : (c : List ℕ) (s : ℕ) → 0 < length c → length c ≤ 6 → all alphanumeric c ≡ true → s ≤ 15
-    → read_callsign c s ≡ record { answer = Accepted; address = with_ones (padded c) s }
+    → read_callsign c s ≡ Ok (with_ones (padded c) s)
 unfolding read_callsign
 accepted c s n l h w = simp (ne_eqb (length c) 0 (λ z. omega arith), le-ltb 6 (length c) l, h, le-ltb 15 s w)
 
 -- the text of an address that people write reads back as its callsign and SSID: the text does not show the reserved bits
-pub print-back : (a : Address) → TextAddress a → read_text (text_of a) ≡ record { answer = Accepted; address = with_ones a.callsign a.ssid }
+pub print-back : (a : Address) → TextAddress a → read_text (text_of a) ≡ Ok (with_ones a.callsign a.ssid)
 unfolding read_text
 print-back a p =
     let c : List ℕ = trimmed a.callsign in
@@ -251,7 +243,7 @@ print-back a p =
     let o : all other c ≡ true = all-follows upper_or_digit other fine-other c p.characters in
     let n : length c ≡ used a.callsign = trimmed-length a.callsign in
     let lows : all low (c ++ u) ≡ true = all_append low c u ∙ rw (all-follows upper_or_digit low fine-low c p.characters, q.lows) refl in
-    let read : read_callsign c a.ssid ≡ record { answer = Accepted; address = with_ones (padded c) a.ssid } =
+    let read : read_callsign c a.ssid ≡ Ok (with_ones (padded c) a.ssid) =
     accepted c a.ssid (omega (arith, p.some)) (omega (arith, used_le a.callsign, p.six))
     (all-follows upper_or_digit alphanumeric fine-alphanumeric c p.characters) p.small in
     simp (lows, few c u _ q o, number c u _ q o)
@@ -295,7 +287,7 @@ padded-plain c s h l = record {
   );
 }
 
-callsign-plain : (c : List ℕ) (s : ℕ) → PlainAddress (read_callsign c s).address
+callsign-plain : (c : List ℕ) (s : ℕ) → PlainAddress (address_read (read_callsign c s))
 unfolding read_callsign
 callsign-plain c s =
     by (empty c) (λ e. simp e no_call-plain) (λ e.
@@ -304,11 +296,11 @@ callsign-plain c s =
     (λ x. by (wide s) (λ w. simp (e, l, x, w) no_call-plain) (λ w. simp (e, l, x, w) (padded-plain c s x (ltb-false 15 s w))))
     (λ x. simp (e, l, x) no_call-plain)))
 
-pub parts-plain : (c : List ℕ) (s : ℕ) → PlainAddress (read_parts c s).address
+pub parts-plain : (c : List ℕ) (s : ℕ) → PlainAddress (address_read (read_parts c s))
 unfolding read_parts
 parts-plain c s = by (all low c) (λ h. simp h (callsign-plain c s)) (λ h. simp h no_call-plain)
 
-pub text-plain : (t : List ℕ) → PlainAddress (read_text t).address
+pub text-plain : (t : List ℕ) → PlainAddress (address_read (read_text t))
 unfolding read_text
 text-plain t =
     by (all low t) (λ h.
@@ -368,38 +360,35 @@ padded_address c s n l h w =
       reserves = omega arith;
     }
 
-refusing : (x : AddressAnswer) → 0 < address_number_of x → x ≡ Accepted → ⊥
-refusing x h z = let n : address_number_of x ≡ 0 = ap address_number_of z in omega arith
-
-callsign_address : (c : List ℕ) (s : ℕ) → (read_callsign c s).answer ≡ Accepted → TextAddress (read_callsign c s).address
+callsign_address : (c : List ℕ) (s : ℕ) → IsOk (read_callsign c s) → TextAddress (address_read (read_callsign c s))
 unfolding read_callsign
 callsign_address c s =
-    by (empty c) (λ e. simp e (λ z. absurd (refusing _ (omega arith) z))) (λ e.
-    by (long c) (λ l. simp (e, l) (λ z. absurd (refusing _ (omega arith) z))) (λ l.
+    by (empty c) (λ e. simp e (λ z. absurd (false≢true z))) (λ e.
+    by (long c) (λ l. simp (e, l) (λ z. absurd (false≢true z))) (λ l.
     by (all alphanumeric c)
-    (λ x. by (wide s) (λ w. simp (e, l, x, w) (λ z. absurd (refusing _ (omega arith) z)))
+    (λ x. by (wide s) (λ w. simp (e, l, x, w) (λ z. absurd (false≢true z)))
     (λ w. let n : 0 < length c = some c (eqb-false (length c) 0 e) in
     simp (e, l, x, w) (λ z. padded_address c s n (ltb-false 6 (length c) l) x (ltb-false 15 s w))))
-    (λ x. simp (e, l, x) (λ z. absurd (refusing _ (omega arith) z)))))
+    (λ x. simp (e, l, x) (λ z. absurd (false≢true z)))))
   where
     some : (c : List ℕ) → (length c ≡ 0 → ⊥) → 0 < length c
     some [] n = absurd (n refl)
     some (x ∷ c) n = omega arith
 
-pub text_address : (t : List ℕ) → (read_text t).answer ≡ Accepted → TextAddress (read_text t).address
+pub text_address : (t : List ℕ) → IsOk (read_text t) → TextAddress (address_read (read_text t))
 unfolding read_text
 text_address t =
     by (all low t) (λ h.
-    by (many_hyphens t) (λ m. simp (h, m) (λ z. absurd (refusing _ (omega arith) z))) (λ m.
-    by (bad_ssid t) (λ b. simp (h, m, b) (λ z. absurd (refusing _ (omega arith) z)))
+    by (many_hyphens t) (λ m. simp (h, m) (λ z. absurd (false≢true z))) (λ m.
+    by (bad_ssid t) (λ b. simp (h, m, b) (λ z. absurd (false≢true z)))
     (λ b. simp (h, m, b) (callsign_address (callsign_text t) (ssid_value t)))))
-    (λ h. simp h (λ z. absurd (refusing _ (omega arith) z)))
+    (λ h. simp h (λ z. absurd (false≢true z)))
 
 -- whatever is read has both reserved bits set
-abbrev Ones : AddressRead → Type 0
-Ones r = r.address.reserved ≡ reserved_ones
+abbrev Ones : Result Address AddressError → Type 0
+Ones r = (address_read r).reserved ≡ reserved_ones
 
-callsign_ones : (c : List ℕ) (s : ℕ) → (read_callsign c s).address.reserved ≡ reserved_ones
+callsign_ones : (c : List ℕ) (s : ℕ) → (address_read (read_callsign c s)).reserved ≡ reserved_ones
 unfolding read_callsign
 callsign_ones c s =
     either Ones (empty c) (λ _. no_call_ones)
@@ -407,11 +396,11 @@ callsign_ones c s =
     (λ _. either Ones (strange c) (λ _. no_call_ones)
     (λ _. either Ones (wide s) (λ _. no_call_ones) (λ _. refl))))
 
-pub parts_ones : (c : List ℕ) (s : ℕ) → (read_parts c s).address.reserved ≡ reserved_ones
+pub parts_ones : (c : List ℕ) (s : ℕ) → (address_read (read_parts c s)).reserved ≡ reserved_ones
 unfolding read_parts
 parts_ones c s = either Ones (high c) (λ _. no_call_ones) (λ _. callsign_ones c s)
 
-pub text_ones : (t : List ℕ) → (read_text t).address.reserved ≡ reserved_ones
+pub text_ones : (t : List ℕ) → (address_read (read_text t)).reserved ≡ reserved_ones
 unfolding read_text
 text_ones t =
     either Ones (high t) (λ _. no_call_ones)
@@ -419,9 +408,12 @@ text_ones t =
     (λ _. either Ones (bad_ssid t) (λ _. no_call_ones) (λ _. callsign_ones (callsign_text t) (ssid_value t))))
 
 -- so an accepted text, printed and read again, is the same address
-pub text-back : (t : List ℕ) → (read_text t).answer ≡ Accepted → read_text (text_of (read_text t).address) ≡ read_text t
+pub text-back : (t : List ℕ) → IsOk (read_text t) → read_text (text_of (address_read (read_text t))) ≡ read_text t
 text-back t e =
-    print-back (read_text t).address (text_address t e) ∙ rw (← text_ones t, ← e) refl
+    let a : Address = address_read (read_text t) in
+    let ones : Ok (with_ones a.callsign a.ssid) ≡ Ok a =
+    ap (λ (n : ℕ). Ok (record { callsign = a.callsign; ssid = a.ssid; reserved = n })) (sym (text_ones t)) in
+    print-back a (text_address t e) ∙ ones ∙ sym (read (read_text t) e)
 
 -- and an address that people write can be printed
 pub text_writable : (a : Address) → TextAddress a → encodable a ≡ true

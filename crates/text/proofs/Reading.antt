@@ -1,5 +1,5 @@
 -- How the loops and tests of the readers come to their definitions: one turn, the end, and what each refusal of an SSID's text rests on.
-use Rattle.std.proofs.Common.{Some, None}
+use Rattle.std.proofs.Common.{Some, None, Err}
 use Prim.Native.Nat.{ℕ, ◌+◌, ◌*◌, ◌-◌, ◌<◌, ◌≤◌}
 use mathlib.Core.Path.{◌≡◌, refl}
 use mathlib.Core.Bool.{true, false}
@@ -13,8 +13,8 @@ use Rattle.octets.specs.All.{all}
 use Rattle.octets.specs.First.{first}
 use Rattle.octets.proofs.Choice.{by, and_false}
 use Rattle.address.specs.Address.{low}
-use Rattle.text.specs.declared.AddressAnswer.TheVariants.{InvalidSsid}
-use Rattle.text.specs.Text.{hyphen, digit, decimal_from, decimal, digits8, after_plus, many_hyphens, bad_ssid, ssid_value, digits_say, refused, read_callsign, read_text}
+use Rattle.text.specs.declared.AddressError.TheVariants.{InvalidSsid}
+use Rattle.text.specs.Text.{hyphen, digit, decimal_from, decimal, digits8, after_plus, many_hyphens, bad_ssid, ssid_value, digits_say, read_callsign, read_text}
 
 pub decimal_step : (s : List ℕ) (i v : ℕ) → i < length s → decimal_from v (drop i s) ≡ decimal_from (v * 10 + (get_or s i 0 - 48)) (drop (i + 1) s)
 unfolding decimal_from
@@ -84,7 +84,7 @@ module _ (t : List ℕ) (lows : all low t ≡ true) (few : many_hyphens t ≡ fa
         nothing : (s : ℕ) → Some s ≡ None → ⊥
         nothing s e = cc
 
-    pub read_strange : None ≡ digits_say (after_plus (drop (at + 1) t)) → read_text t ≡ refused InvalidSsid
+    pub read_strange : None ≡ digits_say (after_plus (drop (at + 1) t)) → read_text t ≡ Err InvalidSsid
     unfolding read_text bad_ssid ssid_value digits_say
     read_strange d =
         by (digits8 (after_plus (drop (at + 1) t)))

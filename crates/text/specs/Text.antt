@@ -1,18 +1,17 @@
 -- Reading the text of an address: callsign, hyphen, SSID. The conditions of document 01's number table, and the readers.
-use Rattle.std.specs.Prelude.{ℕ, ◌+◌, ◌*◌, ◌-◌, ◌≤◌, ◌<◌, ◌≡◌, Bool, true, cond, not, ◌&&◌, ◌||◌, List, [], ◌∷◌, eqb, ltb, leb, length, get_or, take, drop, Option, Some, None}
+use Rattle.std.specs.Prelude.{ℕ, ◌+◌, ◌*◌, ◌-◌, ◌≤◌, ◌<◌, ◌≡◌, Bool, true, cond, not, ◌&&◌, ◌||◌, List, [], ◌∷◌, eqb, ltb, leb, length, get_or, take, drop, Option, Some, None, Result, Ok, Err}
+use Rattle.std.specs.Result.{result_unwrap_or}
 use Rattle.octets.specs.All.{all}
 use Rattle.octets.specs.Count.{count}
 use Rattle.octets.specs.First.{first}
 use Rattle.address.specs.declared.Address.{Address}
-use Rattle.text.specs.declared.AddressAnswer.{AddressAnswer}
-use Rattle.text.specs.declared.AddressAnswer.TheVariants.{Accepted, CallsignTooLong, InvalidFormat, InvalidSsid, SsidOutOfRange, NotAscii}
-use Rattle.text.specs.declared.AddressRead.{AddressRead}
+use Rattle.text.specs.declared.AddressError.{AddressError}
+use Rattle.text.specs.declared.AddressError.TheVariants.{CallsignTooLong, InvalidFormat, InvalidSsid, SsidOutOfRange, NotAscii}
 use Rattle.address.specs.Address.{low, with_ones, no_call}
 use Rattle.printing.specs.Print.{used, trimmed}
 
--- document 01's numbers for reading an address
-abbrev pub address_number_of : AddressAnswer → ℕ
-address_number_of Accepted = 0
+-- document 01's numbers for an address that is not read
+abbrev pub address_number_of : AddressError → ℕ
 address_number_of CallsignTooLong = 31
 address_number_of InvalidFormat = 32
 address_number_of InvalidSsid = 33
@@ -110,29 +109,29 @@ upper_at c k = upper (get_or c k 32)
 unfoldable pub padded : List ℕ → List ℕ
 padded c = upper_at c 0 ∷ upper_at c 1 ∷ upper_at c 2 ∷ upper_at c 3 ∷ upper_at c 4 ∷ upper_at c 5 ∷ []
 
--- a refused read gives NOCALL, SSID 0
-abbrev pub refused : AddressAnswer → AddressRead
-refused answer = record { answer = answer; address = no_call }
+-- the address that was read: NOCALL, SSID 0, for who asks for one where that was refused
+abbrev pub address_read : Result Address AddressError → Address
+address_read r = result_unwrap_or r no_call
 
 -- what reading a callsign without octets of 128 or more, and an SSID, gives
-unfoldable pub read_callsign : List ℕ → ℕ → AddressRead
+unfoldable pub read_callsign : List ℕ → ℕ → Result Address AddressError
 read_callsign c s =
-    cond (empty c) (refused InvalidFormat)
-    (cond (long c) (refused CallsignTooLong)
-    (cond (strange c) (refused InvalidFormat)
-    (cond (wide s) (refused SsidOutOfRange)
-    (record { answer = Accepted; address = with_ones (padded c) s }))))
+    cond (empty c) (Err InvalidFormat)
+    (cond (long c) (Err CallsignTooLong)
+    (cond (strange c) (Err InvalidFormat)
+    (cond (wide s) (Err SsidOutOfRange)
+    (Ok (with_ones (padded c) s)))))
 
 -- what `from_parts` gives
-unfoldable pub read_parts : List ℕ → ℕ → AddressRead
-read_parts c s = cond (high c) (refused NotAscii) (read_callsign c s)
+unfoldable pub read_parts : List ℕ → ℕ → Result Address AddressError
+read_parts c s = cond (high c) (Err NotAscii) (read_callsign c s)
 
 -- what the text gives
-unfoldable pub read_text : List ℕ → AddressRead
+unfoldable pub read_text : List ℕ → Result Address AddressError
 read_text t =
-    cond (high t) (refused NotAscii)
-    (cond (many_hyphens t) (refused InvalidFormat)
-    (cond (bad_ssid t) (refused InvalidSsid)
+    cond (high t) (Err NotAscii)
+    (cond (many_hyphens t) (Err InvalidFormat)
+    (cond (bad_ssid t) (Err InvalidSsid)
     (read_callsign (callsign_text t) (ssid_value t))))
 
 -- what the text of an SSID says: the number, if it is one

@@ -3,15 +3,15 @@
 
 ghost use Rattle.std.specs.Prelude.{◌≡◌, ◌+◌, ◌-◌, ◌*◌, ◌<◌, ◌≤◌, MatchOption, position, count_by};
 ghost use Rattle.octets.specs.All.{all};
-ghost use Rattle.text.specs.Text.{address_number_of, hyphen, digits_say, after_plus, alphanumeric, upper_at, padded, refused, read_callsign, read_parts, read_text};
+ghost use Rattle.text.specs.Text.{address_number_of, hyphen, digits_say, after_plus, alphanumeric, upper_at, padded, read_callsign, read_parts, read_text};
 
 use address::Address;
+use answer::Numbered;
 use std::array;
 
-// How reading an address ended.
+// Why an address is not read.
 #[derive(Clone, Copy, Debug, PartialEq, Eq)]
-pub enum AddressAnswer {
-    Accepted,
+pub enum AddressError {
     CallsignTooLong,
     InvalidFormat,
     InvalidSsid,
@@ -19,62 +19,46 @@ pub enum AddressAnswer {
     NotAscii,
 }
 
-#[derive(Clone, Copy, Debug, PartialEq, Eq)]
-pub struct AddressRead {
-    pub answer: AddressAnswer,
-    pub address: Address,
-}
+impl Numbered for AddressError {
+    ghost number_of = { address_number_of };
 
-impl AddressAnswer {
-    pub fn number(self) -> u32
-        ensures { result ≡ address_number_of self }
-    {
+    fn number(self) -> u32 {
         match self {
-            AddressAnswer::Accepted => 0,
-            AddressAnswer::CallsignTooLong => 31,
-            AddressAnswer::InvalidFormat => 32,
-            AddressAnswer::InvalidSsid => 33,
-            AddressAnswer::SsidOutOfRange => 34,
-            AddressAnswer::NotAscii => 35,
+            AddressError::CallsignTooLong => 31,
+            AddressError::InvalidFormat => 32,
+            AddressError::InvalidSsid => 33,
+            AddressError::SsidOutOfRange => 34,
+            AddressError::NotAscii => 35,
         }
     }
 }
 
 // The address of a callsign and an SSID.
-pub fn from_parts(callsign: &[u8], ssid: u8) -> AddressRead
+pub fn from_parts(callsign: &[u8], ssid: u8) -> Result<Address, AddressError>
     ensures { result ≡ read_parts callsign.now ssid }
 {
     if !address::is_ascii(callsign) {
-        return refusal(AddressAnswer::NotAscii);
+        return Err(AddressError::NotAscii);
     }
     read_callsign(callsign, ssid)
 }
 
 // The address of a text. The SSID is read before the callsign is looked at.
-pub fn from_str(text: &[u8]) -> AddressRead
+pub fn from_str(text: &[u8]) -> Result<Address, AddressError>
     ensures { result ≡ read_text text.now }
 {
     if !address::is_ascii(text) {
-        return refusal(AddressAnswer::NotAscii);
+        return Err(AddressError::NotAscii);
     }
     if hyphens(text) > 1 {
-        return refusal(AddressAnswer::InvalidFormat);
+        return Err(AddressError::InvalidFormat);
     }
     let Some(at) = first_hyphen(text) else {
         return read_callsign(text, 0);
     };
     match parse_ssid(&text[at + 1..]) {
         Some(ssid) => read_callsign(&text[..at], ssid),
-        None => refusal(AddressAnswer::InvalidSsid),
-    }
-}
-
-fn refusal(answer: AddressAnswer) -> AddressRead
-    ensures { result ≡ refused answer }
-{
-    AddressRead {
-        answer,
-        address: Address::default(),
+        None => Err(AddressError::InvalidSsid),
     }
 }
 
@@ -130,29 +114,26 @@ fn with_digit(value: u8, digit: u8) -> Option<u8>
 
 // An address from a callsign without octets of 128 or more, and an SSID.
 #[tactic(auto, unfolding(crate::specs::Text::read_callsign))]
-fn read_callsign(callsign: &[u8], ssid: u8) -> AddressRead
+fn read_callsign(callsign: &[u8], ssid: u8) -> Result<Address, AddressError>
     ensures { result ≡ read_callsign callsign.now ssid }
 {
     if callsign.is_empty() {
-        return refusal(AddressAnswer::InvalidFormat);
+        return Err(AddressError::InvalidFormat);
     }
     if callsign.len() > 6 {
-        return refusal(AddressAnswer::CallsignTooLong);
+        return Err(AddressError::CallsignTooLong);
     }
     if !are_alphanumeric(callsign) {
-        return refusal(AddressAnswer::InvalidFormat);
+        return Err(AddressError::InvalidFormat);
     }
     if ssid > 15 {
-        return refusal(AddressAnswer::SsidOutOfRange);
+        return Err(AddressError::SsidOutOfRange);
     }
-    AddressRead {
-        answer: AddressAnswer::Accepted,
-        address: Address {
-            callsign: pad(callsign),
-            ssid,
-            reserved: address::RESERVED_ONES,
-        },
-    }
+    Ok(Address {
+        callsign: pad(callsign),
+        ssid,
+        reserved: address::RESERVED_ONES,
+    })
 }
 
 // Whether every character is a letter or a digit.

@@ -9,4 +9,4 @@ returns-then-not-is_encodable c = simp (sym c.is_encodable.ensures ∙ c.if-not-
 
 pub returns : goal.returns
 unfolding write_group
-returns c = simp (sym c.is_encodable.ensures ∙ c.if-not-is_encodable.false, c.group_of-group.ensures)
+returns c = simp (sym c.is_encodable.ensures ∙ c.if-not-is_encodable.false, c.group_of.ensures)

@@ -10,14 +10,14 @@ returns-then-not-is_encodable c =
     let e = sym c.is_encodable.ensures ∙ c.if-not-is_encodable.true in
     record { value = rw e; out_after = sym (rw e (splice_none _ _)) }
 
-pub returns-then-store : goal.returns-then-store
+pub returns : goal.returns
 unfolding put_answer put_octets
-returns-then-store c =
+returns c =
     let e = sym c.is_encodable.ensures ∙ c.if-not-is_encodable.false in
-    record { value = rw (e, sym c.store.ensures.value ∙ c.if-store.true); out_after = c.store.ensures.out_after ∙ rw (e, c.group_of.ensures) }
+    record { value = rw (e, sym c.store.ensures.value ∙ c.if-not-store.false); out_after = c.store.ensures.out_after ∙ rw (e, c.group_of-group.ensures) }
 
-pub returns-else-store : goal.returns-else-store
+pub returns-then-not-store : goal.returns-then-not-store
 unfolding put_answer put_octets
-returns-else-store c =
+returns-then-not-store c =
     let e = sym c.is_encodable.ensures ∙ c.if-not-is_encodable.false in
-    record { value = rw (e, sym c.store.ensures.value ∙ c.if-store.false); out_after = c.store.ensures.out_after ∙ rw (e, c.group_of.ensures) }
+    record { value = rw (e, sym c.store.ensures.value ∙ c.if-not-store.true); out_after = c.store.ensures.out_after ∙ rw (e, c.group_of-group.ensures) }

@@ -6,9 +6,9 @@ use Rattle.probe.proofs.probe_decode.Goals as goal
 
 pub returns : goal.returns
 returns c =
-    let s = decode_shown c.of_number.result c.args.input.now in
+    let s = decode_shown c.from.result c.args.input.now in
     record {
-      value = rw (← c.of_number.ensures, ← s.number, ← c.from_bytes.ensures) c.put_decoded.ensures.value;
-      flat_after = rw (← c.of_number.ensures) (rw (c.from_bytes.ensures, s.number, s.frame) at c.put_decoded.ensures.flat_after);
-      places_after = rw (← c.of_number.ensures, ← s.places, ← c.from_bytes.ensures) c.put_decoded.ensures.places_after;
+      value = rw (← c.from.ensures, ← s.number, ← c.from_bytes.ensures) c.put_decoded.ensures.value;
+      flat_after = rw (← c.from.ensures) (rw (c.from_bytes.ensures, s.number, s.frame) at c.put_decoded.ensures.flat_after);
+      places_after = rw (← c.from.ensures, ← s.places, ← c.from_bytes.ensures) c.put_decoded.ensures.places_after;
     }

@@ -12,4 +12,4 @@ returns-then-len-lt1 c = record { value = rw (lt-ltb _ _ c.if-len-lt1.true) refl
 pub returns : goal.returns
 returns c =
     let a = c.args in
-    record { value = rw (le-ltb _ _ c.if-len-lt1.false) (rw (c.number.ensures, c.to_bytes-written.ensures.value, c.of_number.ensures, c.frame_from-frame.ensures) refl); out_after = rw (le-ltb _ _ c.if-len-lt1.false) (c.to_bytes-written.ensures.out_after ∙ rw (c.of_number.ensures, c.frame_from-frame.ensures) refl); len_after = rw (le-ltb _ _ c.if-len-lt1.false) (rw (c.unwrap_or.ensures, unwrapped, c.to_bytes-written.ensures.value, c.of_number.ensures, c.frame_from-frame.ensures) (sym (splice_one a.len.now 0 _ (omega arith)))) }
+    record { value = rw (le-ltb _ _ c.if-len-lt1.false) (rw (c.number.ensures, c.to_bytes-written.ensures.value, c.from.ensures, c.frame_from-frame.ensures) refl); out_after = rw (le-ltb _ _ c.if-len-lt1.false) (c.to_bytes-written.ensures.out_after ∙ rw (c.from.ensures, c.frame_from-frame.ensures) refl); len_after = rw (le-ltb _ _ c.if-len-lt1.false) (rw (c.unwrap_or.ensures, unwrapped, c.to_bytes-written.ensures.value, c.from.ensures, c.frame_from-frame.ensures) (sym (splice_one a.len.now 0 _ (omega arith)))) }

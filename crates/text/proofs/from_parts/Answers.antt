@@ -5,7 +5,7 @@ use Rattle.text.proofs.from_parts.Goals as goal
 
 pub returns-then-not-is_ascii : goal.returns-then-not-is_ascii
 unfolding read_parts
-returns-then-not-is_ascii c = simp (c.refusal.ensures, sym c.is_ascii.ensures ∙ c.if-not-is_ascii.true)
+returns-then-not-is_ascii c = simp (sym c.is_ascii.ensures ∙ c.if-not-is_ascii.true)
 
 pub returns : goal.returns
 unfolding read_parts

@@ -12,13 +12,12 @@ few t n e h = le-ltb 1 (count hyphen t) (omega (arith, e, count-library hyphen t
 
 pub returns-then-not-is_ascii : goal.returns-then-not-is_ascii
 unfolding read_text
-returns-then-not-is_ascii c = simp (c.refusal.ensures, sym c.is_ascii.ensures ∙ c.if-not-is_ascii.true)
+returns-then-not-is_ascii c = simp (sym c.is_ascii.ensures ∙ c.if-not-is_ascii.true)
 
 pub returns-then-hyphens-gt1 : goal.returns-then-hyphens-gt1
 unfolding read_text
 returns-then-hyphens-gt1 c =
     simp (
-      c.refusal-then-hyphens-gt1.ensures,
       sym c.is_ascii.ensures ∙ c.if-not-is_ascii.false,
       ← count-library,
       ← c.hyphens.ensures,
@@ -46,7 +45,6 @@ returns-in-None c =
     let t = c.args.text.now in
     let some = rw c.in-Some.is at (position-first hyphen t _ c.first_hyphen.ensures) in
     let said = rw (part_from t (c.in-Some.at + 1)) at c.in-None.ensures in
-    c.refusal-in-None.ensures
-    ∙ sym
+    sym
     (read_strange t (sym c.is_ascii.ensures ∙ c.if-not-is_ascii.false) (few t c.hyphens.result c.hyphens.ensures (omega arith))
     c.in-Some.at some.0 some.1 said)

@@ -2,6 +2,7 @@
 use mathlib.Core.Path.{sym}
 use native.Mathlib.Omega.{arith}
 use Rattle.control.proofs.Laws.{few-controls, sequenced-length, before_info}
+use borrow.Author.Rules.{rules}
 use Rattle.content.proofs.FrameContent.front_len.Goals as goal
 
 pub overflow_add-result : goal.overflow_add-result
@@ -11,13 +12,4 @@ pub returns-in-Information : goal.returns-in-Information
 returns-in-Information c = rw (c.controls.ensures, c.in-Information.is) (sym (before_info c.args.mode _ _ _ _))
 
 pub returns-in-ReceiveReady : goal.returns-in-ReceiveReady
-returns-in-ReceiveReady c = rw (c.controls-in-ReceiveReady.ensures, c.in-ReceiveReady.is) (sym (sequenced-length c.args.mode _ _ _))
-
-pub returns-in-ReceiveNotReady : goal.returns-in-ReceiveNotReady
-returns-in-ReceiveNotReady c = rw (c.controls-in-ReceiveNotReady.ensures, c.in-ReceiveNotReady.is) (sym (sequenced-length c.args.mode _ _ _))
-
-pub returns-in-Reject : goal.returns-in-Reject
-returns-in-Reject c = rw (c.controls-in-Reject.ensures, c.in-Reject.is) (sym (sequenced-length c.args.mode _ _ _))
-
-pub returns-in-SelectiveReject : goal.returns-in-SelectiveReject
-returns-in-SelectiveReject c = rw (c.controls-in-SelectiveReject.ensures, c.in-SelectiveReject.is) (sym (sequenced-length c.args.mode _ _ _))
+returns-in-ReceiveReady c = search (rules, sequenced-length)

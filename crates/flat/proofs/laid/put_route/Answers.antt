@@ -1,24 +1,15 @@
-use mathlib.Core.Path.{◌≡◌, sym, ◌∙◌}
-use native.Mathlib.Omega.{arith}
-use borrow.Author.Rules.{rules}
-use Rattle.octets.proofs.Splice.{splice_none, splice-length}
+use Rattle.std.proofs.Common.{◌≡◌, ◌∙◌, ◌<◌, length, sym, arith, rules}
+use Rattle.octets.proofs.Splice.{splice_none}
 use Rattle.flat.specs.Laid.{route_flat}
 use Rattle.flat.proofs.Parts.{route-more}
 use Rattle.flat.proofs.laid.put_route.Goals as goal
 
-pub loop-i-init : goal.loop-i-init
+pub loop-place-init : goal.loop-place-init
 unfolding route_flat
-loop-i-init c = (search rules, sym (splice_none _ _))
+loop-place-init c = sym (splice_none _ _)
 
-pub loop-i-preserved : goal.loop-i-preserved
-loop-i-preserved c =
-    let w = c.put_entry.ensures in
-    (search rules, w ∙ rw c.loop-i.invariant.1 (route-more _ _ _ _ (omega arith)))
-
-pub shape_of-out : goal.shape_of-out
-shape_of-out c = rw c.loop-i.invariant.1 (splice-length _ _ _)
-
-pub returns : goal.returns
-returns c =
-    let e : c.loop-i.i ≡ 8 = omega arith in
-    rw e at c.loop-i.invariant.1
+pub loop-place-preserved : goal.loop-place-preserved
+loop-place-preserved c =
+    let eight : length c.args.route ≡ 8 = search rules in
+    let here : c.loop-place.place < 8 = omega arith in
+    c.put_entry.ensures ∙ rw c.loop-place.invariant (route-more c.args.out.now 16 c.args.route c.loop-place.place (omega arith))

@@ -1,6 +1,0 @@
--- The low bit.
-use Rattle.octets.proofs.Bits.{low_mask}
-use Rattle.content_as_written.proofs.is_i.Goals as goal
-
-pub returns : goal.returns
-returns c = rw (low_mask c.args.control 1)
