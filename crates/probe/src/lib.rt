@@ -51,11 +51,7 @@ const ACCEPTED: u32 = 0;
 const NO_ROOM: u32 = 24;
 
 // What was decoded: the number, the frame, and its places, which a refusal's details are among.
-fn put_decoded(
-    decoded: Result<Decoded, DecodeError>,
-    flat: &mut [u8],
-    places: &mut [usize],
-) -> u32
+fn put_decoded(decoded: Result<Decoded, DecodeError>, flat: &mut [u8], places: &mut [usize]) -> u32
     ensures value { result ≡ answers (lacks flat.old 102 || lacks places.old 5) (number_by error_number decoded) }
     ensures flat_after { flat.new ≡ leaves_by (lacks flat.old 102 || lacks places.old 5) (number_by error_number decoded) flat.old (flat_of (shown decoded).frame) }
     ensures places_after { places.new ≡ leaves (lacks flat.old 102 || lacks places.old 5) places.old (places_in decoded) }
