@@ -20,6 +20,8 @@ fn parse_group(bytes: &[u8], at: usize) -> ParsedAddress
     group::parse_address(group)
 }
 
+// That the octets hold so many groups is asked here, where all are read and by `reading`; `has_groups` is the one test of it. A type that
+// holds octets and count together would be made and taken apart in the same line.
 fn parse_route(bytes: &[u8], at: usize, count: usize) -> [RouteEntry; 8]
     requires { (count ≤ 8) × (at + 7 * count ≤ length bytes.now) }
     ensures { result ≡ route_at bytes.now at count }

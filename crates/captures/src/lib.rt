@@ -30,7 +30,7 @@ pub struct CaptureRecord {
 // The answer for a part that is not inside the buffer.
 const OUTSIDE: u32 = 61;
 
-// The number of a kind.
+// The number of a kind, as enum ax25_kind of the header has it. No `From`: the kinds are another crate's type, and u16 is std's.
 pub fn kind_of(content: FrameContent) -> u16
     ensures { result ≡ kind_of content }
 {

@@ -7,6 +7,7 @@ ghost use Rattle.content.specs.Refused.{is_frame_reject, long_frmr, stray_info, 
 use super::{CommandResponse, FrameContent, FrameReject};
 use control::Mode;
 
+// No `From` to a bool: what true means is FRMR's alone.
 fn is_response(c: CommandResponse) -> bool
     ensures { result ≡ is_response c }
 {

@@ -34,7 +34,8 @@ pub fn canonical(mode: Mode, bytes: &[u8]) -> bool
     spelling::is_canonical(mode, bytes)
 }
 
-// What a decode shows: the answer, and a frame with the place of its info, for which a refusal has the default of `Decoded`.
+// What a decode shows: the answer, and a frame with the place of its info, for which a refusal has the default of `Decoded`. The
+// answer stands beside them, since the demand speaks of a refusal's frame (the clause `frame_value`).
 #[derive(Clone, Copy)]
 pub struct Shown {
     pub answer: Result<(), DecodeError>,

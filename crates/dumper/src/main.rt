@@ -11,6 +11,7 @@ fn read_full(mut input: Stdin, octets: &mut [u8]) -> usize
     ensures { result ≤ length octets.new }
 {
     let mut done = 0;
+    // A while loop: each turn goes as far as a read goes.
     while done < octets.len() {
         let n = input.read(&mut octets[done..]).unwrap_or(0);
         if n == 0 {

@@ -1,4 +1,6 @@
-// From a flat record to its frame. Octets past the end of what is lent count as 0.
+// From a flat record to its frame. Octets past the end of what is lent count as 0. No `From` here: the types are those of other crates, and
+// the octets std's. A place in the record, which four functions ask to be within it, is a number of the layout, and a type for it would be
+// taken apart where it is made.
 ghost use Rattle.std.specs.Prelude.{◌≡◌, ◌≤◌};
 ghost use Rattle.flat.specs.Given.{octet_at, flag_at, address_at, entry_at, route_from, mark_from, response_from, pid_from, fields_at, content_with, content_at, frame_from};
 

@@ -1,4 +1,4 @@
-// From a frame to its flat record.
+// From a frame to its flat record. No `From` here: the types are those of other crates, and the octets std's.
 ghost use Rattle.std.specs.Prelude.{◌≡◌, ◌+◌, ◌≤◌, length};
 ghost use Rattle.octets.specs.Splice.{splice};
 ghost use Rattle.flat.specs.Laid.{address_flat, entry_flat, route_flat, count_flat, mark_flat, response_flat, pid_case, pid_octet, bare_flat, with_pid_flat, reject_flat, content_flat, rest_flat, flat_of};

@@ -25,6 +25,8 @@ fn route_encodable(route: &[RouteEntry]) -> bool
     route.iter().all(|entry| entry.repeater.is_encodable())
 }
 
+// That the count is within the route is asked here and of the two that write addresses and info. No type holds it: the record is the
+// caller's, and a count over 8 is answered by 21 (`write_answer`).
 fn frame_encodable(frame: Ax25Frame) -> bool
     requires { frame.route_count ≤ 8 }
     ensures { result ≡ frame_encodable frame }

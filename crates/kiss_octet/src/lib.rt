@@ -10,7 +10,8 @@ use escapes::{FEND, FESC, TFEND, TFESC};
 use kiss::LAST_PORT;
 use kiss_state::{DROPPING, Head, IN_DATA, IN_ESCAPE, IN_TYPE, OPENED, ROOM};
 
-// What one octet does: the numbers after it, the octet of data to store, if there is one, and whether a packet is given out.
+// What one octet does: the numbers after it, the octet of data to store, if there is one, and whether a packet is given out. That is a flag:
+// the packet is what the state holds then, and nothing beside it.
 #[derive(Clone, Copy)]
 pub struct Move {
     pub head: Head,

@@ -12,7 +12,7 @@ use frame::Ax25Frame;
 use link_frame::{Side, Verdict};
 use link_record::{Link, LinkError};
 
-// What offering a frame gives: the answer, and the record behind it.
+// What offering a frame gives: the answer, and the record behind it, which stands beside the answer because a refused frame was offered too.
 #[derive(Clone, Copy)]
 pub struct Stepped {
     pub answer: Result<(), LinkError>,

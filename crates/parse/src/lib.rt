@@ -68,6 +68,8 @@ fn judge_pid(bytes: &[u8], before: usize) -> Result<(), ContentError>
     Ok(())
 }
 
+// That there is a control octet is asked here and of three more, which are private: no plainer by a type, which `parse_content` and `judge`
+// would make of the octets only to pass it on.
 fn judge_i(mode: Mode, bytes: &[u8]) -> Result<(), ContentError>
     requires { 0 < length bytes.now }
     ensures { result ≡ judged (i_of mode bytes.now) }
@@ -205,6 +207,7 @@ fn parse_ui_frame(bytes: &[u8]) -> Result<FrameContent, ContentError>
     }))
 }
 
+// No `From<bool>`: what true means is FRMR's alone.
 fn response_of(response: bool) -> CommandResponse
     ensures { result ≡ cond response CommandResponse.Response CommandResponse.Command }
 {

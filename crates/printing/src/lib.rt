@@ -27,6 +27,7 @@ impl Numbered for PrintError {
 }
 
 // The text of an address, written at the start of `out`, and how long it is. A refusal leaves `out` alone.
+// No `Display`: whether all of a text has room is known before any of it is written here, and nothing is allocated.
 pub fn print(address: Address, out: &mut [u8]) -> Result<usize, PrintError>
     ensures value { result ≡ printed address (length out.old) }
     ensures out_after { out.new ≡ printed_into address out.old }

@@ -35,6 +35,7 @@ fn is_layer3(byte: u8) -> bool
 }
 
 impl ProtocolIdentifier {
+    // The Rust's names, from_byte and to_byte, and no `From`.
     pub fn from_byte(byte: u8) -> ProtocolIdentifier
         ensures { result ≡ pid_of byte }
     {

@@ -40,6 +40,7 @@ pub struct Judged {
 }
 
 impl Reason {
+    // No `Numbered`: a reason is none of the refusals, and its codes are a table of their own.
     pub fn code(self) -> u32
         ensures { result ≡ code_of self }
     {

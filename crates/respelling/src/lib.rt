@@ -42,6 +42,8 @@ impl From<DecodeError> for ReencodeError {
 }
 
 // The content of an accepted input with this outline.
+// That the outline is of these octets is asked here, of the two that write, and in relay. A struct of both with a ghost field would say no
+// more, and each call would build it anew.
 fn content_at(mode: Mode, bytes: &[u8], outline: Outline) -> FrameContent
     requires { Ok outline ≡ outline_of mode bytes.now }
     ensures { result ≡ (decode mode bytes.now).frame.content }

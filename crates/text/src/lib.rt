@@ -44,6 +44,7 @@ pub fn from_parts(callsign: &[u8], ssid: u8) -> Result<Address, AddressError>
 }
 
 // The address of a text. The SSID is read before the callsign is looked at.
+// No `FromStr`: octets of 128 and more are refused by a number, and no `str` has to hold them.
 pub fn from_str(text: &[u8]) -> Result<Address, AddressError>
     ensures { result ≡ read_text text.now }
 {

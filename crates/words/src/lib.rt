@@ -20,6 +20,7 @@ fn hex_digit(d: u8) -> u8
     if d < 10 { b'0' + d } else { b'a' - 10 + d }
 }
 
+// Two digits by value, and no format: that would write to a text that is allocated.
 pub fn hex(b: u8) -> [u8; 2]
     ensures { result ≡ hex b }
 {
@@ -75,6 +76,7 @@ pub(crate) fn has_pid(content: FrameContent) -> bool
     )
 }
 
+// The dumper's word for a flag: bool's own `Display` has other words.
 pub fn yes_no(yes: bool) -> &'static [u8]
     ensures { result.now ≡ yes_no yes }
 {

@@ -90,8 +90,8 @@ impl<const N: usize> Page<N> {
         }
     }
 
-    #[tactic(auto, unfolding(crate::specs::Room::fitting))]
     // The text, written at the start of `out`: its length, or nothing where there is no room for all of it, and `out` is left alone.
+    #[tactic(auto, unfolding(crate::specs::Room::fitting))]
     pub fn write_to(&self, out: &mut [u8]) -> Option<usize>
         ensures value { result ≡ fitting (length out.old) self.now }
         ensures out_after { out.new ≡ splice out.old 0 self.now }
