@@ -159,7 +159,7 @@ fn main(rt: HostRuntime) {
     let begun = following::begin(&a[..n], &b[..m], &mut text);
     let length = begun.length;
     let _ = output.write_all(&text[..length]);
-    if begun.ready {
-        follow_link(rt.stdin(), output, begun.link);
+    if let Ok(link) = begun.link {
+        follow_link(rt.stdin(), output, link);
     }
 }

@@ -2,7 +2,7 @@
 use Rattle.std.specs.Prelude.{ℕ, Bool, true, false, Result, cond, List, [], ◌++◌, Option, Some, None, Ok, Err, eqb, ltb}
 use Rattle.octets.specs.Outcome.{number_by}
 use Rattle.address.specs.declared.Address.{Address}
-use Rattle.text.specs.Text.{address_number_of, address_read, read_text}
+use Rattle.text.specs.Text.{address_number_of, read_text}
 use Rattle.text.specs.declared.AddressError.{AddressError}
 use Rattle.link_record.specs.Record.{LinkAnswer, number_of, fresh}
 use Rattle.link_record.specs.declared.Link.{Link}
@@ -21,24 +21,25 @@ unfoldable pub answer_text : ℕ → List ℕ
 answer_text n = cond (eqb n 0) [] (line "answer=" (decimal n))
 
 -- ---- the two texts
--- the number that they are refused by: the first text's, or the second's where the first is read
-unfoldable pub refused_by : Result Address AddressError → Result Address AddressError → ℕ
-refused_by a b = cond (eqb (number_by address_number_of a) 0) (number_by address_number_of b) (number_by address_number_of a)
+-- the link between the two stations is followed from a fresh record; the first text is looked at first
+abbrev pub linked : Result Address AddressError → Result Address AddressError → Result Link AddressError
+linked (Ok a) (Ok b) = Ok (fresh a b)
+linked (Ok a) (Err e) = Err e
+linked (Err e) b = Err e
 
+abbrev pub between : List ℕ → List ℕ → Result Link AddressError
+between a b = linked (read_text a) (read_text b)
+
+-- the number that they are refused by: the first text's, or the second's where the first is read
 abbrev pub texts_number : List ℕ → List ℕ → ℕ
-texts_number a b = refused_by (read_text a) (read_text b)
+texts_number a b = number_by address_number_of (between a b)
 
 -- what is printed of them
 abbrev pub begin_text : List ℕ → List ℕ → List ℕ
 begin_text a b = answer_text (texts_number a b)
 
--- where both are read, the link between the two stations is followed from a fresh record
 abbrev pub begun : List ℕ → List ℕ → ℕ → Begun
-begun a b room = record {
-  ready = eqb (texts_number a b) 0;
-  link = fresh (address_read (read_text a)) (address_read (read_text b));
-  length = behind room 0 (begin_text a b);
-}
+begun a b room = record { link = between a b; length = behind room 0 (begin_text a b) }
 
 -- ---- a frame
 -- the answers at which no further frame is offered: 22, 72 and 71, which every later frame would be given too, and 73, which no fresh record

@@ -4,21 +4,18 @@
 ghost use Rattle.std.specs.Prelude.{◌≡◌, ◌≤◌, length};
 ghost use Rattle.octets.specs.Splice.{splice};
 ghost use Rattle.words.specs.Room.{behind};
-ghost use Rattle.following.specs.Following.{answer_text, refused_by, begin_text, begun, stops, from_text, gap_line, gap_text, offered_text, follow_text, followed, totals_text};
+ghost use Rattle.following.specs.Following.{answer_text, between, begin_text, begun, stops, from_text, gap_line, gap_text, offered_text, follow_text, followed, totals_text};
 
-use address::Address;
 use answer::Numbered;
 use link_frame::Side;
 use link_record::{Link, LinkError};
 use text::AddressError;
 use words::page::Page;
 
-// What the two texts come to: whether both are read, the record of the link between their stations, and how many octets are printed. A flag
-// beside the record: the definition `begun` has a record of refused texts too.
+// What the two texts come to: the record of the link between their stations, or why one is not read, and how many octets are printed.
 #[derive(Clone, Copy)]
 pub struct Begun {
-    pub ready: bool,
-    pub link: Link,
+    pub link: Result<Link, AddressError>,
     pub length: usize,
 }
 
@@ -42,14 +39,13 @@ fn put_answer(out: &mut [u8], number: u32) -> usize
     page.write_to(out).unwrap_or(0)
 }
 
-fn refused_by(a: Result<Address, AddressError>, b: Result<Address, AddressError>) -> u32
-    ensures { result ≡ refused_by a b }
+// A fresh record of the link between the stations that two texts name; the first is looked at first.
+fn between(a: &[u8], b: &[u8]) -> Result<Link, AddressError>
+    ensures { result ≡ between a.now b.now }
 {
-    let number = a.number();
-    if number != 0 {
-        return number;
-    }
-    b.number()
+    let station = text::from_str(a)?;
+    let partner = text::from_str(b)?;
+    Ok(link_record::fresh(station, partner))
 }
 
 // The stations that two texts name; the first is looked at first.
@@ -58,15 +54,10 @@ pub fn begin(a: &[u8], b: &[u8], out: &mut [u8]) -> Begun
     ensures out_after { out.new ≡ splice out.old 0 (begin_text a.now b.now) }
     ensures length_in_bounds { result.length ≤ length out.new }
 {
-    let first = text::from_str(a);
-    let second = text::from_str(b);
-    let number = refused_by(first, second);
-    let station = first.unwrap_or(Address::default());
-    let partner = second.unwrap_or(Address::default());
+    let link = between(a, b);
     Begun {
-        ready: number == 0,
-        link: link_record::fresh(station, partner),
-        length: put_answer(out, number),
+        link,
+        length: put_answer(out, link.number()),
     }
 }
 

@@ -1,5 +1,5 @@
 -- Laws of what is put on a page of n octets, whose text is cut off behind these, and of a page written to a lent buffer.
-use Rattle.std.proofs.Common.{ℕ, ◌≡◌, refl, zero-add, ap, sym, ◌∙◌, ◌+◌, ◌≤◌, ◌<◌, ◌-◌, List, [], ◌++◌, length, take, min, unwrap_or, arith, length-append, ltb}
+use Rattle.std.proofs.Common.{ℕ, ◌≡◌, refl, zero-add, ap, sym, ◌∙◌, ◌+◌, ◌≤◌, ◌<◌, ◌-◌, List, [], ◌++◌, length, take, min, unwrap_or, arith, length-append, ltb, cond, Some, None}
 use Rattle.std.proofs.lemmas.List.{take_min, take_all, take_at, take-take, take-append-le, length-take-le, append_assoc}
 use Rattle.std.proofs.Math.Seq.{take-append-add}
 use Rattle.octets.specs.Splice.{splice}
@@ -40,6 +40,11 @@ cut_then n t b =
 pub cut_none : (n : ℕ) (t : List ℕ) → length t ≤ n → cut n t ≡ t
 unfolding cut
 cut_none n t h = take_all n t h
+
+-- the length of a text that fits, and nothing of one that does not
+pub fitting_is : (room : ℕ) (t : List ℕ) → fitting room t ≡ cond (ltb room (length t)) None (Some (length t))
+unfolding fitting
+fitting_is room t = refl
 
 -- what is written of a page, as the place behind it
 pub place_behind : (room : ℕ) (t : List ℕ) → unwrap_or (fitting room t) 0 ≡ behind room 0 t
