@@ -11,7 +11,7 @@ use frame::{Ax25Frame, Mark, RouteEntry};
 use group::ParsedAddress;
 
 // The address and the mark in the seven octets from `at` on.
-pub fn parse_group(bytes: &[u8], at: usize) -> ParsedAddress
+fn parse_group(bytes: &[u8], at: usize) -> ParsedAddress
     requires { at + 7 ≤ length bytes.now }
     ensures { result ≡ parsed_at bytes.now at }
 {

@@ -65,7 +65,9 @@ fn is_ours(own: Address, bytes: &[u8], at: usize) -> bool
     requires { at + 7 ≤ length bytes.now }
     ensures { result ≡ same_station own (parsed_at bytes.now at).address }
 {
-    let due = address_field::parse_group(bytes, at);
+    let mut octets = [0; 7];
+    octets.copy_from_slice(&bytes[at..at + 7]);
+    let due = group::parse_address(octets);
     hops::same_station(own, due.address)
 }
 
