@@ -18,7 +18,7 @@ use Rattle.dump.specs.Dump.{detail_text, dumped}
 use Rattle.dump.specs.declared.DumpError.TheVariants.{NoRoom}
 use Rattle.octets.specs.Outcome.{length_of}
 use Rattle.words.specs.Room.{fitting}
-use Rattle.words.proofs.Room.{refused_or}
+use Rattle.words.proofs.Room.{fitting_is}
 use Rattle.std.proofs.Common.{ok_or}
 use Rattle.octets.proofs.Choice.{by}
 use borrow.Author.Tests.{ltb-false}
@@ -67,7 +67,7 @@ no_details error.MissingControlOctet h k = refl
 -- what is written where there is room for a text, and where there is not
 pub written : (room : ℕ) (t : List ℕ) → ok_or (fitting room t) NoRoom ≡ dumped t room
 unfolding dumped
-written room t = refused_or room t NoRoom
+written room t = rw (fitting_is room t) (by (ltb room (length t)) (λ e. rw e refl) (λ e. rw e refl))
 
 pub within : (room : ℕ) (t : List ℕ) → length_of (dumped t room) ≤ room
 unfolding dumped

@@ -42,7 +42,7 @@ pub struct Link {
 }
 
 // Why a frame is not offered: the record's own refusals, and decoding's of the frame.
-#[derive(Clone, Copy)]
+#[derive(Clone, Copy, Debug, PartialEq, Eq)]
 pub enum LinkError {
     NotEncodable,
     EqualStations,

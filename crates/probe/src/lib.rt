@@ -84,11 +84,7 @@ pub extern "C" fn probe_decode(
     ensures flat_after { flat.new ≡ leaves_by (lacks flat.old 102 || lacks places.old 5) (number_of (decode (mode_of mode) input.now).answer) flat.old (flat_of (decode (mode_of mode) input.now).frame) }
     ensures places_after { places.new ≡ leaves (lacks flat.old 102 || lacks places.old 5) places.old (places_of (decode (mode_of mode) input.now)) }
 {
-    put_decoded(
-        reading::from_bytes(Mode::from(mode), input),
-        flat,
-        places,
-    )
+    put_decoded(reading::from_bytes(Mode::from(mode), input), flat, places)
 }
 
 // Decodes an old capture.

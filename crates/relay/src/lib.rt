@@ -47,7 +47,8 @@ impl From<DecodeError> for RelayError {
     }
 }
 
-// The hop set of the repeaters whose groups stand from `at` on, built from the last place down.
+// The hop set of the repeaters whose groups stand from `at` on, built from the last place down. That of `hops` is of a frame's eight places,
+// and no frame is built here; one function over an iterator of marks would ask for a proof of each iterator that is longer than this loop.
 fn hop_set_at(bytes: &[u8], at: usize, n: usize) -> u8
     requires { (n ≤ 8) × (at + 7 * n ≤ length bytes.now) }
     ensures { result ≡ set_of (marks (route_at bytes.now at n) n) }
@@ -65,9 +66,9 @@ fn is_ours(own: Address, bytes: &[u8], at: usize) -> bool
     requires { at + 7 ≤ length bytes.now }
     ensures { result ≡ same_station own (parsed_at bytes.now at).address }
 {
-    let mut group = [0; 7];
-    group.copy_from_slice(&bytes[at..at + 7]);
-    let due = group::parse_address(group);
+    let mut octets = [0; 7];
+    octets.copy_from_slice(&bytes[at..at + 7]);
+    let due = group::parse_address(octets);
     hops::same_station(own, due.address)
 }
 

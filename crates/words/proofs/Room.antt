@@ -1,5 +1,5 @@
 -- Laws of what is put on a page of n octets, whose text is cut off behind these, and of a page written to a lent buffer.
-use Rattle.std.proofs.Common.{ℕ, ◌≡◌, refl, zero-add, ap, sym, ◌∙◌, ◌+◌, ◌≤◌, ◌<◌, ◌-◌, List, [], ◌++◌, Result, Ok, Err, cond, length, take, min, ok_or, unwrap_or, arith, length-append, ltb}
+use Rattle.std.proofs.Common.{ℕ, ◌≡◌, refl, zero-add, ap, sym, ◌∙◌, ◌+◌, ◌≤◌, ◌<◌, ◌-◌, List, [], ◌++◌, length, take, min, unwrap_or, arith, length-append, ltb, cond, Some, None}
 use Rattle.std.proofs.lemmas.List.{take_min, take_all, take_at, take-take, take-append-le, length-take-le, append_assoc}
 use Rattle.std.proofs.Math.Seq.{take-append-add}
 use Rattle.octets.specs.Splice.{splice}
@@ -41,10 +41,10 @@ pub cut_none : (n : ℕ) (t : List ℕ) → length t ≤ n → cut n t ≡ t
 unfolding cut
 cut_none n t h = take_all n t h
 
--- what is written of a page, with a refusal where there is no room
-pub refused_or : {E : Type 0} (room : ℕ) (t : List ℕ) (e : E) → ok_or (fitting room t) e ≡ cond (ltb room (length t)) (Err e) (Ok (length t))
+-- the length of a text that fits, and nothing of one that does not
+pub fitting_is : (room : ℕ) (t : List ℕ) → fitting room t ≡ cond (ltb room (length t)) None (Some (length t))
 unfolding fitting
-refused_or room t e = by (ltb room (length t)) (λ h. rw h refl) (λ h. rw h refl)
+fitting_is room t = refl
 
 -- what is written of a page, as the place behind it
 pub place_behind : (room : ℕ) (t : List ℕ) → unwrap_or (fitting room t) 0 ≡ behind room 0 t

@@ -1,5 +1,5 @@
--- The octets that are copied are those of the group, the address layer reads them, and the stations are compared.
-use Rattle.std.proofs.Common.{◌≡◌, ◌∙◌, refl, ap, ℕ, ◌+◌, ◌-◌, arith}
+-- The part that is copied is the group, the address layer reads it, and the stations are compared.
+use Rattle.std.proofs.Common.{◌≡◌, ◌∙◌, refl, ap, ℕ, ◌+◌, ◌-◌, List, arith}
 use Rattle.std.specs.Prelude.{take, drop}
 use Rattle.grammar.proofs.Marks.{parsed_is}
 use Rattle.relay.proofs.is_ours.Goals as goal
