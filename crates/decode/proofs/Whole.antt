@@ -16,7 +16,7 @@ use Rattle.content.specs.declared.FrameContent.{FrameContent}
 use Rattle.parse.specs.declared.ContentError.{ContentError}
 use Rattle.decode.specs.Answer.{is_accepted, answer_with}
 use Rattle.decode.specs.Read.{Decoding, nonzero, start_of, end_of, frame_at, refused_with, accepted_with, error_of, refusal_of, with_content, decode_field, decode}
-use Rattle.decode.specs.Outline.{null_error, outline_by, outline_of, holds, decode_by}
+use Rattle.decode.specs.Outline.{null_error, outline_by, outline_of, holds, decode_at}
 use Rattle.decode.specs.declared.DecodeError.{DecodeError}
 use Rattle.decode.specs.declared.DecodeError.TheVariants as error
 use Rattle.decode.specs.declared.Outline.{Outline}
@@ -101,8 +101,8 @@ pub not_outlined : (m : Mode) (s : List ℕ) (r : DecodeError) → Err r ≡ out
 not_outlined m s r e = told_err (decode m s).answer _ r (sym e)
 
 -- going on from the input's own outline is decoding
-pub by_outline : (m : Mode) (s : List ℕ) (o : Outline) → Ok o ≡ outline_of m s → decode_by m s o ≡ decode m s
-unfolding decode_by
+pub by_outline : (m : Mode) (s : List ℕ) (o : Outline) → Ok o ≡ outline_of m s → decode_at m s o ≡ decode m s
+unfolding decode_at
 by_outline m s o e =
     let t = outlined m s o e in
     let w = whole m s t.accepted in

@@ -1,5 +1,5 @@
 -- What is known of an input before its content and its addresses are taken apart.
-use Rattle.std.specs.Prelude.{ℕ, ◌+◌, ◌*◌, Bool, cond, Result, Err, ◌&&◌, List, eqb, ltb, leb, length, drop}
+use Rattle.std.specs.Prelude.{ℕ, ◌+◌, ◌*◌, Bool, cond, Result, Ok, Err, ◌&&◌, List, eqb, ltb, leb, length, drop}
 use Rattle.control.specs.declared.Mode.{Mode}
 use Rattle.parse.specs.Content.{content_of}
 use Rattle.decode.specs.Answer.{answer_with}
@@ -24,11 +24,16 @@ abbrev pub holds : ℕ → ℕ → ℕ → Bool
 holds len end n = ltb end len && has_groups (end + 1) n
 
 -- decoding that goes on from an outline. One that tells of more than the octets hold is refused with 4 and their length
-unfoldable pub decode_by : Mode → List ℕ → Outline → Decoding
-decode_by m s o =
+unfoldable pub decode_at : Mode → List ℕ → Outline → Decoding
+decode_at m s o =
     cond (holds (length s) o.end o.route_count)
     (with_content m s 0 o.route_count (o.end + 1) (content_of m (drop (o.end + 1) s)))
     (refused_with (Err (FrameTooShort (length s))))
+
+-- the same from what is known of an input, of which a refusal stays what it is
+abbrev pub decode_by : Mode → List ℕ → Result Outline DecodeError → Decoding
+decode_by m s (Ok o) = decode_at m s o
+decode_by m s (Err e) = refused_with (Err e)
 
 -- the refusal where the first octet is not there or null
 abbrev pub null_error : List ℕ → DecodeError

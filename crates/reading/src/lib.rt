@@ -4,7 +4,7 @@
 ghost use Rattle.std.specs.Prelude.{◌≡◌, Ok, ◌+◌, ◌*◌, ◌≤◌, length, drop};
 ghost use Rattle.parse.specs.Content.{content_of};
 ghost use Rattle.content.specs.Spell.{front};
-ghost use Rattle.decode.specs.Outline.{holds, decode_by};
+ghost use Rattle.decode.specs.Outline.{holds, decode_at, decode_by};
 ghost use Rattle.decode.specs.Read.{outcome, accepted_with, with_content, decode};
 
 use control::Mode;
@@ -55,8 +55,8 @@ fn holds(len: usize, end: usize, count: usize) -> bool
 }
 
 // The frame that an outline tells of. An outline of other octets, which tells of more than these hold, is refused with 4.
-pub fn from_outline(mode: Mode, bytes: &[u8], outline: Outline) -> Result<Decoded, DecodeError>
-    ensures { result ≡ outcome (decode_by mode bytes.now outline) }
+fn decode_at(mode: Mode, bytes: &[u8], outline: Outline) -> Result<Decoded, DecodeError>
+    ensures { result ≡ outcome (decode_at mode bytes.now outline) }
 {
     if !holds(bytes.len(), outline.end, outline.route_count) {
         return Err(DecodeError::FrameTooShort { len: bytes.len() });
@@ -64,10 +64,22 @@ pub fn from_outline(mode: Mode, bytes: &[u8], outline: Outline) -> Result<Decode
     decode_content(mode, bytes, outline.route_count, outline.end + 1)
 }
 
+// The same from what is known of an input: a refusal stays what it is.
+#[tactic(auto, unfolding(decode::specs::Read::refused_with))]
+pub fn from_outline(
+    mode: Mode,
+    bytes: &[u8],
+    outline: Result<Outline, DecodeError>,
+) -> Result<Decoded, DecodeError>
+    ensures { result ≡ outcome (decode_by mode bytes.now outline) }
+{
+    decode_at(mode, bytes, outline?)
+}
+
 // Parse raw bytes into an Ax25Frame if possible. What stands for a refused input is the default of `Decoded`.
 pub fn from_bytes(mode: Mode, bytes: &[u8]) -> Result<Decoded, DecodeError>
     ensures { result ≡ outcome (decode mode bytes.now) }
 {
     let outline = decode::outline_of(mode, bytes)?;
-    from_outline(mode, bytes, outline)
+    decode_at(mode, bytes, outline)
 }

@@ -6,4 +6,4 @@ use Rattle.reading.proofs.from_bytes.Goals as goal
 
 pub returns : goal.returns
 returns c =
-    c.from_outline.ensures ∙ ap (λ (d : Decoding). outcome d) (by_outline _ _ _ (sym c.in_ok-outline.was ∙ c.outline_of.ensures))
+    c.decode_at.ensures ∙ ap (λ (d : Decoding). outcome d) (by_outline _ _ _ (sym c.in_ok-outline.was ∙ c.outline_of.ensures))

@@ -2,10 +2,10 @@
 use Rattle.std.proofs.Common.{◌≡◌, ◌∙◌, refl, sym, arith, ◌+◌, ◌*◌, ◌≤◌, length}
 use Rattle.std.specs.Prelude.{true}
 use Rattle.decode.specs.Read.{refused_with}
-use Rattle.decode.specs.Outline.{holds, decode_by}
+use Rattle.decode.specs.Outline.{holds, decode_at}
 use Rattle.decode.proofs.Whole.{room}
-use Rattle.reading.proofs.from_outline.Goals as goal
-use Rattle.reading.proofs.from_outline.Goals.{Else-not-holds}
+use Rattle.reading.proofs.decode_at.Goals as goal
+use Rattle.reading.proofs.decode_at.Goals.{Else-not-holds}
 
 inside : (c : Else-not-holds) →
     let a = c.args in
@@ -20,7 +20,7 @@ within : (c : Else-not-holds) →
 within c = room _ _ _ (inside c)
 
 pub returns-then-not-holds : goal.returns-then-not-holds
-unfolding decode_by refused_with
+unfolding decode_at refused_with
 returns-then-not-holds c = rw (sym c.holds.ensures ∙ c.if-not-holds.true) refl
 
 pub overflow_add-outline : goal.overflow_add-outline
@@ -30,5 +30,5 @@ pub decode_content-requires : goal.decode_content-requires
 decode_content-requires c = within (goal.at.decode_content-requires c).Else-not-holds
 
 pub returns : goal.returns
-unfolding decode_by
+unfolding decode_at
 returns c = c.decode_content.ensures ∙ rw (inside (goal.at.returns c).Else-not-holds) refl
