@@ -120,14 +120,14 @@ pub fn respelled(mode: Mode, bytes: &[u8], out: &mut [u8]) -> Result<usize, Reen
 // What the radio desk has of an input: whether it is canonical, and what is decoded of it.
 #[derive(Clone, Copy)]
 pub struct Looked {
-    canonical: bool,
-    decoded: Shown,
+    pub canonical: bool,
+    pub decoded: Shown,
 }
 
 #[derive(Clone, Copy)]
 pub struct Pair {
-    one: Looked,
-    other: Looked,
+    pub one: Looked,
+    pub other: Looked,
 }
 
 // Document 02, M-107: where the one input is canonical, `NothingUnseen` holds of it and the other. All is as the definitions say.

@@ -6,7 +6,7 @@ ghost use Rattle.address.specs.Address.{with_ones, no_call};
 ghost use Rattle.printing.specs.Print.{text_of, print_number_of, printed, printed_into};
 ghost use Rattle.text.specs.Text.{address_number_of, address_read, read_parts, read_text, TextAddress};
 ghost use Rattle.octets.specs.Table.{FirstRow};
-ghost use Rattle.octets.specs.Outcome.{number_by, length_of};
+ghost use Rattle.octets.specs.Outcome.{number_by, length_of, giving};
 ghost use Rattle.demands.specs.Numbers.{print_table, parts_table, text_table};
 ghost use Rattle.octets.specs.Lent.{starting};
 
@@ -14,24 +14,48 @@ use address::Address;
 use printing::PrintError;
 use text::AddressError;
 
+// What reading a text shows: the answer, and an address, for which a refusal has the default of `Address`. The answer stands beside it,
+// since the demand speaks of a refusal's address (the clause `address_value`).
+#[derive(Clone, Copy)]
+pub struct Shown {
+    pub answer: Result<(), AddressError>,
+    pub address: Address,
+}
+
+fn show(read: Result<Address, AddressError>) -> Shown
+    ensures read { giving result.answer result.address ≡ read }
+    ensures address { result.address ≡ address_read read }
+{
+    match read {
+        Ok(address) => Shown {
+            answer: Ok(()),
+            address,
+        },
+        Err(error) => Shown {
+            answer: Err(error),
+            address: Address::default(),
+        },
+    }
+}
+
 // Demand 1: the number is that of the first row of the table that holds; a refusal is NOCALL, SSID 0. An accepted text's address
 // prints as a text that reads as the same. Demand 2: all else is as the rules read it.
-pub fn read_text(text: &[u8]) -> Result<Address, AddressError>
-    ensures first_row { FirstRow (text_table text.now) (number_by address_number_of result) }
-    ensures address_value { (IsOk result → ⊥) → address_read result ≡ no_call }
-    ensures address_value_2 { IsOk result → read_text (text_of (address_read result)) ≡ result }
-    ensures value { result ≡ read_text text.now }
+pub fn read_text(text: &[u8]) -> Shown
+    ensures first_row { FirstRow (text_table text.now) (number_by address_number_of result.answer) }
+    ensures address_value { (IsOk result.answer → ⊥) → result.address ≡ no_call }
+    ensures address_value_2 { IsOk result.answer → read_text (text_of result.address) ≡ giving result.answer result.address }
+    ensures value { giving result.answer result.address ≡ read_text text.now }
 {
-    text::from_str(text)
+    show(text::from_str(text))
 }
 
 // Demand 1 and 2: so for a callsign and an SSID.
-pub fn read_parts(callsign: &[u8], ssid: u8) -> Result<Address, AddressError>
-    ensures first_row { FirstRow (parts_table callsign.now ssid) (number_by address_number_of result) }
-    ensures address_value { (IsOk result → ⊥) → address_read result ≡ no_call }
-    ensures value { result ≡ read_parts callsign.now ssid }
+pub fn read_parts(callsign: &[u8], ssid: u8) -> Shown
+    ensures first_row { FirstRow (parts_table callsign.now ssid) (number_by address_number_of result.answer) }
+    ensures address_value { (IsOk result.answer → ⊥) → result.address ≡ no_call }
+    ensures value { giving result.answer result.address ≡ read_parts callsign.now ssid }
 {
-    text::from_parts(callsign, ssid)
+    show(text::from_parts(callsign, ssid))
 }
 
 // Demand 1: so for the number of printing, and a refusal has length 0 and leaves the buffer as it was. Demand 2: else the text stands at

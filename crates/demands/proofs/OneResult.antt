@@ -1,6 +1,6 @@
 -- What a contract allows is one result: two results that both equal the definition of the arguments are equal, by cases too, and
--- so are two numbers that are both of the first row that holds, two that are 1 exactly when something holds and else 0, and two
--- answers of writing with one number, or of printing with one number and length.
+-- so are two numbers that are both of the first row that holds, two that are 1 exactly when something holds and else 0, two answers
+-- of writing or of printing with one number, and two of what they give with one number and length.
 use Rattle.std.proofs.Common.{Result, Ok, Err, arith}
 use Prim.Native.Nat.{ℕ}
 use mathlib.Core.Path.{◌≡◌, refl, ap, sym, ◌∙◌}
@@ -16,7 +16,7 @@ use Rattle.frame.specs.declared.WriteError.TheVariants as write
 use Rattle.printing.specs.Print.{print_number_of}
 use Rattle.printing.specs.declared.PrintError.{PrintError}
 use Rattle.printing.specs.declared.PrintError.TheVariants as print
-use Rattle.octets.specs.Outcome.{number_by, length_of}
+use Rattle.octets.specs.Outcome.{number_by, length_of, giving}
 use Rattle.octets.specs.Table.{Table, FirstRow}
 use Rattle.octets.proofs.Table.{exactly}
 
@@ -70,18 +70,22 @@ written_back (Err write.NoRoom) = refl
 pub one_answer : (a b : Result Unit WriteError) → write_number a ≡ write_number b → a ≡ b
 one_answer = its_own write_number written written_back
 
-printed : ℕ → PrintError
-printed n = cond (eqb n 22) print.NotEncodable print.NoRoom
+printed : ℕ → Result Unit PrintError
+printed n = cond (eqb n 0) (Ok tt) (cond (eqb n 22) (Err print.NotEncodable) (Err print.NoRoom))
 
-printed-back : (a : PrintError) → printed (print_number_of a) ≡ a
+printed-back : (a : Result Unit PrintError) → printed (number_by print_number_of a) ≡ a
 unfolding printed
-printed-back print.NotEncodable = refl
-printed-back print.NoRoom = refl
+printed-back (Ok tt) = refl
+printed-back (Err print.NotEncodable) = refl
+printed-back (Err print.NoRoom) = refl
 
-pub one_print : (a b : Result ℕ PrintError) → number_by print_number_of a ≡ number_by print_number_of b → length_of a ≡ length_of b → a ≡ b
-one_print (Ok n) (Ok m) e f = ap Ok f
-one_print (Ok n) (Err print.NotEncodable) e f = absurd (omega arith)
-one_print (Ok n) (Err print.NoRoom) e f = absurd (omega arith)
-one_print (Err print.NotEncodable) (Ok m) e f = absurd (omega arith)
-one_print (Err print.NoRoom) (Ok m) e f = absurd (omega arith)
-one_print (Err x) (Err y) e f = ap Err (its_own print_number_of printed printed-back x y e)
+pub one_print : (a b : Result Unit PrintError) → number_by print_number_of a ≡ number_by print_number_of b → a ≡ b
+one_print = its_own (number_by print_number_of) printed printed-back
+
+-- by a number and a length, where the answer is one by its number, as `one_answer` and `one_print` have it
+pub one_measured : {E : Type 0} (number : E → ℕ) → ((a b : Result Unit E) → number_by number a ≡ number_by number b → a ≡ b)
+    → (a b : Result ℕ E) → number_by number a ≡ number_by number b → length_of a ≡ length_of b → a ≡ b
+one_measured {E} number one (Ok n) (Ok m) e f = ap Ok f
+one_measured {E} number one (Ok n) (Err y) e f = ap (λ (r : Result Unit E). giving r n) (one (Ok tt) (Err y) e)
+one_measured {E} number one (Err x) (Ok m) e f = ap (λ (r : Result Unit E). giving r m) (one (Err x) (Ok tt) e)
+one_measured {E} number one (Err x) (Err y) e f = ap (λ (r : Result Unit E). giving r 0) (one (Err x) (Err y) e)

@@ -136,6 +136,7 @@ fn group(output: Stdout, flat: &[u8], n: usize) {
 }
 
 // What a line has: its letter, which names the call, two words of octets and a number, each none or 0 where it lacks it.
+// The one match on a letter: the stored list names the calls by letters, and each case hands its call on.
 pub(crate) fn answer(output: Stdout, letter: u8, one: &[u8], other: &[u8], n: usize) {
     let ssid = (n % 256) as u8;
     match letter {
