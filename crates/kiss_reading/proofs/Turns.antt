@@ -1,7 +1,8 @@
 -- One turn of each loop of reading: what the octets from a place on come to, by the step that stands there.
-use Rattle.std.proofs.Common.{◌≡◌, ℕ, ◌+◌, ◌-◌, ◌≤◌, true, false, List, [], ◌∷◌, ◌++◌, Some, None, Result, Ok, Err, is_ok, eqb, length, take, drop, refl, ap, sym, ◌∙◌, arith, length-append}
+use Rattle.std.proofs.Common.{◌≡◌, ℕ, ◌+◌, ◌-◌, ◌<◌, ◌≤◌, true, false, List, [], ◌∷◌, ◌++◌, Option, Some, None, is_some, Result, Ok, Err, is_ok, eqb, length, take, drop, refl, ap, sym, ◌∙◌, arith, length-append}
 use mathlib.Core.Bool.{false≢true}
 use lib.Seq.{length-take-le}
+use Rattle.std.proofs.lemmas.List.{nil_from_length}
 use Rattle.octets.specs.First.{first}
 use Rattle.octets.specs.Outcome.{octets_of, measured}
 use Rattle.octets.specs.Splice.{splice}
@@ -59,6 +60,25 @@ stops (x ∷ l) e =
     by (eqb x fend)
     (λ a. rw a refl)
     (λ a. by (eqb x fesc) (λ b. rw (a, b) (stops_two l (rw (a, b) at e))) (λ b. let n = rw (a, b) at e in cc))
+
+run_fend : (x : ℕ) (l : List ℕ) → eqb x fend ≡ true → first special (x ∷ l) ≡ 0
+unfolding first
+run_fend x l a = rw a refl
+
+-- no octet that stands for itself is at a C0, and where there are some they are a step
+pub run_none : (x : ℕ) (l : List ℕ) → eqb x fesc ≡ false → first special (x ∷ l) ≡ 0 → step_from (x ∷ l) ≡ None
+unfolding step_from first
+run_none x l f e =
+    by (eqb x fend)
+    (λ a. rw a refl)
+    (λ a. let n = rw (a, f) at e in cc)
+
+pub run_some : (x n : ℕ) (l : List ℕ) → eqb x fesc ≡ false → n ≡ first special (x ∷ l) → (n ≡ 0 → ⊥) → step_from (x ∷ l) ≡ Some (Plain n)
+unfolding step_from
+run_some x n l f e some =
+    by (eqb x fend)
+    (λ a. absurd (some (e ∙ run_fend x l a)))
+    (λ a. rw (a, f, ← e) refl)
 
 -- there is a step: what is heard is its data, and then what is heard behind it
 pub record Goes (l : List ℕ) (k : Step) : Type 0 where
@@ -132,13 +152,18 @@ stopped_empty [] e = absurd (false≢true e)
 stopped_empty (x ∷ []) e = by (eqb x fend) (λ a. rw a refl) (λ a. rw a refl)
 stopped_empty (x ∷ y ∷ l) e = by (eqb x fend) (λ a. rw a refl) (λ a. rw a refl)
 
--- the data of what is left is still to be written from place j on
-pub record Left (rest out : List ℕ) (j : ℕ) (whole : List ℕ) : Type 0 where
+-- the data of what is left is still to be written from place j on, up to place n
+pub record Left (rest out : List ℕ) (j n : ℕ) (whole : List ℕ) : Type 0 where
   pub good : is_ok (heard false rest) ≡ true
-  pub fits : j + length (octets_of (heard false rest)) ≤ length out
+  pub counts : j + length (octets_of (heard false rest)) ≡ n
+  pub room : n ≤ length out
   pub is : splice out j (octets_of (heard false rest)) ≡ whole
 
-module _ (rest out : List ℕ) (j : ℕ) (whole : List ℕ) (l : Left rest out j whole) where
+some_else_none : (o : Option Step) → (o ≡ None → ⊥) → is_some o ≡ true
+some_else_none (Some k) f = refl
+some_else_none None f = absurd (f refl)
+
+module _ (rest out : List ℕ) (j n : ℕ) (whole : List ℕ) (l : Left rest out j n whole) where
   module _ (k : Step) (e : step_from rest ≡ Some k) where
     abbrev d : List ℕ
     d = data_of k rest
@@ -149,22 +174,41 @@ module _ (rest out : List ℕ) (j : ℕ) (whole : List ℕ) (l : Left rest out j
     both : (is_ok h ≡ true) × (octets_of (heard false rest) ≡ d ++ octets_of h)
     both = rw (goes rest k e).is (joined_ok d h (rw (goes rest k e).is at l.good))
 
+    parts : j + length d + length (octets_of h) ≡ n
+    parts = omega (arith, l.counts, ap length both.1, length-append d (octets_of h))
+
     -- the next step has room
     pub left_room : j + length d ≤ length out
-    left_room = omega (arith, l.fits, ap length both.1, length-append d (octets_of h))
+    left_room = omega (arith, l.room, parts)
 
     pub left_turn : (out₁ : List ℕ) → out₁ ≡ splice out j d
-        → Left (take (length rest - taken_by k) (drop (taken_by k) rest)) out₁ (j + given_by k) whole
+        → Left (take (length rest - taken_by k) (drop (taken_by k) rest)) out₁ (j + given_by k) n whole
     left_turn out₁ f =
         let g = goes rest k e in
-        let room : j + length d + length (octets_of h) ≤ length out = omega (arith, l.fits, ap length both.1, length-append d (octets_of h)) in
+        let fits : j + length d + length (octets_of h) ≤ length out = omega (arith, l.room, parts) in
         rw (part_from, f, ← g.long) (record {
           good = both.0;
-          fits = rw splice-length room;
-          is = splice-then out j (length d) d (octets_of h) refl room ∙ ap (splice out j) (sym both.1) ∙ l.is;
+          counts = parts;
+          room = rw splice-length l.room;
+          is = splice-then out j (length d) d (octets_of h) refl fits ∙ ap (splice out j) (sym both.1) ∙ l.is;
         })
 
+  -- where octets are still to be written, there is a step
+  pub left_some : j < n → is_some (step_from rest) ≡ true
+  left_some more =
+      some_else_none (step_from rest) (λ e.
+      let none = stopped_empty rest (rw (stops rest e) at l.good) in
+      let counts = rw (stops rest e, none) at l.counts in
+      omega (arith, counts))
+
+  -- where there is none, all is written
   pub left_none : step_from rest ≡ None → out ≡ whole
   left_none e =
       let n = stopped_empty rest (rw (stops rest e) at l.good) in
       sym (splice_none out j) ∙ (rw (stops rest e, n) at l.is)
+
+  -- and so it is once the writing has come to the place that was measured
+  pub left_done : n ≤ j → out ≡ whole
+  left_done done =
+      let none : octets_of (heard false rest) ≡ [] = nil_from_length _ (omega (arith, l.counts)) in
+      sym (splice_none out j) ∙ (rw none at l.is)

@@ -2,9 +2,10 @@
 // that copies.
 #![tactic(auto, unfolding(crate::specs::Read::typed, crate::specs::Read::type_escaped, crate::specs::Read::opened, crate::specs::Read::read_packet, crate::specs::Steps::escape_step, crate::specs::Steps::step_from, crate::specs::Steps::stopped_at))]
 
-ghost use Rattle.std.specs.Prelude.{◌≡◌, ◌+◌, ◌≤◌, false, Err, length, IsOk};
+ghost use Rattle.std.specs.Prelude.{cond, eqb, ◌≡◌, ◌+◌, ◌≤◌, false, Some, Err, length, length as list_length, IsSome, IsOk};
 ghost use Rattle.octets.specs.Splice.{splice};
 ghost use Rattle.octets.specs.Outcome.{octets_of, measured};
+ghost use Rattle.escapes.specs.Escape.{fend, fesc, tfend};
 ghost use Rattle.kiss_reading.specs.Answer.{number_of, octets_given, read_of};
 ghost use Rattle.kiss_reading.specs.Read.{heard, typed, type_escaped, opened, read_packet, read_into};
 ghost use Rattle.kiss_reading.specs.Steps.{taken_by, given_by, data_of, escape_step, step_from, stopped_at, plus};
@@ -77,15 +78,22 @@ impl Step {
     }
 }
 
+// The octet that stands behind a DB, for the two that may. Chosen after the test of these, so that the choice takes no branch.
+fn restored(second: u8) -> u8
+    ensures { result ≡ cond (eqb second tfend) fend fesc }
+{
+    if second == TFEND { FEND } else { FESC }
+}
+
 // Behind a DB, the octet that the two stand for.
 fn escape(behind: &[u8]) -> Option<Step>
     ensures { result ≡ escape_step behind.now }
 {
-    match *behind.first()? {
-        TFEND => Some(Step::Escaped(FEND)),
-        TFESC => Some(Step::Escaped(FESC)),
-        _ => None,
+    let second = *behind.first()?;
+    if !matches!(second, TFEND | TFESC) {
+        return None;
     }
+    Some(Step::Escaped(restored(second)))
 }
 
 // The next step: an escaped octet, or all that stand for themselves. There is none at a C0 or at a bad escape.
@@ -93,11 +101,15 @@ fn next_step(rest: &[u8]) -> Option<Step>
     ensures { result ≡ step_from rest.now }
 {
     let (first, behind) = rest.split_first()?;
-    match *first {
-        FEND => None,
-        FESC => escape(behind),
-        _ => Some(Step::Plain(escapes::plain_len(rest))),
+    if *first == FESC {
+        return escape(behind);
     }
+    // At a C0 no octet stands for itself.
+    let run = escapes::plain_len(rest);
+    if run == 0 {
+        return None;
+    }
+    Some(Step::Plain(run))
 }
 
 // What so much data comes to where no step is left: a C0 closes the packet, if it is the last octet.
@@ -193,15 +205,29 @@ fn put_step(out: &mut [u8], to: usize, rest: &[u8], step: Step)
     }
 }
 
-// The second pass: the data in the octets behind the type octet, to the start of the output.
-fn copy(behind: &[u8], out: &mut [u8])
+// The next step where the first pass has found that there is one: the first octet says which, and nothing is judged again.
+fn good_step(rest: &[u8]) -> Step
+    requires { IsSome (step_from rest.now) }
+    ensures { Some result ≡ step_from rest.now }
+{
+    if rest[0] != FESC {
+        return Step::Plain(escapes::plain_len(rest));
+    }
+    Step::Escaped(restored(rest[1]))
+}
+
+// The second pass: the data in the octets behind the type octet, to the start of the output. It ends by the length that the first pass
+// measured, so that it need not look for the closing C0.
+fn copy(behind: &[u8], out: &mut [u8], length: usize)
     requires good { IsOk (heard false behind.now) }
-    requires room { length (octets_of (heard false behind.now)) ≤ length out.old }
+    requires counted { length ≡ list_length (octets_of (heard false behind.now)) }
+    requires room { list_length (octets_of (heard false behind.now)) ≤ list_length out.old }
     ensures { out.new ≡ splice out.old 0 (octets_of (heard false behind.now)) }
 {
     let mut rest = behind;
     let mut to = 0;
-    while let Some(step) = next_step(rest) {
+    while to < length {
+        let step = good_step(rest);
         put_step(out, to, rest, step);
         rest = &rest[step.taken()..];
         to += step.given();
@@ -217,6 +243,6 @@ pub fn read(input: &[u8], out: &mut [u8]) -> Result<KissRead, KissError>
     if out.len() < read.length {
         return Err(KissError::NoRoom);
     }
-    copy(&input[2..], out);
+    copy(&input[2..], out, read.length);
     Ok(read)
 }
