@@ -1,5 +1,5 @@
 // From a frame to its flat record. No `From` here: the types are those of other crates, and the octets std's.
-ghost use Rattle.std.specs.Prelude.{◌≡◌, ◌+◌, ◌≤◌, length};
+ghost use Rattle.std.specs.Prelude.{◌≡◌, ◌≤◌, length};
 ghost use Rattle.octets.specs.Splice.{splice};
 ghost use Rattle.flat.specs.Laid.{address_flat, entry_flat, route_flat, count_flat, mark_flat, response_flat, pid_case, pid_octet, bare_flat, with_pid_flat, reject_flat, content_flat, rest_flat, flat_of};
 
@@ -24,12 +24,19 @@ pub fn put_address(out: &mut [u8], at: usize, address: Address)
     lent_buffer::put(out, at, &address_octets(address));
 }
 
+// In one part, of the fields themselves: with a part for the address and one for the mark, or by the address's eight octets, the compiler
+// makes more of it.
 fn put_entry(out: &mut [u8], at: usize, entry: RouteEntry)
-    requires { at + 9 ≤ length out.old }
     ensures { out.new ≡ splice out.old at (entry_flat entry) }
 {
-    put_address(out, at, entry.repeater);
-    lent_buffer::put(out, at + 8, &[u8::from(entry.has_repeated)]);
+    let Address {
+        callsign,
+        ssid,
+        reserved,
+    } = entry.repeater;
+    let [a, b, c, d, e, f] = callsign;
+    let mark = u8::from(entry.has_repeated);
+    lent_buffer::put(out, at, &[a, b, c, d, e, f, ssid, reserved, mark]);
 }
 
 // All eight places, in use or not.

@@ -62,14 +62,17 @@ fn put_decoded(decoded: Result<Decoded, DecodeError>, flat: &mut [u8], places: &
     if places.len() < PLACES {
         return NO_ROOM;
     }
-    places::put_places(places, decoded);
-    let number = decoded.number();
-    if number != ACCEPTED {
-        return number;
+    match decoded {
+        Ok(read) => {
+            places::put_places(places, [0, 0, 0], read.info_start, read.info_len);
+            flat::laid::put_frame(flat, read.frame);
+            ACCEPTED
+        }
+        Err(error) => {
+            places::put_places(places, places::details(error), 0, 0);
+            error.number()
+        }
     }
-    let shown = places::shown(decoded);
-    flat::laid::put_frame(flat, shown.frame);
-    number
 }
 
 // Decodes.

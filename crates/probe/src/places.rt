@@ -1,38 +1,34 @@
-// The places of a decode: the details of its answer, and where the info stands.
-ghost use Rattle.std.specs.Prelude.{◌≡◌, ◌≤◌, length};
+// The places of a decode: the details of a refusal, and where the info stands.
+ghost use Rattle.std.specs.Prelude.{◌≡◌, ◌≤◌, [], ◌∷◌, get_or, length};
 ghost use Rattle.octets.specs.Splice.{splice};
-ghost use Rattle.probe.specs.Places.{details_in, places_in, shown};
+ghost use Rattle.decode.specs.Answer.{error_report};
 
-use decode::{DecodeError, Decoded};
+use decode::DecodeError;
 
-// The details of an answer: the start and the end of number 3, the length of number 4.
-fn details(decoded: Result<Decoded, DecodeError>) -> [usize; 3]
-    ensures { result ≡ details_in decoded }
+// The details of a refusal: the start and the end of number 3, the length of number 4.
+pub(crate) fn details(error: DecodeError) -> [usize; 3]
+    ensures { result ≡ (error_report error).start ∷ (error_report error).end ∷ (error_report error).len ∷ [] }
 {
-    match decoded {
-        Err(DecodeError::AddressFieldTooShort { start, end }) => [start, end, 0],
-        Err(DecodeError::FrameTooShort { len }) => [0, 0, len],
+    match error {
+        DecodeError::AddressFieldTooShort { start, end } => [start, end, 0],
+        DecodeError::FrameTooShort { len } => [0, 0, len],
         _ => [0, 0, 0],
     }
 }
 
-// What stands in a frame's place of a refusal too.
-pub(crate) fn shown(decoded: Result<Decoded, DecodeError>) -> Decoded
-    ensures { result ≡ shown decoded }
-{
-    decoded.unwrap_or_default()
-}
-
 // The details, then the place of the info.
-pub(crate) fn put_places(places: &mut [usize], decoded: Result<Decoded, DecodeError>)
+pub(crate) fn put_places(
+    places: &mut [usize],
+    details: [usize; 3],
+    info_start: usize,
+    info_len: usize,
+)
     requires { 5 ≤ length places.old }
-    ensures { places.new ≡ splice places.old 0 (places_in decoded) }
+    ensures { places.new ≡ splice places.old 0 (get_or details 0 0 ∷ get_or details 1 0 ∷ get_or details 2 0 ∷ info_start ∷ info_len ∷ []) }
 {
-    let details = details(decoded);
-    let shown = shown(decoded);
     places[0] = details[0];
     places[1] = details[1];
     places[2] = details[2];
-    places[3] = shown.info_start;
-    places[4] = shown.info_len;
+    places[3] = info_start;
+    places[4] = info_len;
 }

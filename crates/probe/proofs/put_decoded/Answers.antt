@@ -1,7 +1,7 @@
 -- Lent too little, either way; else the places are written, and the frame where there is one.
 use mathlib.Core.Path.{refl}
 use native.Mathlib.Omega.{arith}
-use borrow.Author.Tests.{lt-ltb, le-ltb, eq-eqb, ne_eqb}
+use borrow.Author.Tests.{lt-ltb, le-ltb}
 use lib.ListN.{length}
 use Rattle.probe.proofs.put_decoded.Goals as goal
 
@@ -12,11 +12,3 @@ pub returns-then-places-lt-PLACES : goal.returns-then-places-lt-PLACES
 returns-then-places-lt-PLACES c =
     let a = c.args in
     record { value = rw (le-ltb _ _ c.if-flat-lt-FRAME.false, lt-ltb (length a.places.now) 5 (omega arith)) refl; flat_after = rw (le-ltb _ _ c.if-flat-lt-FRAME.false, lt-ltb (length a.places.now) 5 (omega arith)) refl; places_after = rw (le-ltb _ _ c.if-flat-lt-FRAME.false, lt-ltb (length a.places.now) 5 (omega arith)) refl }
-
-pub returns-then-number-ne-ACCEPTED : goal.returns-then-number-ne-ACCEPTED
-returns-then-number-ne-ACCEPTED c =
-    record { value = rw (le-ltb _ _ c.if-flat-lt-FRAME.false, le-ltb _ _ c.if-places-lt-PLACES.false) (rw c.number-number.ensures refl); flat_after = rw (le-ltb _ _ c.if-flat-lt-FRAME.false, le-ltb _ _ c.if-places-lt-PLACES.false) (rw (← c.number-number.ensures, ne_eqb _ _ c.if-number-ne-ACCEPTED.true) refl); places_after = rw (le-ltb _ _ c.if-flat-lt-FRAME.false, le-ltb _ _ c.if-places-lt-PLACES.false) (c.put_places.ensures) }
-
-pub returns : goal.returns
-returns c =
-    record { value = rw (le-ltb _ _ c.if-flat-lt-FRAME.false, le-ltb _ _ c.if-places-lt-PLACES.false) (rw c.number-number.ensures refl); flat_after = rw (le-ltb _ _ c.if-flat-lt-FRAME.false, le-ltb _ _ c.if-places-lt-PLACES.false) (rw (← c.number-number.ensures, eq-eqb _ _ c.if-number-ne-ACCEPTED.false, ← c.shown-shown.ensures) c.put_frame.ensures); places_after = rw (le-ltb _ _ c.if-flat-lt-FRAME.false, le-ltb _ _ c.if-places-lt-PLACES.false) (c.put_places.ensures) }

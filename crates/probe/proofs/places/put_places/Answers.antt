@@ -1,18 +1,9 @@
 -- Five stores, one after the other, are the part at the start.
-use native.Mathlib.Omega.{arith}
-use lib.ListN.{length-set}
+use Rattle.std.specs.Prelude.{[], ◌∷◌, get_or}
 use Rattle.octets.proofs.Splice.{splice-stores}
-use Rattle.probe.specs.Places.{places_in}
 use Rattle.probe.proofs.places.put_places.Goals as goal
 
-pub bounds-places-1 : goal.bounds-places-1
-bounds-places-1 c = simp length-set (omega arith)
-
-pub bounds-places-2 : goal.bounds-places-2
-bounds-places-2 c = simp length-set (omega arith)
-
-pub bounds-places-3 : goal.bounds-places-3
-bounds-places-3 c = simp length-set (omega arith)
-
 pub returns : goal.returns
-returns c = rw (c.details-details.ensures, c.shown-shown.ensures) (splice-stores (places_in c.args.decoded) c.args.places.now 0 c.requires)
+returns c =
+    let a = c.args in
+    splice-stores (get_or a.details 0 0 ∷ get_or a.details 1 0 ∷ get_or a.details 2 0 ∷ a.info_start ∷ a.info_len ∷ []) a.places.now 0 c.requires
