@@ -4,7 +4,7 @@
 
 ghost use Rattle.std.specs.Prelude.{◌≡◌};
 ghost use Rattle.octets.specs.All.{all};
-ghost use Rattle.address.specs.Address.{low, no_call, encodable};
+ghost use Rattle.address.specs.Address.{low, encodable};
 
 // The reserved bits where no network uses them: both ones.
 pub const RESERVED_ONES: u8 = 3;
@@ -20,10 +20,12 @@ pub struct Address {
 }
 
 impl Default for Address {
+    ghost use Rattle.address.specs.Address.{no_call};
+
+    ghost is_default = { λ address. address ≡ no_call };
+
     #[tactic(auto, unfolding(crate::specs::Address::no_call))]
-    fn default() -> Address
-        ensures { result ≡ no_call }
-    {
+    fn default() -> Address {
         Address {
             callsign: [b'N', b'O', b'C', b'A', b'L', b'L'],
             ssid: 0,

@@ -26,15 +26,9 @@ fn show(read: Result<Address, AddressError>) -> Shown
     ensures read { giving result.answer result.address ≡ read }
     ensures address { result.address ≡ address_read read }
 {
-    match read {
-        Ok(address) => Shown {
-            answer: Ok(()),
-            address,
-        },
-        Err(error) => Shown {
-            answer: Err(error),
-            address: Address::default(),
-        },
+    Shown {
+        answer: read.map(|_| ()),
+        address: read.unwrap_or_default(),
     }
 }
 
