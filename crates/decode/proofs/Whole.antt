@@ -16,7 +16,7 @@ use Rattle.content.specs.declared.FrameContent.{FrameContent}
 use Rattle.parse.specs.declared.ContentError.{ContentError}
 use Rattle.decode.specs.Answer.{is_accepted, answer_with}
 use Rattle.decode.specs.Read.{Decoding, nonzero, start_of, end_of, frame_at, refused_with, accepted_with, error_of, refusal_of, with_content, decode_field, decode}
-use Rattle.decode.specs.Outline.{null_error, outline_by, outline_of, holds, decode_at}
+use Rattle.decode.specs.Outline.{null_error, outline_by, outline_of, holds, decode_at, decode_by}
 use Rattle.decode.specs.declared.DecodeError.{DecodeError}
 use Rattle.decode.specs.declared.DecodeError.TheVariants as error
 use Rattle.decode.specs.declared.Outline.{Outline}
@@ -37,10 +37,14 @@ null-decode m s e =
     (λ n. rw n refl)
     (λ n. rw (n, start-past s (omega (arith, eqb-false (start_of s) (length s) n, first_le nonzero s)), e) refl)
 
+-- the outline of a refusal is the refusal
+pub outline-refused : (end : ℕ) (r : DecodeError) → Err r ≡ outline_by end (refused_with (Err r))
+unfolding refused_with
+outline-refused end r = refl
+
 -- so that the outline is refused
 pub null_outline : (m : Mode) (s : List ℕ) → nonzero (get_or s 0 0) ≡ false → Err (null_error s) ≡ outline_of m s
-unfolding refused_with
-null_outline m s e = rw (null-decode m s e) refl
+null_outline m s e = rw (null-decode m s e) (outline-refused (end_of s) (null_error s))
 
 -- content that is accepted leaves the count as it was, and a refusal of it is the outline's
 pub content_outline : (m : Mode) (s : List ℕ) (start end n control : ℕ) (a : Result FrameContent ContentError)
@@ -97,13 +101,17 @@ outlined m s o e =
       route_count = ap (λ (o : Outline). o.route_count) (sym t.1);
     }
 
+-- the end in the outline of an accepted input is its end
+pub outline_end : (m : Mode) (s : List ℕ) (o : Outline) → Ok o ≡ outline_of m s → o.end ≡ end_of s
+outline_end m s o e = (outlined m s o e).end
+
 pub not_outlined : (m : Mode) (s : List ℕ) (r : DecodeError) → Err r ≡ outline_of m s → (decode m s).answer ≡ Err r
 not_outlined m s r e = told_err (decode m s).answer _ r (sym e)
 
--- going on from the input's own outline is decoding
-pub by_outline : (m : Mode) (s : List ℕ) (o : Outline) → Ok o ≡ outline_of m s → decode_at m s o ≡ decode m s
+-- going on from an outline that accepts is decoding
+pub by_accepted : (m : Mode) (s : List ℕ) (o : Outline) → Ok o ≡ outline_of m s → decode_at m s o ≡ decode m s
 unfolding decode_at
-by_outline m s o e =
+by_accepted m s o e =
     let t = outlined m s o e in
     let w = whole m s t.accepted in
     rw (t.end, t.route_count, w.inside, w.made) refl
@@ -113,3 +121,11 @@ pub by_refusal : (m : Mode) (s : List ℕ) (r : DecodeError) → Err r ≡ outli
 by_refusal m s r e =
     let t = not_outlined m s r e in
     rw (← t) (sym (refused_is m s (rw t refl)))
+
+by_either : (m : Mode) (s : List ℕ) (o : Result Outline DecodeError) → o ≡ outline_of m s → decode_by m s o ≡ decode m s
+by_either m s (Ok o) e = by_accepted m s o e
+by_either m s (Err r) e = by_refusal m s r e
+
+-- so going on from the input's own outline is decoding
+pub by_outline : (m : Mode) (s : List ℕ) → decode_by m s (outline_of m s) ≡ decode m s
+by_outline m s = by_either m s (outline_of m s) refl

@@ -1,35 +1,60 @@
 // Reading a frame whole: from its outline to its content and its addresses.
 #![tactic(auto)]
 
-ghost use Rattle.std.specs.Prelude.{◌≡◌, Ok, ◌+◌, ◌*◌, ◌≤◌, length, drop};
+ghost use Rattle.std.specs.Prelude.{◌≡◌, true, Ok, ◌+◌, ◌*◌, ◌≤◌, length, drop};
 ghost use Rattle.parse.specs.Content.{content_of};
-ghost use Rattle.content.specs.Spell.{front};
+ghost use Rattle.content.specs.Spell.{has_info, front};
 ghost use Rattle.decode.specs.Outline.{holds, decode_at, decode_by};
 ghost use Rattle.decode.specs.Read.{outcome, accepted_with, with_content, decode};
 
+use content::FrameContent;
 use control::Mode;
 use decode::{DecodeError, Decoded, Outline};
 use frame::Ax25Frame;
 
-// An accepted frame: a kind that has info has it behind the octets before it.
-fn accepted(mode: Mode, frame: Ax25Frame, control: usize, len: usize) -> Decoded
-    requires { control + length (front mode frame.content) ≤ len }
+// A frame of a kind that has info: it follows the octets before it.
+fn with_info(mode: Mode, frame: Ax25Frame, control: usize, len: usize) -> Decoded
+    requires { (has_info frame.content ≡ true) × (control + length (front mode frame.content) ≤ len) }
     ensures { Ok result ≡ outcome (accepted_with mode frame control len) }
 {
     let content = frame.content;
-    if !content.has_info() {
-        return Decoded {
-            frame,
-            info_start: 0,
-            info_len: 0,
-        };
-    }
     let info_start = control + content.front_len(mode);
     Decoded {
         frame,
         info_start,
         info_len: len - info_start,
     }
+}
+
+// A frame of a kind without a PID: XID and TEST have info.
+fn without_pid(mode: Mode, frame: Ax25Frame, control: usize, len: usize) -> Decoded
+    requires { control + length (front mode frame.content) ≤ len }
+    ensures { Ok result ≡ outcome (accepted_with mode frame control len) }
+{
+    let content = frame.content;
+    if content.has_info() {
+        return with_info(mode, frame, control, len);
+    }
+    Decoded {
+        frame,
+        info_start: 0,
+        info_len: 0,
+    }
+}
+
+// I and UI carry a PID. The customer asks for this form of the places from where info is told: the content taken apart by let .. else.
+fn accepted(mode: Mode, frame: Ax25Frame, control: usize, len: usize) -> Decoded
+    requires { control + length (front mode frame.content) ≤ len }
+    ensures { Ok result ≡ outcome (accepted_with mode frame control len) }
+{
+    let content = frame.content;
+    let FrameContent::Information(_) = content else {
+        let FrameContent::UnnumberedInformation(_) = content else {
+            return without_pid(mode, frame, control, len);
+        };
+        return with_info(mode, frame, control, len);
+    };
+    with_info(mode, frame, control, len)
 }
 
 // The content, from the control octet on, and the frame around it.
@@ -80,6 +105,5 @@ pub fn from_outline(
 pub fn from_bytes(mode: Mode, bytes: &[u8]) -> Result<Decoded, DecodeError>
     ensures { result ≡ outcome (decode mode bytes.now) }
 {
-    let outline = decode::outline_of(mode, bytes)?;
-    decode_at(mode, bytes, outline)
+    from_outline(mode, bytes, decode::outline_of(mode, bytes))
 }

@@ -1,9 +1,8 @@
 -- Going on from the input's own outline is decoding.
-use Rattle.std.proofs.Common.{◌∙◌, sym, ap}
+use Rattle.std.proofs.Common.{◌∙◌, ap}
 use Rattle.decode.specs.Read.{Decoding, outcome}
 use Rattle.decode.proofs.Whole.{by_outline}
 use Rattle.reading.proofs.from_bytes.Goals as goal
 
 pub returns : goal.returns
-returns c =
-    c.decode_at.ensures ∙ ap (λ (d : Decoding). outcome d) (by_outline _ _ _ (sym c.in_ok-outline.was ∙ c.outline_of.ensures))
+returns c = c.from_outline.ensures ∙ rw c.outline_of.ensures (ap (λ (d : Decoding). outcome d) (by_outline _ _))
