@@ -19,7 +19,7 @@ use Rattle.escapes.specs.Escape.{fend, fesc, tfend, tfesc}
 use Rattle.kiss.specs.Packet.{last_port}
 use Rattle.kiss_reading.specs.Answer.{Reading, accepted, octets_given}
 use Rattle.kiss_reading.specs.Read.{more, heard, on_port, read_packet}
-use Rattle.kiss_reading.proofs.Judged.{Read, accepted_read, read_opened, opened-typed, typed_data, on-accepted, on-refused}
+use Rattle.kiss_reading.proofs.Judged.{Read, accepted_read, read_opened, opened-typed, typed_data, on-accepted, on-stays}
 use Rattle.demands_kiss.proofs.Spelling.{heard_close, heard-plain, heard-tfend, heard-tfesc, heard-stray}
 use Rattle.kiss_state.specs.declared.Head.{Head}
 use Rattle.kiss_state.specs.State.{room, opened, in_data, in_escape, dropping, in_type, head_of, stream_of}
@@ -245,7 +245,7 @@ module _ (x : ℕ) (l : List ℕ) (f : eqb x fend ≡ false) (e : eqb x fesc ≡
       by (is_ok (heard false l))
       (λ a. let k : 0 + length (octets_of (heard false l)) ≡ length (octets_of (heard false l)) = omega arith in
       rw (read_is, on-accepted (field 4 4 x) (heard false l) a, a, k) refl)
-      (λ a. rw (read_is, on-refused (field 4 4 x) (heard false l) a, a) refl)
+      (λ a. rw (read_is, on-stays (field 4 4 x) (heard false l) a, a) refl)
 
   -- and where it is given out, it is the packet
   heard-packet : fits 0 (heard false l) ≡ true → accepted (field 4 4 x) (octets_of (heard false l)) ≡ read_packet s

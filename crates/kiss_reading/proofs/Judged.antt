@@ -50,9 +50,13 @@ pub typed_data : (t : ℕ) (s : List ℕ) → eqb (field 0 4 t) 0 ≡ true → l
 unfolding typed
 typed_data t s e p = simp (e, p)
 
-pub on-refused : (port : ℕ) (h : Result (List ℕ) KissError) → is_ok h ≡ false → is_ok (on_port port h) ≡ false
-on-refused port (Ok s) e = e
-on-refused port (Err x) e = refl
+-- on a port a refusal is the refusal that it was
+pub on-refused : (port : ℕ) (h : Result (List ℕ) KissError) (x : KissError) → h ≡ Err x → on_port port h ≡ Err x
+on-refused port h x e = rw e refl
+
+pub on-stays : (port : ℕ) (h : Result (List ℕ) KissError) → is_ok h ≡ false → is_ok (on_port port h) ≡ false
+on-stays port (Ok s) e = e
+on-stays port (Err x) e = refl
 
 pub on-accepted : (port : ℕ) (h : Result (List ℕ) KissError) → is_ok h ≡ true → on_port port h ≡ accepted port (octets_of h)
 on-accepted port (Ok s) e = refl
@@ -124,7 +128,7 @@ accepted_type x y l a b c h g =
       good = n;
       gives = g ∙ t ∙ on-accepted _ _ n;
     })
-    (λ n. no (sym (on-refused (field 4 4 y) (heard false l) n) ∙ rw t at h))))
+    (λ n. no (sym (on-stays (field 4 4 y) (heard false l) n) ∙ rw t at h))))
     (λ e. no (rw (typed_command y l e) at h))
 
 -- an escaped type octet is C0, on port 12, or DB, with command 11: neither is accepted

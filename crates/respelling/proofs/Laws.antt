@@ -9,6 +9,7 @@ use lib.Dec.{eqb, ltb}
 use lib.ListN.{length, get_or}
 use Rattle.octets.specs.Octet.{Octets}
 use Rattle.octets.specs.Splice.{splice}
+use Rattle.octets.specs.Outcome.{number_by}
 use Rattle.group.specs.Group.{mark_set, group_of}
 use Rattle.placing.specs.Put.{respelled}
 use Rattle.placing.proofs.Laws.{respelled_in}
@@ -29,10 +30,16 @@ use Rattle.grammar.proofs.Parts.{parts}
 use Rattle.grammar.proofs.Plain.{read, inside, info-length}
 use Rattle.grammar.proofs.Respell.{mark-spell, decoded-written}
 use Rattle.spelling.specs.Canonical.{again}
-use Rattle.respelling.specs.Reencode.{due, reencoded, reencode}
+use Rattle.respelling.specs.Reencode.{due, reencoded, reencode, error_number, report_of}
+use Rattle.respelling.specs.declared.ReencodeError.{ReencodeError}
 use Rattle.respelling.specs.declared.ReencodeError.TheVariants.{Refused, NoRoom}
 use Rattle.decode.specs.declared.DecodeError.{DecodeError}
-use Rattle.std.specs.Prelude.{Ok, Err}
+use Rattle.std.specs.Prelude.{Result, Ok, Err}
+
+-- the number that the calls give is that of the report
+pub reported_is : (r : Result ℕ ReencodeError) → number_by error_number r ≡ (report_of r).number
+reported_is (Ok n) = refl
+reported_is (Err e) = refl
 
 -- what is due, by the decode
 pub due-accepted : (mode : Mode) (s : List ℕ) → is_accepted (decode mode s).answer ≡ true → due mode s ≡ spell mode (decode mode s).frame (info_in s (decode mode s))
