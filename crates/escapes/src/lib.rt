@@ -1,7 +1,7 @@
 // The octets that KISS escapes: how many there are in some data, and how far octets stand for themselves.
 #![tactic(auto)]
 
-ghost use Rattle.std.specs.Prelude.{◌≡◌, ◌+◌, ◌≤◌, leb, length, position};
+ghost use Rattle.std.specs.Prelude.{◌≡◌, ◌+◌, ◌≤◌, leb, length, drop, position};
 ghost use Rattle.octets.specs.First.{first};
 ghost use Rattle.octets.specs.Count.{count};
 ghost use Rattle.escapes.specs.Escape.{special};
@@ -82,4 +82,15 @@ pub fn plain_len(bytes: &[u8]) -> usize
         rest = behind;
     }
     passed + first_special(rest).unwrap_or(rest.len())
+}
+
+// The same from a place on: the place of the first C0 or DB from `from` on, or the length; behind the end it is `from`.
+#[tactic(auto, using(octets::proofs::First::first_le))]
+pub fn plain_to(bytes: &[u8], from: usize) -> usize
+    ensures { result ≡ from + first special (drop from bytes.now) }
+{
+    if bytes.len() < from {
+        return from;
+    }
+    from + plain_len(&bytes[from..])
 }

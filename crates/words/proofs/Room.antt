@@ -1,7 +1,7 @@
 -- Laws of what is put on a page of n octets, whose text is cut off behind these, and of a page written to a lent buffer.
-use Rattle.std.proofs.Common.{ℕ, ◌≡◌, refl, zero-add, ap, sym, ◌∙◌, ◌+◌, ◌≤◌, ◌<◌, ◌-◌, List, [], ◌++◌, length, take, min, unwrap_or, arith, length-append, ltb, cond, Some, None}
-use Rattle.std.proofs.lemmas.List.{take_min, take_all, take_at, take-take, take-append-le, length-take-le, append_assoc}
-use Rattle.std.proofs.Math.Seq.{take-append-add}
+use Rattle.std.proofs.Common.{ℕ, ◌≡◌, refl, zero-add, ap, sym, ◌∙◌, ◌+◌, ◌≤◌, ◌<◌, ◌-◌, List, [], ◌++◌, length, take, drop, replicate, min, unwrap_or, arith, length-append, ltb, cond, Some, None}
+use Rattle.std.proofs.lemmas.List.{drop-replicate, take_min, take_all, take_at, take-take, take-append-le, length-take-le, append_assoc}
+use Rattle.std.proofs.Math.Seq.{take-append-add, drop-append_seam, drop-drop}
 use Rattle.octets.specs.Splice.{splice}
 use Rattle.octets.proofs.Splice.{splice_in}
 use Rattle.octets.proofs.Choice.{by, either}
@@ -24,6 +24,18 @@ put_on n at letters part long h =
     let all : take n (front ++ part) ≡ front ++ take (n - at) part =
     ap (λ i. take i (front ++ part)) (omega arith) ∙ take-append-add front part (n - at) in
     rw (splice_in letters at (take k part) (omega arith), ← append_assoc front (take k part), take_at (front ++ take k part) _ (at + k) both, all, take_min) refl
+
+-- behind it there are zeros, as there were
+pub zeros_behind : (n at : ℕ) (letters part : List ℕ) → length letters ≡ n → at + length part ≤ n → drop at letters ≡ replicate (n - at) 0
+    → drop (at + length part) (splice letters at part) ≡ replicate (n - (at + length part)) 0
+zeros_behind n at letters part long h e =
+    let p : List ℕ = take at letters ++ part in
+    let q : List ℕ = drop (at + length part) letters in
+    let lp : length p ≡ at + length part = length-append (take at letters) part ∙ ap (λ (k : ℕ). k + length part) (length-take-le at letters (omega arith)) in
+    let rest : drop (at + length part) (p ++ q) ≡ q = ap (λ (k : ℕ). drop k (p ++ q)) (sym lp) ∙ drop-append_seam p q in
+    let zeros : q ≡ replicate (n - (at + length part)) 0 =
+    sym (drop-drop (length part) at letters) ∙ rw (e, drop-replicate) (ap (λ (k : ℕ). replicate k 0) (omega arith)) in
+    rw (splice_in letters at part (omega arith), ← append_assoc (take at letters) part q, rest) zeros
 
 -- what is cut off twice
 pub cut_then : (n : ℕ) (t b : List ℕ) → cut n (cut n t ++ b) ≡ cut n (t ++ b)

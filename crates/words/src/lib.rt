@@ -2,8 +2,10 @@
 // together.
 #![tactic(auto)]
 
-ghost use Rattle.std.specs.Prelude.{◌≡◌, ◌<◌};
-ghost use Rattle.words.specs.Words.{hex_digit, hex, mark_text, kind_text, has_pid, control_text, yes_no, reason_text};
+ghost use Rattle.std.specs.Prelude.{◌≡◌, ◌++◌, ◌+◌, ◌<◌, ltb, length};
+ghost use Rattle.octets.specs.Splice.{splice};
+ghost use Rattle.words.specs.Words.{hex_digit, hex, decimal, mark_text, kind_text, has_pid, control_text, yes_no, reason_text};
+ghost use Rattle.words.specs.Room.{behind};
 
 use content::FrameContent;
 use control::Mode;
@@ -25,6 +27,38 @@ pub fn hex(b: u8) -> [u8; 2]
     ensures { result ≡ hex b }
 {
     [hex_digit(b / 16), hex_digit(b % 16)]
+}
+
+// Whether three parts from `at` on want over `room`. As in `lent_buffer`, no sum is made that might not fit a usize.
+fn lack_room(at: usize, first: usize, second: usize, third: usize, room: usize) -> bool
+    ensures { result ≡ ltb room (at + (first + (second + third))) }
+{
+    if lent_buffer::lacks_room(at, first, room) {
+        return true;
+    }
+    if lent_buffer::lacks_room(at + first, second, room) {
+        return true;
+    }
+    lent_buffer::lacks_room(at + first + second, third, room)
+}
+
+// A key, a number and what follows it, put into `out` from `at` on; gives the place behind them. Where they do not fit there whole, nothing
+// is written, and the place is `at`. Where a page cuts off what is too long for it, here no length is.
+pub fn put_number(out: &mut [u8], at: usize, key: &[u8], n: usize, end: &[u8]) -> usize
+    ensures out_after { out.new ≡ splice out.old at (key.now ++ (decimal n ++ end.now)) }
+    ensures value { result ≡ behind (length out.old) at (key.now ++ (decimal n ++ end.now)) }
+{
+    let digits = page::five_digits(n);
+    let number = &digits[page::leading(n)..];
+    if lack_room(at, key.len(), number.len(), end.len(), out.len()) {
+        return at;
+    }
+    let middle = at + key.len();
+    let rest = middle + number.len();
+    lent_buffer::put(out, at, key);
+    lent_buffer::put(out, middle, number);
+    lent_buffer::put(out, rest, end);
+    rest + end.len()
 }
 
 pub fn mark(mark: Mark) -> &'static [u8]

@@ -1,7 +1,7 @@
 // A page: the text that a program puts together before it writes it.
-ghost use Rattle.std.specs.Prelude.{◌≡◌, ℕ, ◌+◌, ◌<◌, ◌≤◌, ◌%◌, List, [], ◌++◌, length, take};
+ghost use Rattle.std.specs.Prelude.{◌≡◌, ℕ, ◌+◌, ◌<◌, ◌≤◌, ◌%◌, List, [], ◌++◌, ◌-◌, length, take, drop, replicate};
 ghost use Rattle.octets.specs.Splice.{splice};
-ghost use Rattle.words.specs.Words.{leading, decimal, character, pid_text};
+ghost use Rattle.words.specs.Words.{five_digits, leading, decimal, character, pid_text};
 ghost use Rattle.words.specs.Room.{cut, fitting};
 
 use crate::{has_pid, hex};
@@ -22,7 +22,8 @@ impl<const N: usize> Model for Page<N> {
 
     ghost view = { λ p. take p.length p.letters };
 
-    ghost invariant = { λ p. p.length ≤ N };
+    // Behind the text there are zeros, so that pages with the same text are the same in all.
+    ghost invariant = { λ p. (p.length ≤ N) × (drop p.length p.letters ≡ replicate (N - p.length) 0) };
 }
 
 impl<const N: usize> Page<N> {
@@ -47,13 +48,7 @@ impl<const N: usize> Page<N> {
     pub fn put_decimal(&mut self, n: usize)
         ensures { self.new ≡ cut N (self.old ++ decimal n) }
     {
-        let digits = [
-            digit(n / 10000),
-            digit(n / 1000),
-            digit(n / 100),
-            digit(n / 10),
-            digit(n),
-        ];
+        let digits = five_digits(n);
         self.put(&digits[leading(n)..]);
     }
 
@@ -111,9 +106,22 @@ fn digit(n: usize) -> u8
     b'0' + (n % 10) as u8
 }
 
+// The last five digits of a number.
+pub(crate) fn five_digits(n: usize) -> [u8; 5]
+    ensures { result ≡ five_digits n }
+{
+    [
+        digit(n / 10000),
+        digit(n / 1000),
+        digit(n / 100),
+        digit(n / 10),
+        digit(n),
+    ]
+}
+
 // How many of the last five digits of a number are zeros that nothing stands before.
 #[tactic(auto, unfolding(crate::specs::Words::leading))]
-fn leading(n: usize) -> usize
+pub(crate) fn leading(n: usize) -> usize
     ensures value { result ≡ leading n }
     ensures upper_bound { result ≤ 4 }
 {
