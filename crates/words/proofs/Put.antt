@@ -1,15 +1,12 @@
 -- Texts put into a buffer one after the other: a text was put from `at` on, and ends before `end`.
 use Prim.Native.Nat.{ℕ, ◌+◌, ◌≤◌, ◌<◌}
-use mathlib.Core.Path.{◌≡◌, refl, sym, ◌∙◌}
-use mathlib.Core.List.{List, [], ◌++◌}
+use mathlib.Core.Path.{◌≡◌, refl, ◌∙◌}
+use mathlib.Core.List.{List, ◌++◌}
 use native.Mathlib.Omega.{arith}
-use borrow.Author.Tests.{ltb-false, lt-ltb, le-ltb}
-use lib.Dec.{ltb}
-use lib.ListN.{length, take, drop, length-append}
-use lib.Seq.{take_at}
+use borrow.Author.Tests.{lt-ltb, le-ltb}
+use lib.ListN.{length, length-append}
 use Rattle.octets.specs.Splice.{splice}
-use Rattle.octets.proofs.Choice.{either}
-use Rattle.octets.proofs.Splice.{splice_in, splice-length, splice_none, splice-more}
+use Rattle.octets.proofs.Splice.{splice-length, splice-more}
 use Rattle.words.specs.Room.{behind}
 
 abbrev pub Put : List ℕ → List ℕ → ℕ → ℕ → List ℕ → Type 0
@@ -25,11 +22,7 @@ unfolding behind
 behind_out room at t h = rw (lt-ltb room (at + length t) h) refl
 
 module _ (l : List ℕ) (at : ℕ) (a b : List ℕ) (fits : at + length (a ++ b) ≤ length l) where
-  -- where two texts fit, the first does
-  pub fits-first : at + length a ≤ length l
-  fits-first = omega (arith, length-append a b, fits)
-
-  -- and the second, once the first is there
+  -- where two texts fit, the second does once the first is there
   pub fits_next : {m : List ℕ} {r : ℕ} → Put l m at r a → r + length b ≤ length m
   fits_next p = rw (p.0, splice-length, p.1) (omega (arith, length-append a b, fits))
 
@@ -42,14 +35,5 @@ module _ (l : List ℕ) (at : ℕ) (a b : List ℕ) (fits : at + length (a ++ b)
 
 -- three texts, as every line has
 module _ (l : List ℕ) (at : ℕ) (a b c : List ℕ) (fits : at + length (a ++ (b ++ c)) ≤ length l) where
-  pub fits_one : at + length a ≤ length l
-  fits_one = fits-first l at a (b ++ c) fits
-
-  pub fits_two : {m : List ℕ} {r : ℕ} → Put l m at r a → r + length b ≤ length m
-  fits_two {m} {r} p = fits-first m r b c (fits_next l at a (b ++ c) fits p)
-
-  pub fits_three : {m n : List ℕ} {r q : ℕ} → Put l m at r a → Put m n r q b → q + length c ≤ length n
-  fits_three {m} {n} {r} {q} p s = fits_next m r b c (fits_next l at a (b ++ c) fits p) s
-
   pub put_three : {m n o : List ℕ} {r q e : ℕ} → Put l m at r a → Put m n r q b → Put n o q e c → Put l o at e (a ++ (b ++ c))
   put_three {m} {n} {o} {r} {q} {e} p s t = put_then l at a (b ++ c) fits p (put_then m r b c (fits_next l at a (b ++ c) fits p) s t)

@@ -1,5 +1,5 @@
-// The words of what the programs print: marks, kinds, yes and no, reasons, hex and the control octet; and the page on which a text is put
-// together.
+// The words of what the programs print: marks, kinds, yes and no, reasons, hex and the control octet; the page on which a text is put
+// together; and a text with a number, put into a lent buffer.
 #![tactic(auto)]
 
 ghost use Rattle.std.specs.Prelude.{◌≡◌, ◌++◌, ◌+◌, ◌<◌, ltb, length};
