@@ -7,6 +7,9 @@ ghost use Rattle.group.specs.Group.{address_of, mark_of, mark_set, ssid_octet, g
 use address::Address;
 use answer::Numbered;
 
+#[cfg(test)]
+mod tests; // tests.rt: groups as document 01 has them
+
 #[derive(Clone, Copy, Debug, PartialEq, Eq)]
 pub struct ParsedAddress {
     pub address: Address,
@@ -62,8 +65,8 @@ pub fn ssid_octet(ssid: u8, reserved: u8, high_bit: bool, final_in_address: bool
         | u8::from(final_in_address)
 }
 
-// The group of an address that can be written.
-fn group_of(address: Address, high_bit: bool, final_in_address: bool) -> [u8; 7]
+// The seven octets of an address, without asking whether it can be written: each field by the bits that it has there.
+pub fn group_of(address: Address, high_bit: bool, final_in_address: bool) -> [u8; 7]
     ensures { result ≡ group_of address high_bit final_in_address }
 {
     let [a, b, c, d, e, f] = address.callsign;
