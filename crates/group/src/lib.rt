@@ -8,7 +8,7 @@ use address::Address;
 use answer::Numbered;
 
 #[cfg(test)]
-mod tests; // tests.rt: groups as document 01 has them
+mod tests; // tests.rt: what `group_of` gives, held to octets
 
 #[derive(Clone, Copy, Debug, PartialEq, Eq)]
 pub struct ParsedAddress {

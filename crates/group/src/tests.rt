@@ -1,4 +1,4 @@
-// What `group_of` gives, held to octets that are not made by its definition. A group that is not as owed is shown.
+// What `group_of` gives, held to octets that come from document 01 or were worked out by hand. A group that is not as owed is shown.
 use crate::group_of;
 use address::Address;
 
@@ -17,7 +17,7 @@ fn owed(group: [u8; 7], expected: [u8; 7]) -> Result<(), [u8; 7]> {
     Ok(())
 }
 
-// Two groups of a frame in document 01, and that of an address which can't be written.
+// The two groups of a frame in document 01; and by hand that of an address which can't be written.
 #[test]
 fn groups() -> Result<(), [u8; 7]> {
     let to = group_of(address(*b"GAUGE ", 0, 3), true, false);
